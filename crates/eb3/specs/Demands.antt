@@ -1,0 +1,154 @@
+-- The demands as statements about the operations on bytes (document 01, "Operations" and "Four questions about contracts"); they are proved in
+-- Laws/DemandOne, Laws/DemandTwo and Laws/DemandThree. The operations are those that the exported contracts equal.
+use mathlib.Core.Path.{_≡_}
+use mathlib.Core.List.{List, [], _++_}
+use mathlib.Core.Option.{none, some}
+use Prim.Native.Nat.{ℕ, _+_, _-_, _*_, _≤_}
+use lib.ListN.{length, getElem?, take, replicate}
+use Rattle.eb3.specs.Generic.Positions.{Enumeration}
+use Rattle.eb3.specs.Refusal
+use Rattle.eb3.specs.Values.{Value}
+use Rattle.eb3.specs.Terms.{Term, Action}
+use Rattle.eb3.specs.Moves.{Move, moves, first-with}
+use Rattle.eb3.specs.Derivations.{Derivation, Earlier, state-after}
+use Rattle.eb3.specs.Attributes.{Trace}
+use Rattle.eb3.specs.Cells.{all-values}
+use Rattle.eb3.specs.Semantics.{Sem-T, Sem-M, situation, system, concluded}
+use Rattle.eb3.specs.Machines.{machine, Chain, history-start}
+use Rattle.eb3.specs.Sizes.{size, reach, breadth}
+use Rattle.eb3.specs.Limits.{edition-1}
+use Rattle.eb3.specs.RuleSets.{RuleSet, attributes}
+use Rattle.eb3.specs.Unfolding.{unfold-main}
+use Rattle.eb3.specs.Spelling.{words}
+use Rattle.eb3.specs.Bytes.{words-in, word-count, written}
+use Rattle.eb3.specs.Memory.{cell-room, memory-words}
+use Rattle.eb3.specs.Answers.{Answer, refused, answered, Sizes, Moved, Ran, Written, unwritten}
+use Rattle.eb3.specs.Admission.{admission}
+use Rattle.eb3.specs.Operations.{cells-needed, sizes-needed, main-reach, term-in, event-in, cells-given, listed, admit, start, count, move, present, run}
+
+-- Buffers of the reported sizes.
+pub record Roomy (S : Sizes) (term memory : List ℕ) : Type 0 where
+  pub term-room : S .reach ≤ word-count term
+  pub memory-room : S .cells ≤ cell-room memory
+
+-- Demand 1. A refusal is one of the table's numbers, and writes nothing.
+pub record RefusedAs {X : Type 0} (lo hi : ℕ) (term memory : List ℕ) (w : Written X) : Type 0 where
+  pub number : (k : ℕ) → w .answer ≡ refused k → (lo ≤ k) × (k ≤ hi)
+  pub nothing-written : (k : ℕ) → w .answer ≡ refused k → w ≡ unwritten term memory k
+
+pub record Demand-1-refusals (rules numbers term memory event next-term next-memory spare-term spare-memory : List ℕ) (k : ℕ) : Type 0 where
+  pub admit-refused : (j : ℕ) → admit rules ≡ refused j → (1 ≤ j) × (j ≤ 8)
+  pub start-refused : RefusedAs 1 9 term memory (start rules term memory)
+  pub count-refused : (j : ℕ) → count rules term memory ≡ refused j → (1 ≤ j) × (j ≤ 10)
+  pub move-refused : RefusedAs 1 12 next-term next-memory (move rules term memory k next-term next-memory)
+  pub present-refused : RefusedAs 1 12 next-term next-memory (present rules term memory event next-term next-memory)
+  pub run-refused : RefusedAs 1 9 term memory (run rules numbers term memory spare-term spare-memory)
+
+-- An admitted rule set never lacks space in buffers of the reported sizes; a move from any given term never does in buffers of that term's G.
+pub record Demand-1-space (rules : List ℕ) (S : Sizes) : Type 0 where
+  pub start-has-room : (term memory : List ℕ) → Roomy S term memory → start rules term memory .answer ≡ answered (S .size)
+  pub run-has-room : (numbers term memory spare-term spare-memory : List ℕ) → Roomy S term memory → Roomy S spare-term spare-memory
+      → (r : Ran) × (run rules numbers term memory spare-term spare-memory .answer ≡ answered r)
+  pub count-has-room : (term memory : List ℕ) → S .cells ≤ cell-room memory → count rules term memory ≡ refused Refusal.space → ⊥
+  pub move-has-room : (R : RuleSet) → admission edition-1 rules ≡ answered R → (E : Term) (term memory next-term next-memory : List ℕ) (k : ℕ)
+      → term-in edition-1 R term ≡ answered E → reach (R .width) E ≤ word-count next-term → S .cells ≤ cell-room memory → S .cells ≤ cell-room next-memory
+      → move rules term memory k next-term next-memory .answer ≡ refused Refusal.space → ⊥
+  -- What is reported is within the limits, and the start term is no larger than its reach.
+  pub limits-kept : (S .reach ≤ 8192) × (S .breadth ≤ 65535) × (S .size ≤ S .reach)
+
+-- Demand 2, of Count and Move on any rule set admitted, any term given and any memory: the moves are exactly the derivations of the memory semantics
+-- from the given term and cells, one to one, in order.
+module _ (rules term memory : List ℕ) (R : RuleSet) (E : Term) where
+  abbrev pub cells-now : List Value
+  cells-now = cells-given edition-1 R memory
+
+  -- A derivation's outcome: its action, its successor and its new memory.
+  abbrev pub derived-result : Derivation (Sem-M (attributes R)) cells-now E → List ℕ → List ℕ → Written Moved
+  derived-result d next-term next-memory = record {
+    answer = answered (record { action = d .action; size = size (R .width) (d .successor) });
+    term = written (words (R .width) (d .successor)) next-term;
+    memory = written (memory-words edition-1 (d .state)) next-memory;
+  }
+
+  pub record Demand-2 : Type 0 where
+    pub moves-listed : ℕ
+    pub counted : count rules term memory ≡ answered moves-listed
+    pub derivations : Enumeration (Derivation (Sem-M (attributes R)) cells-now E) Earlier concluded (system (Sem-M (attributes R)) .transitions (situation E cells-now))
+    pub all-listed : length (system (Sem-M (attributes R)) .transitions (situation E cells-now)) ≡ moves-listed
+    pub moved : (d : Derivation (Sem-M (attributes R)) cells-now E) (next-term next-memory : List ℕ) → reach (R .width) E ≤ word-count next-term → cells-needed R ≤ cell-room next-memory
+        → move rules term memory (derivations .numbers .fun d .0) next-term next-memory ≡ derived-result d next-term next-memory
+    pub no-other : (k : ℕ) → moves-listed ≤ k → (next-term next-memory : List ℕ) → reach (R .width) E ≤ word-count next-term → cells-needed R ≤ cell-room next-memory
+        → move rules term memory k next-term next-memory ≡ unwritten next-term next-memory Refusal.not-offered
+    -- As many as the breadth at the most; and Present is Move at the first that has the event.
+    pub breadth-bounds : moves-listed ≤ breadth E
+    pub presented : (ρ : Action) (event : List ℕ) → event-in R event ≡ answered ρ → (k : ℕ) → first-with ρ (listed edition-1 R E memory) ≡ some k → (next-term next-memory : List ℕ)
+        → present rules term memory event next-term next-memory ≡ move rules term memory k next-term next-memory
+    pub not-presented : (ρ : Action) (event : List ℕ) → event-in R event ≡ answered ρ → first-with ρ (listed edition-1 R E memory) ≡ none → (next-term next-memory : List ℕ)
+        → present rules term memory event next-term next-memory ≡ move rules term memory moves-listed next-term next-memory
+
+-- The history machine's last term and list, and its moves there: the trace semantics.
+abbrev pub last-term : (R : RuleSet) → machine (Sem-T (attributes R)) → Term
+last-term R h = h .state .term
+
+abbrev pub last-trace : (R : RuleSet) → machine (Sem-T (attributes R)) → Trace
+last-trace R h = h .state .state
+
+abbrev pub history-moves : (R : RuleSet) → machine (Sem-T (attributes R)) → List Move
+history-moves R h = moves (Sem-T (attributes R) .satisfies (last-trace R h)) (last-term R h)
+
+-- All functions' values over a trace, as a memory's words.
+abbrev pub values-words : RuleSet → Trace → List ℕ
+values-words R T = memory-words edition-1 (all-values (attributes R) T)
+
+-- What Run leaves, where the history machine ends with h: its term, zeros up to main's G, the values over its whole list; its size and counts.
+abbrev pub run-result : (R : RuleSet) → machine (Sem-T (attributes R)) → List ℕ → List ℕ → Written Ran
+run-result R h term memory = record {
+  answer = answered (record { size = size (R .width) (last-term R h); visible = h .visible-count; internal = h .internal-count; refusals = h .refused-count });
+  term = written (words (R .width) (last-term R h) ++ replicate (main-reach R - size (R .width) (last-term R h)) 0) term;
+  memory = written (values-words R (last-trace R h)) memory;
+}
+
+-- What Move leaves for the machine's move x: its action and successor, and the values over the list that this move leaves.
+abbrev pub move-result : (R : RuleSet) → machine (Sem-T (attributes R)) → Move → List ℕ → List ℕ → Written Moved
+move-result R h x next-term next-memory = record {
+  answer = answered (record { action = x .action; size = size (R .width) (x .successor) });
+  term = written (words (R .width) (x .successor)) next-term;
+  memory = written (values-words R (state-after (Sem-T (attributes R)) (last-trace R h) (x .action))) next-memory;
+}
+
+-- A term buffer cut to so many words.
+abbrev pub cut : ℕ → List ℕ → List ℕ
+cut n buffer = take (2 * n) buffer
+
+-- Start is the run of no numbers, but that it writes no zeros.
+pub record Start-is-run (rules term memory spare-term spare-memory : List ℕ) (S : Sizes) : Type 0 where
+  pub same-size : start rules term memory .answer ≡ answered (S .size)
+  pub same-term : cut (S .size) (start rules term memory .term) ≡ cut (S .size) (run rules [] term memory spare-term spare-memory .term)
+  pub same-memory : start rules term memory .memory ≡ run rules [] term memory spare-term spare-memory .memory
+
+-- Demand 3, one claim about the whole list of numbers.
+module _ (rules numbers term memory spare-term spare-memory : List ℕ) (S : Sizes) where
+  abbrev pub after : Written Ran
+  after = run rules numbers term memory spare-term spare-memory
+
+  pub record Demand-3 : Type 0 where
+    -- The rule set that the bytes are, and where the history machine, fed it and the numbers, ends: by derivations of the trace semantics.
+    pub R : RuleSet
+    pub admitted : admission edition-1 rules ≡ answered R
+    pub reported : S ≡ sizes-needed R
+    pub h : machine (Sem-T (attributes R))
+    pub chain : Chain (Sem-T (attributes R)) (history-start (attributes R) (unfold-main R)) (words-in numbers) h
+    pub all-counted : length (words-in numbers) ≡ h .visible-count + h .internal-count + h .refused-count
+    pub visible-in-trace : h .visible-count ≡ length (last-trace R h)
+    -- Run leaves exactly that, within main's reach and breadth.
+    pub run-agrees : after ≡ run-result R h term memory
+    pub reach-kept : reach (R .width) (last-term R h) ≤ S .reach
+    pub breadth-kept : breadth (last-term R h) ≤ S .breadth
+    -- The machine's moves there are the derivations of the trace semantics, one to one, in order.
+    pub derived : Enumeration (Derivation (Sem-T (attributes R)) (last-trace R h) (last-term R h)) Earlier concluded (system (Sem-T (attributes R)) .transitions (h .state))
+    -- The moves then listed, on the last memory and the last term cut to its size, are the machine's.
+    pub count-agrees : count rules (cut (size (R .width) (last-term R h)) (after .term)) (after .memory) ≡ answered (length (history-moves R h))
+    pub move-agrees : (k : ℕ) (x : Move) → getElem? (history-moves R h) k ≡ some x → (next-term next-memory : List ℕ) → Roomy S next-term next-memory
+        → move rules (cut (size (R .width) (last-term R h)) (after .term)) (after .memory) k next-term next-memory ≡ move-result R h x next-term next-memory
+    pub move-refuses : (k : ℕ) → length (history-moves R h) ≤ k → (next-term next-memory : List ℕ) → Roomy S next-term next-memory
+        → move rules (cut (size (R .width) (last-term R h)) (after .term)) (after .memory) k next-term next-memory ≡ unwritten next-term next-memory Refusal.not-offered

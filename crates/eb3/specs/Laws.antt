@@ -1,0 +1,52 @@
+-- The proofs. Demands 1 to 3 are in DemandOne, DemandTwo and DemandThree; what holds of every admitted rule set in Admitted; that every well-formed
+-- rule set that fits has a file which is admitted as it, in Files.
+
+-- Values, terms, moves; the listed moves are the derivations, in order (Derivations, Semantics).
+pub mod Values
+pub mod Terms
+pub mod Masks
+pub mod Moves
+pub mod Derivations
+pub mod Semantics
+-- Attribute values and cells; the machines agree.
+pub mod Attributes
+pub mod Cells
+pub mod TransitionSystems
+pub mod Machines
+-- Size, reach and breadth; measures and their saturation.
+pub mod Sizes
+pub mod Measures
+pub mod Saturation
+-- Rule sets, unfolding, the call rule; what holds along every run.
+pub mod RuleSets
+pub mod Unfolding
+pub mod SourceTerms
+pub mod SourceDerivations
+pub mod SourceOrder
+pub mod MainRunning
+pub mod Running
+-- Readers: sound, complete, and by which numbers they refuse.
+pub mod Spelling
+pub mod RuleSpelling
+pub mod Reading
+pub mod ReadingCombined
+pub mod ExpressionReading
+pub mod TermReading
+pub mod RuleTermReading
+pub mod RuleReading
+pub mod RuleReadingComplete
+pub mod Refusals
+-- Bytes and blocks.
+pub mod Answers
+pub mod Bytes
+pub mod Memory
+pub mod Blocks
+pub mod Admission
+pub mod Files
+-- Operations and demands.
+pub mod Operations
+pub mod Admitted
+pub mod DemandThree
+pub mod DemandTwo
+pub mod DemandOne
+pub mod Start
