@@ -36,6 +36,7 @@ pub mod RuleTermReading
 pub mod RuleReading
 pub mod RuleReadingComplete
 pub mod Refusals
+pub mod Signatures
 -- Bytes and blocks.
 pub mod Answers
 pub mod Bytes
