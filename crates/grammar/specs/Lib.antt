@@ -1,0 +1,3 @@
+pub mod Scoping
+pub mod Laws
+pub mod ScopeLaws

@@ -1,0 +1,3 @@
+pub mod Breadth
+pub mod Copies
+pub mod Fields

@@ -1,0 +1,23 @@
+-- A weight is a measure of the specification, cut off at 65,536.
+use mathlib.Core.Bool.{Bool}
+use Prim.Native.Nat.{ℕ}
+use Rattle.eb3.specs.Measures.{sat, Measure, parallel-breadth-of}
+use Rattle.weights.specs.declared.Weight.{Weight}
+use Prim.Native.Nat.{_+_}
+
+abbrev pub cap : ℕ
+cap = 65536
+
+abbrev pub measure : Weight → Measure
+measure w = record { size = w .size; reach = w .reach; breadth = w .breadth }
+
+abbrev pub weight : Measure → Weight
+weight m = record { size = m .size; reach = m .reach; breadth = m .breadth }
+
+-- A parallel's measure from its sides', by whether its mask is zero.
+abbrev pub parallel-by : Bool → Measure → Measure → Measure
+parallel-by zero l r = record {
+  size = sat cap (sat cap (5 + l .size) + r .size);
+  reach = sat cap (sat cap (5 + l .reach) + r .reach);
+  breadth = parallel-breadth-of (sat cap) zero (l .breadth) (r .breadth);
+}
