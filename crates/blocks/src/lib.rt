@@ -1,0 +1,171 @@
+// Blocks: their numbers and sums, and the stream that their contents make (document 01, "Blocks and the rule
+// stream"; refusals 1 to 3).
+ghost use mathlib.Core.Path.{_≡_};
+ghost use mathlib.Core.Bool.{Bool};
+ghost use mathlib.Core.List.{List, [], _∷_, _++_};
+ghost use Prim.Native.Nat.{ℕ, _+_, _*_, _/_, _%_, _≤_, _<_};
+ghost use lib.ListN.{length, take, drop, getD};
+ghost use Rattle.eb3.specs.Limits.{edition-1};
+ghost use Rattle.eb3.specs.Bytes.{words-in};
+ghost use Rattle.eb3.specs.Blocks.{Sums, sums, block-right, blocks-right, contents, stream, open-blocks};
+ghost use Rattle.eb3.specs.Laws.Blocks.{plain-sums};
+ghost use Rattle.blocks.specs.Opening.{as-sums, edition-test, opening};
+
+// What opening a file gives: how many blocks there are, or the number of a refusal.
+pub enum Opened {
+    Blocks(usize),
+    Refused(u8),
+}
+
+// Both sums of a block, before or after their remainders are taken.
+pub struct Pair {
+    pub a: u64,
+    pub b: u64,
+}
+
+fn wide(x: u8) -> u64
+    ensures { λ r. ⌜ (r ≡ x) × (r < 256) ⌝ }
+{
+    x as u64
+}
+
+fn small(x: u8) -> u16
+    ensures { λ r. ⌜ (r ≡ x) × (r < 256) ⌝ }
+{
+    x as u16
+}
+
+// A sum brought under 255.
+pub fn under_255(x: u64) -> u64
+    ensures { λ r. ⌜ r ≡ x % 255 ⌝ }
+{
+    x % 255
+}
+
+// The sums over some more bytes, their remainders left for the end.
+fn add_bytes(s: &[u8], from: Pair) -> Pair
+    requires { ⌜ (length (now s) ≤ 512) × (from .a ≤ 510) × (from .b ≤ 1020) ⌝ }
+    ensures { λ r. ⌜ as-sums r ≡ plain-sums (as-sums from) (now (s .entry)) ⌝ }
+{
+    let mut a = from.a;
+    let mut b = from.b;
+    let mut i = 0;
+    while i < s.len() {
+        a = a + wide(s[i]);
+        b = b + a;
+        i = i + 1;
+    }
+    Pair { a, b }
+}
+
+// The sums of a block: over bytes 0, 1 and 4 to the end.
+fn sums_of(block: &[u8]) -> Pair
+    requires { ⌜ length (now block) ≡ 512 ⌝ }
+    ensures { λ r. ⌜ as-sums r ≡ sums (now (block .entry)) ⌝ }
+{
+    let head = add_bytes(&block[0..2], Pair { a: 0, b: 0 });
+    let whole = add_bytes(&block[4..], head);
+    Pair {
+        a: under_255(whole.a),
+        b: under_255(whole.b),
+    }
+}
+
+// Block i has its number and its sums.
+fn check_block(block: &[u8], i: u64) -> bool
+    requires { ⌜ length (now block) ≡ 512 ⌝ }
+    ensures { λ r. ⌜ r ≡ block-right i (now (block .entry)) ⌝ }
+{
+    if wide(block[0]) + 256 * wide(block[1]) != i {
+        return false;
+    }
+    let p = sums_of(block);
+    if wide(block[2]) != p.a {
+        return false;
+    }
+    wide(block[3]) == p.b
+}
+
+// All n blocks have.
+fn check_blocks(rules: &[u8], n: usize) -> bool
+    requires { ⌜ (length (now rules) ≡ 512 * n) × (n ≤ 64) ⌝ }
+    ensures { λ r. ⌜ r ≡ blocks-right 0 n (now (rules .entry)) ⌝ }
+{
+    let mut i = 0;
+    let mut k: u64 = 0;
+    while i < n {
+        let at = 512 * i;
+        let end = at + 512;
+        if !check_block(&rules[at..end], k) {
+            return false;
+        }
+        i = i + 1;
+        k = k + 1;
+    }
+    true
+}
+
+// Word 0 is the edition, and word 1 the number of blocks.
+fn check_edition(rules: &[u8], n: u64) -> bool
+    requires { ⌜ 512 ≤ length (now rules) ⌝ }
+    ensures { λ r. ⌜ r ≡ edition-test (now (rules .entry)) n ⌝ }
+{
+    if wide(rules[4]) + 256 * wide(rules[5]) != 1 {
+        return false;
+    }
+    wide(rules[6]) + 256 * wide(rules[7]) == n
+}
+
+// A file of 1 to 64 whole blocks, each with its number and sums, of this edition.
+pub fn open(rules: &[u8]) -> Opened
+    ensures { λ r. ⌜ r ≡ opening (now (rules .entry)) (open-blocks edition-1 (now (rules .entry))) ⌝ }
+{
+    if rules.len() % 512 != 0 {
+        return Opened::Refused(1);
+    }
+    let n = rules.len() / 512;
+    if n < 1 {
+        return Opened::Refused(1);
+    }
+    if 64 < n {
+        return Opened::Refused(1);
+    }
+    if !check_blocks(rules, n) {
+        return Opened::Refused(2);
+    }
+    if !check_edition(rules, n as u64) {
+        return Opened::Refused(3);
+    }
+    Opened::Blocks(n)
+}
+
+// The words of a content, little-endian.
+fn decode(content: &[u8], words: &mut [u16])
+    requires { ⌜ length (now content) ≡ 2 * length (now words) ⌝ }
+    ensures { λ _. ⌜ now (words .exit) ≡ words-in (now (content .entry)) ⌝ }
+{
+    let mut i = 0;
+    while i < words.len() {
+        let j = 2 * i;
+        let low = small(content[j]);
+        let high = small(content[j + 1]);
+        words[i] = low + 256 * high;
+        i = i + 1;
+    }
+}
+
+// The contents of n blocks, joined: the stream's words, in front of what the array held.
+pub fn join(rules: &[u8], words: &mut [u16], n: usize)
+    requires { ⌜ (length (now rules) ≡ 512 * n) × (254 * n ≤ length (now words)) × (n ≤ 64) ⌝ }
+    ensures { λ _. ⌜ now (words .exit) ≡ stream (now (rules .entry)) ++ drop (254 * n) (now (words .entry)) ⌝ }
+{
+    let mut i = 0;
+    while i < n {
+        let at = 512 * i + 4;
+        let end = 512 * i + 512;
+        let to = 254 * i;
+        let stop = 254 * i + 254;
+        decode(&rules[at..end], &mut words[to..stop]);
+        i = i + 1;
+    }
+}
