@@ -43,6 +43,7 @@ pub mod Bytes
 pub mod Memory
 pub mod Blocks
 pub mod Admission
+pub mod Judging
 pub mod Files
 -- Operations and demands.
 pub mod Operations
