@@ -1,0 +1,44 @@
+-- A rule set of edition 1 has at most 1,024 cells: at most 16 functions, each with one parameter of at most 64 elements.
+use mathlib.Core.Path.{_≡_, ap, sym, _∙_, subst}
+use mathlib.Core.List.{List, [], _∷_, map}
+use Prim.Native.Nat.{ℕ, zero, suc, _+_, _*_, _≤_, _<_}
+use native.Mathlib.Omega.{arith}
+use native.Mathlib.Decide.{decLt}
+use lib.ListN.{length, List·getD-eq-default}
+use Rattle.eb3.specs.Attributes.{domain, number-of-functions}
+use Rattle.eb3.specs.Laws.Attributes.{no-domain-beyond}
+use Rattle.eb3.specs.Cells.{cell-count, offset, total-cells}
+use Rattle.eb3.specs.Limits.{edition-1}
+use Rattle.eb3.specs.RuleSets.{RuleSet, domain-size, sizes-of, function-rule, attributes}
+use Rattle.eb3.specs.Laws.RuleSets.{functions-counted, domain-is}
+use Rattle.eb3.specs.WellFormedness.{Form}
+
+module _ (R : RuleSet) (form : Form edition-1 R) where
+  small-domain : (d : ℕ) → domain-size R d ≤ 64
+  small-domain d = go (decLt d (length (R .domains)))
+    where
+      go : Dec (d < length (R .domains)) → domain-size R d ≤ 64
+      go (yes h) = form .domain-sizes d h .1
+      go (no h) = let k : length (R .domains) ≤ d = omega arith in omega (arith, List·getD-eq-default (R .domains) 0 k)
+
+  few-cells : (ds : List ℕ) → (1 ≤ length ds) × (length ds ≤ 1) → cell-count (sizes-of R ds) ≤ 64
+  unfolding cell-count
+  few-cells [] h = let z : ⊥ = omega (arith, h .0) in absurd z
+  few-cells (d ∷ []) h = omega (arith, small-domain d)
+  few-cells (d ∷ e ∷ ds) h = let z : ⊥ = omega (arith, h .1) in absurd z
+
+  function-cells : (f : ℕ) → cell-count (domain (attributes R) f) ≤ 64
+  unfolding cell-count
+  function-cells f = go (decLt f (length (R .functions)))
+    where
+      go : Dec (f < length (R .functions)) → cell-count (domain (attributes R) f) ≤ 64
+      go (yes h) = subst (λ ns. cell-count ns ≤ 64) (sym (domain-is R f h)) (few-cells (function-rule R f .parameters) (form .function-forms f h .parameter-count))
+      go (no h) = subst (λ ns. cell-count ns ≤ 64) (sym (no-domain-beyond (attributes R) f (omega (arith, functions-counted R)))) (omega arith)
+
+  offset-below : (f : ℕ) → offset (attributes R) f ≤ 64 * f
+  unfolding offset
+  offset-below zero = omega arith
+  offset-below (suc f) = omega (arith, offset-below f, function-cells f)
+
+  pub cells-below : total-cells (attributes R) ≤ 1024
+  cells-below = omega (arith, offset-below (number-of-functions (attributes R)), functions-counted R, form .function-count)
