@@ -1,0 +1,9 @@
+pub mod Entering
+pub mod Declaring
+pub mod ScopeFacts
+pub mod Rows
+pub mod FunctionLaws
+pub mod Regions
+pub mod DeclaringLaws
+pub mod ProcessLaws
+pub mod SectionFacts

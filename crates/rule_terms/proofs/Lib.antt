@@ -1,0 +1,5 @@
+mod Variables
+mod Leaves
+mod Parts
+mod Binders
+mod Codes

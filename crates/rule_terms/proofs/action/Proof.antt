@@ -1,0 +1,28 @@
+use Rattle.rule_terms.proofs.Leaves.{leaves}
+use borrow.Author.Needs.{needs}
+use Rattle.rule_terms.proofs.action.Statement.{statement}
+use Rattle.rule_terms.proofs.action.Tie as tie
+
+pub action-spec : {M : Type 1} → statement M
+action-spec =
+    tie.close
+    (tie.spec
+    (λ c κs. search needs)
+    (λ c κs. search needs)
+    (λ c. search needs)
+    (λ c κs. search needs)
+    (λ c. search needs)
+    (λ c. search needs)
+    (λ c κs. search needs)
+    (λ c κs. search needs)
+    (λ c κs. search needs)
+    (λ c. search needs)
+    (λ c κs. search needs)
+    (λ c. search needs)
+    (λ c. search needs)
+    (λ c κs. search needs)
+    (λ c. search needs)
+    (λ c. search needs)
+    (λ c. search leaves)
+    (λ c. search leaves)
+    (λ c. search leaves))
