@@ -1,0 +1,2 @@
+mod ProcessCases
+mod SectionCases
