@@ -1,0 +1,2 @@
+-- What the proof of the exported function uses.
+mod Cases

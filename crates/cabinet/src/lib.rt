@@ -1,0 +1,43 @@
+// The engine as a C host calls it, with numbers and byte slices only (eb3.h).
+ghost use mathlib.Core.Path.{_≡_};
+ghost use Rattle.eb3.specs.Operations.{admit};
+ghost use Rattle.cabinet.specs.Exported.{sizes};
+use engine::Admitted;
+use engine::admit;
+
+#[repr(C)]
+pub struct Sizes {
+    pub refusal: u32,
+    pub cells: u32,
+    pub reach: u32,
+    pub breadth: u32,
+    pub size: u32,
+}
+
+fn number(k: u8) -> u32
+    ensures { λ r. ⌜ r ≡ k ⌝ }
+{
+    k as u32
+}
+
+#[no_mangle]
+pub extern "C" fn eb3_admit(rules: &[u8]) -> Sizes
+    ensures { λ r. ⌜ r ≡ sizes (admit (now (rules .entry))) ⌝ }
+{
+    match admit(rules) {
+        Admitted::Sizes(l) => Sizes {
+            refusal: 0,
+            cells: l.cells,
+            reach: l.reach,
+            breadth: l.breadth,
+            size: l.size,
+        },
+        Admitted::Refused(k) => Sizes {
+            refusal: number(k),
+            cells: 0,
+            reach: 0,
+            breadth: 0,
+            size: 0,
+        },
+    }
+}
