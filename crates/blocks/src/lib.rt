@@ -42,7 +42,28 @@ pub fn under_255(x: u64) -> u64
     x % 255
 }
 
-// The sums over some more bytes, their remainders left for the end.
+// What eight bytes add: to a, and to b besides eight times the a before them. In 16 bits, so that the compiler
+// does not make them one chain of additions with a and b.
+fn eight(x0: u8, x1: u8, x2: u8, x3: u8, x4: u8, x5: u8, x6: u8, x7: u8) -> Pair
+    ensures { λ r. ⌜ (r .a ≡ x0 + x1 + x2 + x3 + x4 + x5 + x6 + x7) × (r .b ≡ 8 * x0 + 7 * x1 + 6 * x2 + 5 * x3 + 4 * x4 + 3 * x5 + 2 * x6 + x7) × (r .a ≤ 2040) × (r .b ≤ 9180) ⌝ }
+{
+    let w0 = small(x0);
+    let w1 = small(x1);
+    let w2 = small(x2);
+    let w3 = small(x3);
+    let w4 = small(x4);
+    let w5 = small(x5);
+    let w6 = small(x6);
+    let w7 = small(x7);
+    let a = w0 + w1 + w2 + w3 + w4 + w5 + w6 + w7;
+    let b = 8 * w0 + 7 * w1 + 6 * w2 + 5 * w3 + 4 * w4 + 3 * w5 + 2 * w6 + w7;
+    Pair {
+        a: a as u64,
+        b: b as u64,
+    }
+}
+
+// The sums over some more bytes, their remainders left for the end: eight bytes a turn, then one.
 fn add_bytes(s: &[u8], from: Pair) -> Pair
     requires { ⌜ (length (now s) ≤ 512) × (from .a ≤ 510) × (from .b ≤ 1020) ⌝ }
     ensures { λ r. ⌜ as-sums r ≡ plain-sums (as-sums from) (now (s .entry)) ⌝ }
@@ -50,6 +71,21 @@ fn add_bytes(s: &[u8], from: Pair) -> Pair
     let mut a = from.a;
     let mut b = from.b;
     let mut i = 0;
+    while i + 7 < s.len() {
+        let p = eight(
+            s[i],
+            s[i + 1],
+            s[i + 2],
+            s[i + 3],
+            s[i + 4],
+            s[i + 5],
+            s[i + 6],
+            s[i + 7],
+        );
+        b = b + 8 * a + p.b;
+        a = a + p.a;
+        i = i + 8;
+    }
     while i < s.len() {
         a = a + wide(s[i]);
         b = b + a;
