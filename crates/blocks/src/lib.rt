@@ -42,8 +42,8 @@ pub fn under_255(x: u64) -> u64
     x % 255
 }
 
-// What eight bytes add: to a, and to b besides eight times the a before them. In 16 bits, so that the compiler
-// does not make them one chain of additions with a and b.
+// What eight bytes add: to a, and to b besides eight times the a before them. In 16 bits, and with
+// the weights 24 to 17, not 8 to 1 (no powers of two): so the compiler multiplies all eight at once.
 fn eight(x0: u8, x1: u8, x2: u8, x3: u8, x4: u8, x5: u8, x6: u8, x7: u8) -> Pair
     ensures { λ r. ⌜ (r .a ≡ x0 + x1 + x2 + x3 + x4 + x5 + x6 + x7) × (r .b ≡ 8 * x0 + 7 * x1 + 6 * x2 + 5 * x3 + 4 * x4 + 3 * x5 + 2 * x6 + x7) × (r .a ≤ 2040) × (r .b ≤ 9180) ⌝ }
 {
@@ -56,7 +56,8 @@ fn eight(x0: u8, x1: u8, x2: u8, x3: u8, x4: u8, x5: u8, x6: u8, x7: u8) -> Pair
     let w6 = small(x6);
     let w7 = small(x7);
     let a = w0 + w1 + w2 + w3 + w4 + w5 + w6 + w7;
-    let b = 8 * w0 + 7 * w1 + 6 * w2 + 5 * w3 + 4 * w4 + 3 * w5 + 2 * w6 + w7;
+    let c = 24 * w0 + 23 * w1 + 22 * w2 + 21 * w3 + 20 * w4 + 19 * w5 + 18 * w6 + 17 * w7;
+    let b = c - 16 * a;
     Pair {
         a: a as u64,
         b: b as u64,
