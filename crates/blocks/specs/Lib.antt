@@ -1,1 +1,2 @@
+-- What opening a file answers.
 pub mod Opening

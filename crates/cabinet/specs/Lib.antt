@@ -1,1 +1,2 @@
+-- What the exported functions give to C.
 pub mod Exported

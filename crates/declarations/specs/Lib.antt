@@ -1,3 +1,4 @@
+-- What the checks of domains, labels and functions answer and enter, what filled tables declare, and the laws of both.
 pub mod Entering
 pub mod Declaring
 pub mod ScopeFacts

@@ -1,3 +1,4 @@
+-- What a check of process terms answers, and its laws.
 pub mod Weighed
 pub mod Laws
 pub mod WeighedLaws
