@@ -1,30 +1,56 @@
--- A case for each way that a check of expressions returns; the premises have the form of what the code tells there, so that `search` finds them.
-use Prim.Native.Nat.{ℕ, suc, _≤_, _<_}
+-- A case for each way that the front of a row is told; the premises have the form of what the code tells there, so that `search` finds them.
+use Prim.Native.Nat.{ℕ, suc, _+_, _≤_, _<_}
 use native.Mathlib.Omega.{arith}
 use native.Mathlib.Decide.{ℕ-discrete, decLe}
 use mathlib.Core.Logic.{_⊎_, inl, inr, ⊎-elim}
 use mathlib.Core.Path.{_≡_, refl, sym, ap, _∙_}
 use mathlib.Core.List.{List, [], _∷_}
-use lib.ListN.{length, drop, getD}
+use mathlib.Core.Bool.{true, false}
+use lib.Dec.{ltb}
+use lib.ListN.{length, drop, getD, drop-of-length-le}
+use lib.Seq.{drop-cons}
 use borrow.Author.Tests.{ne-eqb, lt-ltb, le-ltb, le-leb, lt-leb}
-use Rattle.eb3.specs.Expressions.{Data, Args, Constant, Add, Subtract, Now, Before, Equal, Less, And, Or}
+use Rattle.eb3.specs.Expressions.{Data, Undefined, Cond, Args, Constant, Variable, Add, Subtract, If, Now, Before, Equal, Less, And, Or, Not, True}
 use Rattle.eb3.specs.Scopes.{Scope}
-use Rattle.eb3.specs.Reading.{Read, refused, taken, Reader, giving, then, both, number-of, by-number, number-in}
+use Rattle.eb3.specs.Reading.{Read, refused, taken, Reader, pick, giving, then, both, number-of, by-number, number-in, repeat}
 use Rattle.eb3.specs.ExpressionReading.{DataKind, CondKind, data-kind, cond-kind, constant-of, args-of, data-by, cond-by, readers, read-data, read-cond}
-use Rattle.scan.specs.declared.Checked.{Checked}
 use Rattle.scan.specs.declared.Checked.the-variants.{Left, Refused}
 use Rattle.scan.specs.Checking.{checked}
-use Rattle.scan.specs.Laws.{nil-form, checked-giving, then-checked, both-in, both-out, number-ends}
-use Rattle.grammar.specs.Laws.{whole, data-ends, cond-ends, data-case, cond-case}
+use Rattle.scan.specs.Laws.{checked-giving, then-checked}
+use Rattle.scan.specs.RowLaws.{repeat-next}
+use Rattle.grammar.specs.declared.Front.{Front}
+use Rattle.grammar.specs.declared.Front.the-variants.{On, Other, Wrong}
+use Rattle.grammar.specs.Fronts.{Behind, Operand, Facing, DataFront, CondFront}
+use Rattle.grammar.specs.Laws.{whole, data-case, cond-case}
+use Rattle.grammar.specs.RowLaws.{forget, forget-giving, then-forget, both-then, then-then, then-left, then-ended, row-step, row-join, row-more, one-left, two-left, led}
+
+-- ── a number in front ──
+
+pub operand-none : (k limit : ℕ) (s : List ℕ) (at m : ℕ) → length s ≤ at → Operand k limit s at m (Wrong 4)
+unfolding number-of
+operand-none k limit s at m h = rw (drop-of-length-le s {i = at} h)
+
+pub operand-some : (k limit : ℕ) (s : List ℕ) (at m x : ℕ) → at < length s → x ≡ getD s at 0 → x < limit → Operand k limit s at m (On (at + 1) m)
+unfolding number-of
+operand-some k limit s at m x h e l =
+    let i : ltb (getD s at 0) limit ≡ true = lt-ltb (getD s at 0) limit (rw (← e) l) in
+    let j : suc at ≡ at + 1 = omega arith in
+    (refl, h, refl, (getD s at 0, ap (number-of k limit) (drop-cons s at 0 h) ∙ ap (λ b. pick b (taken (getD s at 0) (drop (suc at) s)) (refused k)) i ∙ ap (λ i. taken (getD s at 0) (drop i s)) j))
+
+pub operand-over : (k limit : ℕ) (s : List ℕ) (at m x : ℕ) → at < length s → x ≡ getD s at 0 → limit ≤ x → Operand k limit s at m (Wrong k)
+unfolding number-of
+operand-over k limit s at m x h e l =
+    let i : ltb (getD s at 0) limit ≡ false = le-ltb (getD s at 0) limit (rw (← e) l) in
+    ap (number-of k limit) (drop-cons s at 0 h) ∙ ap (λ b. pick b (taken (getD s at 0) (drop (suc at) s)) (refused k)) i
 
 -- ── edition 1: a constant is one word, a function has one parameter ──
 
-one-constant : (t : List ℕ) → checked (giving Constant (constant-of 1 65534 t)) ≡ checked (number-of 4 65535 t)
-unfolding giving constant-of then number-in number-of checked
+one-constant : (t : List ℕ) → forget (giving Constant (constant-of 1 65534 t)) ≡ forget (number-of 4 65535 t)
+unfolding giving constant-of then number-in number-of forget
 one-constant [] = refl
 one-constant (w ∷ t) = go (decLe w 65534)
   where
-    go : Dec (w ≤ 65534) → checked (giving Constant (constant-of 1 65534 (w ∷ t))) ≡ checked (number-of 4 65535 (w ∷ t))
+    go : Dec (w ≤ 65534) → forget (giving Constant (constant-of 1 65534 (w ∷ t))) ≡ forget (number-of 4 65535 (w ∷ t))
     go (yes h) =
         let l : w < 65535 = omega arith in
         simp (le-leb w 65534 h, lt-ltb w 65535 l)
@@ -33,31 +59,18 @@ one-constant (w ∷ t) = go (decLe w 65534)
         let m : 65535 ≤ w = omega arith in
         simp (lt-leb w 65534 l, le-ltb w 65535 m)
 
-ended : (d : Reader Data) (r : Read Data) → checked {A = Data × Args} (then r (λ a u. giving (λ b. (a, b)) (args-of d 0 u))) ≡ checked r
-unfolding then giving checked args-of
-ended d (refused k) = refl
-ended d (taken a u) = refl
-
-one-argument : (d : Reader Data) (n : ℕ) (t : List ℕ) → n ≡ 1 → checked (args-of d n t) ≡ checked (d t)
-unfolding args-of both
-one-argument d n t e = ap (λ m. checked (args-of d m t)) e ∙ (checked-giving _ (both d (args-of d 0) t) ∙ ended d (d t))
+one-argument : (d : Reader Data) (n : ℕ) (t : List ℕ) → n ≡ 1 → forget (args-of d n t) ≡ forget (d t)
+unfolding args-of both giving
+one-argument d n t e = ap (λ m. forget (args-of d m t)) e ∙ (forget-giving _ (both d (args-of d 0) t) ∙ then-ended (d t) _)
 
 one-named : (limit : ℕ) (arity : ℕ → ℕ) (k : ℕ → Args → Data) (d : Reader Data) (t : List ℕ) → ((f : ℕ) → arity f ≡ 1)
-    → checked (by-number 5 limit (λ f u. giving (k f) (args-of d (arity f) u)) t) ≡ checked (both (number-of 5 limit) d t)
+    → forget (by-number 5 limit (λ f u. giving (k f) (args-of d (arity f) u)) t) ≡ forget (both (number-of 5 limit) d t)
 unfolding by-number both
 one-named limit arity k d t h =
-    then-checked (number-of 5 limit t) (λ f u. giving (k f) (args-of d (arity f) u)) (λ f u. giving (λ b. (f, b)) (d u))
-    (λ f u. checked-giving (k f) (args-of d (arity f) u) ∙ (one-argument d (arity f) u (h f) ∙ sym (checked-giving (λ b. (f, b)) (d u))))
+    then-left (number-of 5 limit t) (λ f u. giving (k f) (args-of d (arity f) u)) (λ f u. giving (λ b. (f, b)) (d u))
+    (λ f u. forget-giving (k f) (args-of d (arity f) u) ∙ (one-argument d (arity f) u (h f) ∙ sym (forget-giving (λ b. (f, b)) (d u))))
 
--- ── no word, and the codes ──
-
-pub data-none : (P : Scope) (s : List ℕ) → length s ≡ 0 → Refused 4 ≡ checked (read-data 1 P s)
-unfolding read-data readers checked
-data-none P s h = rw (nil-form s h)
-
-pub cond-none : (P : Scope) (s : List ℕ) → length s ≡ 0 → Refused 4 ≡ checked (read-cond 1 P s)
-unfolding read-cond readers checked
-cond-none P s h = rw (nil-form s h)
+-- ── the codes ──
 
 -- What a match tells of the codes that it tests one by one, where none is met.
 abbrev OtherD : ℕ → Type 0
@@ -80,68 +93,141 @@ two-ways w a l u = go (ℕ-discrete w a)
     go (yes e) = inl e
     go (no n) = inr (omega arith)
 
--- ── s is the words, t those behind the first ──
+-- ── no word ──
 
-module _ (P : Scope) (s t : List ℕ) (h : length s ≡ 0 → ⊥) (q : t ≡ drop 1 s) where
-  by-data : (k : DataKind) (p : Checked) → data-kind P (getD s 0 0) ≡ k → p ≡ checked (data-by 1 P (whole 1 P) k t) → p ≡ checked (read-data 1 P s)
-  by-data k p e f = f ∙ ap (λ u. checked (data-by 1 P (whole 1 P) k u)) q ∙ sym (ap checked (data-case 1 P s k h e))
+pub data-none : (P : Scope) (s : List ℕ) (at rest : ℕ) → length s ≤ at → DataFront P s at rest (Wrong 4)
+unfolding read-data readers checked repeat both giving then
+data-none P s at rest h = rw (drop-of-length-le s {i = at} h)
 
-  pub data-undefined : getD s 0 0 ≡ 0 → Left (length t) ≡ checked (read-data 1 P s)
-  unfolding checked
-  data-undefined e = by-data DataKind.undefined _ (ap (data-kind P) e) refl
+pub cond-none : (P : Scope) (s : List ℕ) (at rest : ℕ) → length s ≤ at → CondFront P s at rest (Wrong 4)
+unfolding read-cond readers checked repeat both giving then
+cond-none P s at rest h = rw (drop-of-length-le s {i = at} h)
 
-  pub data-constant : (p : Checked) → getD s 0 0 ≡ 1 → P .top ≡ 65534 → p ≡ checked (number-of 4 65535 t) → p ≡ checked (read-data 1 P s)
-  data-constant p e o f = by-data DataKind.constant p (ap (data-kind P) e) (f ∙ sym (one-constant t) ∙ ap (λ m. checked (giving Constant (constant-of 1 m t))) (sym o))
+-- ── a word at the place `at` ──
 
-  pub data-variable : (p : Checked) → getD s 0 0 ≡ 2 → p ≡ checked (number-of 5 (P .variables) t) → p ≡ checked (read-data 1 P s)
-  data-variable p e f = by-data DataKind.variable p (ap (data-kind P) e) (rw checked-giving f)
+-- A number behind it, and m of f's behind that.
+faced : {A B : Type 0} (f : Reader A) (g : Reader B) (after : ℕ) (s : List ℕ) (at rest m k limit : ℕ) (r : Front) → m ≤ at + 2
+    → checked (repeat (suc rest) f (drop at s)) ≡ checked (then (number-of k limit (drop (at + 1) s)) (λ w. repeat m f)) → Operand k limit s (at + 1) m r → Facing f g after s at rest r
+unfolding then checked
+faced f g after s at rest m k limit (On d o) l e (x, y, z, n) = ((omega (arith, x), omega (arith, x, y), omega (arith, x, z, l)), e ∙ ap (λ r. checked (then r (λ v. repeat m f))) (n .1) ∙ ap (λ i. checked (repeat i f (drop d s))) (sym z))
+faced f g after s at rest m k limit (Other d) l e n = absurd n
+faced f g after s at rest m k limit (Wrong j) l e n = sym (e ∙ ap (λ r. checked (then r (λ v. repeat m f))) n)
 
-  pub data-pair : (p : Checked) → OtherD (getD s 0 0) → getD s 0 0 < 5 → p ≡ checked (both (read-data 1 P) (read-data 1 P) t) → p ≡ checked (read-data 1 P s)
-  data-pair p o u f = ⊎-elim (λ e. by-data (DataKind.pair Add) p (ap (data-kind P) e) (rw checked-giving f)) (λ e. by-data (DataKind.pair Subtract) p (ap (data-kind P) e) (rw checked-giving f)) (two-ways (getD s 0 0) 3 (omega arith) (omega arith))
+module _ (P : Scope) (s : List ℕ) (at rest : ℕ) (h : at < length s) (few : rest ≤ at + 1) where
+  abbrev rd : Reader Data
+  rd = read-data 1 P
 
-  pub data-select : (p : Checked) → getD s 0 0 ≡ 5 → p ≡ checked (both (read-cond 1 P) (both (read-data 1 P) (read-data 1 P)) t) → p ≡ checked (read-data 1 P s)
-  data-select p e f = by-data DataKind.select p (ap (data-kind P) e) (rw checked-giving f)
+  abbrev rc : Reader Cond
+  rc = read-cond 1 P
 
-  by-name : (k : ℕ → Args → Data) (limit : ℕ) (p : Checked) → P .arity ≡ (λ f. 1) → data-kind P (getD s 0 0) ≡ DataKind.attribute k limit → p ≡ checked (both (number-of 5 limit) (read-data 1 P) t) → p ≡ checked (read-data 1 P s)
-  by-name k limit p a e f = by-data (DataKind.attribute k limit) p e (f ∙ sym (one-named limit (P .arity) k (read-data 1 P) t (λ n. ap (λ g. g n) a)))
+  abbrev t : List ℕ
+  t = drop (at + 1) s
 
-  pub data-now : (p : Checked) → getD s 0 0 ≡ 6 → P .arity ≡ (λ f. 1) → p ≡ checked (both (number-of 5 (P .now)) (read-data 1 P) t) → p ≡ checked (read-data 1 P s)
-  data-now p e a f = by-name Now (P .now) p a (ap (data-kind P) e) f
+  behind : (m : ℕ) → m ≤ rest + 2 → Behind s at (at + 1) m
+  behind m l = (omega arith, omega (arith, h), omega (arith, few, l))
 
-  pub data-before : (p : Checked) → getD s 0 0 ≡ 7 → P .arity ≡ (λ f. 1) → 0 < P .before → p ≡ checked (both (number-of 5 (P .before)) (read-data 1 P) t) → p ≡ checked (read-data 1 P s)
-  data-before p e a b f = by-name Before (P .before) p a (ap (data-kind P) e ∙ rw (lt-ltb 0 (P .before) b)) f
+  one : suc rest ≡ rest + 1
+  one = omega arith
 
-  pub data-barred : getD s 0 0 ≡ 7 → P .before ≤ 0 → Refused 4 ≡ checked (read-data 1 P s)
-  unfolding checked
-  data-barred e b = by-data DataKind.wrong _ (ap (data-kind P) e ∙ rw (le-ltb 0 (P .before) b)) refl
+  two : suc (suc rest) ≡ rest + 2
+  two = omega arith
 
-  pub data-high : OtherD (getD s 0 0) → 5 ≤ getD s 0 0 → Refused 4 ≡ checked (read-data 1 P s)
-  unfolding checked
-  data-high o l = by-data DataKind.wrong _ (data-other P _ o (λ e. omega arith) (λ e. omega arith)) refl
+  back : drop (suc at) s ≡ t
+  back =
+      let e : suc at ≡ at + 1 = omega arith in
+      ap (λ i. drop i s) e
 
-  by-cond : (k : CondKind) (p : Checked) → cond-kind (getD s 0 0) ≡ k → p ≡ checked (cond-by (whole 1 P) k t) → p ≡ checked (read-cond 1 P s)
-  by-cond k p e f = f ∙ ap (λ u. checked (cond-by (whole 1 P) k u)) q ∙ sym (ap checked (cond-case 1 P s k h e))
+  -- what stands there by its kind
+  data-at : (k : DataKind) → data-kind P (getD s at 0) ≡ k → rd (drop at s) ≡ data-by 1 P (whole 1 P) k t
+  data-at k e = ap rd (drop-cons s at 0 h) ∙ data-case 1 P (getD s at 0 ∷ drop (suc at) s) k (λ z. omega arith) e ∙ ap (data-by 1 P (whole 1 P) k) back
 
-  pub cond-compare : (p : Checked) → 8 ≤ getD s 0 0 → getD s 0 0 < 10 → p ≡ checked (both (read-data 1 P) (read-data 1 P) t) → p ≡ checked (read-cond 1 P s)
-  cond-compare p l u f = ⊎-elim (λ e. by-cond (CondKind.compare Equal) p (ap cond-kind e) (rw checked-giving f)) (λ e. by-cond (CondKind.compare Less) p (ap cond-kind e) (rw checked-giving f)) (two-ways (getD s 0 0) 8 l (omega arith))
+  cond-at : (k : CondKind) → cond-kind (getD s at 0) ≡ k → rc (drop at s) ≡ cond-by (whole 1 P) k t
+  cond-at k e = ap rc (drop-cons s at 0 h) ∙ cond-case 1 P (getD s at 0 ∷ drop (suc at) s) k (λ z. omega arith) e ∙ ap (cond-by (whole 1 P) k) back
 
-  pub cond-join : (p : Checked) → 10 ≤ getD s 0 0 → getD s 0 0 < 12 → p ≡ checked (both (read-cond 1 P) (read-cond 1 P) t) → p ≡ checked (read-cond 1 P s)
-  cond-join p l u f = ⊎-elim (λ e. by-cond (CondKind.join And) p (ap cond-kind e) (rw checked-giving f)) (λ e. by-cond (CondKind.join Or) p (ap cond-kind e) (rw checked-giving f)) (two-ways (getD s 0 0) 10 l (omega arith))
+  by-data : {B : Type 0} (k : DataKind) (r : Read B) → data-kind P (getD s at 0) ≡ k → forget (data-by 1 P (whole 1 P) k t) ≡ forget r → checked (repeat (suc rest) rd (drop at s)) ≡ checked (then r (λ a. repeat rest rd))
+  by-data k r e f = row-step rd r rest (drop at s) (ap forget (data-at k e) ∙ f)
 
-  pub cond-negate : (p : Checked) → getD s 0 0 ≡ 12 → p ≡ checked (read-cond 1 P t) → p ≡ checked (read-cond 1 P s)
-  cond-negate p e f = by-cond CondKind.negate p (ap cond-kind e) (rw checked-giving f)
+  by-cond : {B : Type 0} (k : CondKind) (r : Read B) → cond-kind (getD s at 0) ≡ k → forget (cond-by (whole 1 P) k t) ≡ forget r → checked (repeat (suc rest) rc (drop at s)) ≡ checked (then r (λ a. repeat rest rc))
+  by-cond k r e f = row-step rc r rest (drop at s) (ap forget (cond-at k e) ∙ f)
 
-  pub cond-always : getD s 0 0 ≡ 13 → Left (length t) ≡ checked (read-cond 1 P s)
-  unfolding checked
-  cond-always e = by-cond CondKind.always _ (ap cond-kind e) refl
+  pub data-undefined : getD s at 0 ≡ 0 → DataFront P s at rest (On (at + 1) rest)
+  unfolding then
+  data-undefined e = (behind rest (omega arith), by-data DataKind.undefined (taken Undefined t) (ap (data-kind P) e) refl)
 
-  pub cond-low : getD s 0 0 < 8 → Refused 4 ≡ checked (read-cond 1 P s)
-  unfolding checked
-  cond-low l = by-cond CondKind.wrong _ (cond-other (getD s 0 0) (λ e. omega arith) (λ e. omega arith) (λ e. omega arith) (λ e. omega arith) ((tt, λ e. omega arith), λ e. omega arith)) refl
+  pub data-constant : (r : Front) → getD s at 0 ≡ 1 → P .top ≡ 65534 → Operand 4 65535 s (at + 1) rest r → DataFront P s at rest r
+  data-constant r e o = faced rd (repeat 1 rc) (rest + 2) s at rest rest 4 65535 r (omega (arith, few)) (by-data DataKind.constant (number-of 4 65535 t) (ap (data-kind P) e) (ap (λ m. forget (giving Constant (constant-of 1 m t))) o ∙ one-constant t))
 
-  pub cond-high : OtherC (getD s 0 0) → 12 ≤ getD s 0 0 → Refused 4 ≡ checked (read-cond 1 P s)
-  unfolding checked
-  cond-high o l = by-cond CondKind.wrong _ (cond-other _ (λ e. omega arith) (λ e. omega arith) (λ e. omega arith) (λ e. omega arith) o) refl
+  pub data-variable : (r : Front) → getD s at 0 ≡ 2 → Operand 5 (P .variables) s (at + 1) rest r → DataFront P s at rest r
+  data-variable r e = faced rd (repeat 1 rc) (rest + 2) s at rest rest 5 (P .variables) r (omega (arith, few)) (by-data DataKind.variable (number-of 5 (P .variables) t) (ap (data-kind P) e) (forget-giving Variable (number-of 5 (P .variables) t)))
 
-pub ruleset cases =
-    (data-none, cond-none, both-in, both-out, data-ends, cond-ends, number-ends, data-undefined, data-constant, data-variable, data-pair, data-select, data-now, data-before, data-barred, data-high, cond-compare, cond-join, cond-negate, cond-always, cond-low, cond-high)
+  paired : (k : Data → Data → Data) → data-kind P (getD s at 0) ≡ DataKind.pair k → DataFront P s at rest (On (at + 1) (rest + 2))
+  paired k e = (behind (rest + 2) (omega arith), by-data (DataKind.pair k) (both rd rd t) e (forget-giving _ (both rd rd t)) ∙ row-join rd rd rest t ∙ row-more rd (suc rest) t ∙ ap (λ n. checked (repeat n rd t)) two)
+
+  pub data-pair : OtherD (getD s at 0) → getD s at 0 < 5 → DataFront P s at rest (On (at + 1) (rest + 2))
+  data-pair o u = ⊎-elim (λ e. paired Add (ap (data-kind P) e)) (λ e. paired Subtract (ap (data-kind P) e)) (two-ways (getD s at 0) 3 (omega arith) (omega arith))
+
+  pub data-select : getD s at 0 ≡ 5 → DataFront P s at rest (Other (at + 1))
+  unfolding both
+  data-select e = (
+    behind (rest + 2) (omega arith),
+    by-data DataKind.select (both rc (both rd rd) t) (ap (data-kind P) e) (forget-giving _ (both rc (both rd rd) t))
+        ∙ then-then (rc t) (both rd rd) (repeat rest rd)
+        ∙ then-checked (rc t) (λ a u. then (both rd rd u) (λ b. repeat rest rd)) (λ a. repeat (suc (suc rest)) rd) (λ a u. row-join rd rd rest u ∙ row-more rd (suc rest) u)
+        ∙ ap (λ n. checked (then (rc t) (λ a. repeat n rd))) two
+        ∙ led rc (repeat 1 rc) (repeat (rest + 2) rd) t (sym (one-left rc t)),
+  )
+
+  named : (k : ℕ → Args → Data) (limit : ℕ) (r : Front) → P .arity ≡ (λ f. 1) → data-kind P (getD s at 0) ≡ DataKind.attribute k limit → Operand 5 limit s (at + 1) (rest + 1) r → DataFront P s at rest r
+  named k limit r a e =
+      faced rd (repeat 1 rc) (rest + 2) s at rest (rest + 1) 5 limit r (omega (arith, few))
+      (by-data (DataKind.attribute k limit) (both (number-of 5 limit) rd t) e (one-named limit (P .arity) k rd t (λ n. ap (λ g. g n) a))
+      ∙ row-join (number-of 5 limit) rd rest t
+      ∙ ap (λ n. checked (then (number-of 5 limit t) (λ w. repeat n rd))) one)
+
+  pub data-now : (r : Front) → getD s at 0 ≡ 6 → P .arity ≡ (λ f. 1) → Operand 5 (P .now) s (at + 1) (rest + 1) r → DataFront P s at rest r
+  data-now r e a = named Now (P .now) r a (ap (data-kind P) e)
+
+  pub data-before : (r : Front) → getD s at 0 ≡ 7 → P .arity ≡ (λ f. 1) → 0 < P .before → Operand 5 (P .before) s (at + 1) (rest + 1) r → DataFront P s at rest r
+  data-before r e a l = named Before (P .before) r a (ap (data-kind P) e ∙ rw (lt-ltb 0 (P .before) l))
+
+  wrong : data-kind P (getD s at 0) ≡ DataKind.wrong → DataFront P s at rest (Wrong 4)
+  unfolding then checked
+  wrong e = sym (by-data {B = Data} DataKind.wrong (refused 4) e refl)
+
+  pub data-barred : getD s at 0 ≡ 7 → P .before ≤ 0 → DataFront P s at rest (Wrong 4)
+  data-barred e l = wrong (ap (data-kind P) e ∙ rw (le-ltb 0 (P .before) l))
+
+  pub data-high : OtherD (getD s at 0) → 5 ≤ getD s at 0 → DataFront P s at rest (Wrong 4)
+  data-high o l = wrong (data-other P (getD s at 0) o (λ e. omega arith) (λ e. omega arith))
+
+  compared : (k : Data → Data → Cond) → cond-kind (getD s at 0) ≡ CondKind.compare k → CondFront P s at rest (Other (at + 1))
+  compared k e = (behind rest (omega arith), by-cond (CondKind.compare k) (both rd rd t) e (forget-giving _ (both rd rd t)) ∙ led (both rd rd) (repeat 2 rd) (repeat rest rc) t (sym (two-left rd t)))
+
+  pub cond-compare : 8 ≤ getD s at 0 → getD s at 0 < 10 → CondFront P s at rest (Other (at + 1))
+  cond-compare l u = ⊎-elim (λ e. compared Equal (ap cond-kind e)) (λ e. compared Less (ap cond-kind e)) (two-ways (getD s at 0) 8 l (omega arith))
+
+  joined : (k : Cond → Cond → Cond) → cond-kind (getD s at 0) ≡ CondKind.join k → CondFront P s at rest (On (at + 1) (rest + 2))
+  joined k e = (behind (rest + 2) (omega arith), by-cond (CondKind.join k) (both rc rc t) e (forget-giving _ (both rc rc t)) ∙ row-join rc rc rest t ∙ row-more rc (suc rest) t ∙ ap (λ n. checked (repeat n rc t)) two)
+
+  pub cond-join : 10 ≤ getD s at 0 → getD s at 0 < 12 → CondFront P s at rest (On (at + 1) (rest + 2))
+  cond-join l u = ⊎-elim (λ e. joined And (ap cond-kind e)) (λ e. joined Or (ap cond-kind e)) (two-ways (getD s at 0) 10 l (omega arith))
+
+  pub cond-negate : getD s at 0 ≡ 12 → CondFront P s at rest (On (at + 1) (rest + 1))
+  cond-negate e = (behind (rest + 1) (omega arith), by-cond CondKind.negate (rc t) (ap cond-kind e) (forget-giving Not (rc t)) ∙ row-more rc rest t ∙ ap (λ n. checked (repeat n rc t)) one)
+
+  pub cond-always : getD s at 0 ≡ 13 → CondFront P s at rest (On (at + 1) rest)
+  unfolding then
+  cond-always e = (behind rest (omega arith), by-cond CondKind.always (taken True t) (ap cond-kind e) refl)
+
+  astray : cond-kind (getD s at 0) ≡ CondKind.wrong → CondFront P s at rest (Wrong 4)
+  unfolding then checked
+  astray e = sym (by-cond {B = Cond} CondKind.wrong (refused 4) e refl)
+
+  pub cond-low : getD s at 0 < 8 → CondFront P s at rest (Wrong 4)
+  cond-low l = astray (cond-other (getD s at 0) (λ e. omega arith) (λ e. omega arith) (λ e. omega arith) (λ e. omega arith) ((tt, λ e. omega arith), λ e. omega arith))
+
+  pub cond-high : OtherC (getD s at 0) → 12 ≤ getD s at 0 → CondFront P s at rest (Wrong 4)
+  cond-high o l = astray (cond-other (getD s at 0) (λ e. omega arith) (λ e. omega arith) (λ e. omega arith) (λ e. omega arith) o)
+
+pub ruleset fronts =
+    (operand-none, operand-some, operand-over, data-none, cond-none, data-undefined, data-constant, data-variable, data-pair, data-select, data-now, data-before, data-barred, data-high, cond-compare, cond-join, cond-negate, cond-always, cond-low, cond-high)
