@@ -10,19 +10,17 @@ use lib.Dec.{ltb}
 use lib.ListN.{length, drop, getD, drop-of-length-le}
 use lib.Seq.{drop-cons}
 use borrow.Author.Tests.{ne-eqb, lt-ltb, le-ltb, le-leb, lt-leb}
-use Rattle.eb3.specs.Expressions.{Data, Undefined, Cond, Args, Constant, Variable, Add, Subtract, If, Now, Before, Equal, Less, And, Or, Not, True}
+use Rattle.eb3.specs.Expressions.{Data, Undefined, Cond, Args, Constant, Variable, Add, Subtract, Now, Before, Equal, Less, And, Or, Not, True}
 use Rattle.eb3.specs.Scopes.{Scope}
 use Rattle.eb3.specs.Reading.{Read, refused, taken, Reader, pick, giving, then, both, number-of, by-number, number-in, repeat}
 use Rattle.eb3.specs.ExpressionReading.{DataKind, CondKind, data-kind, cond-kind, constant-of, args-of, data-by, cond-by, readers, read-data, read-cond}
-use Rattle.scan.specs.declared.Checked.the-variants.{Left, Refused}
 use Rattle.scan.specs.Checking.{checked}
-use Rattle.scan.specs.Laws.{checked-giving, then-checked}
-use Rattle.scan.specs.RowLaws.{repeat-next}
+use Rattle.scan.specs.Laws.{then-checked}
 use Rattle.grammar.specs.declared.Front.{Front}
 use Rattle.grammar.specs.declared.Front.the-variants.{On, Other, Wrong}
 use Rattle.grammar.specs.Fronts.{Behind, Operand, Facing, DataFront, CondFront}
 use Rattle.grammar.specs.Laws.{whole, data-case, cond-case}
-use Rattle.grammar.specs.RowLaws.{forget, forget-giving, then-forget, both-then, then-then, then-left, then-ended, row-step, row-join, row-more, one-left, two-left, led}
+use Rattle.grammar.specs.RowLaws.{forget, forget-giving, then-then, then-left, then-ended, row-step, row-join, row-more, one-left, two-left, led}
 
 -- ── a number in front ──
 

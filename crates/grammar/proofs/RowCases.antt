@@ -1,12 +1,12 @@
 -- The loop over a row of expressions: its invariant, and a case for each way that a turn or the loop ends.
-use Prim.Native.Nat.{ℕ, zero, suc, _+_, _-_, _≤_, _<_}
+use Prim.Native.Nat.{ℕ, suc, _+_, _-_, _≤_, _<_}
 use native.Mathlib.Omega.{arith}
 use mathlib.Core.Path.{_≡_, refl, sym, ap, subst, _∙_}
-use mathlib.Core.List.{List, [], _∷_}
+use mathlib.Core.List.{List}
 use lib.ListN.{length, take, drop, length-drop}
 use lib.Seq.{drop-drop}
 use Rattle.eb3.specs.Scopes.{Scope}
-use Rattle.eb3.specs.Reading.{Read, refused, taken, Reader, both, repeat}
+use Rattle.eb3.specs.Reading.{Reader, repeat}
 use Rattle.eb3.specs.ExpressionReading.{read-data, read-cond}
 use Rattle.scan.specs.declared.Checked.{Checked}
 use Rattle.scan.specs.declared.Checked.the-variants.{Left, Refused}
@@ -15,7 +15,7 @@ use Rattle.scan.specs.Laws.{Ends, part, tail-short, both-in, both-out}
 use Rattle.scan.specs.RowLaws.{passed, repeat-ends}
 use Rattle.grammar.specs.declared.Front.{Front}
 use Rattle.grammar.specs.declared.Front.the-variants.{On, Other, Wrong}
-use Rattle.grammar.specs.Fronts.{Behind, Facing}
+use Rattle.grammar.specs.Fronts.{Facing}
 use Rattle.grammar.specs.Laws.{data-ends, cond-ends}
 use Rattle.grammar.specs.RowLaws.{one-checked}
 

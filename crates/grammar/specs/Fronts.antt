@@ -5,7 +5,7 @@ use mathlib.Core.Path.{_≡_}
 use mathlib.Core.List.{List}
 use lib.ListN.{length, drop}
 use Rattle.eb3.specs.Scopes.{Scope}
-use Rattle.eb3.specs.Reading.{Read, refused, taken, Reader, giving, both, number-of, repeat}
+use Rattle.eb3.specs.Reading.{refused, taken, Reader, both, number-of, repeat}
 use Rattle.eb3.specs.ExpressionReading.{read-data, read-cond}
 use Rattle.scan.specs.declared.Checked.the-variants.{Refused}
 use Rattle.scan.specs.Checking.{checked}

@@ -1,15 +1,10 @@
 -- Laws of expressions in a row, for any reader: an operand of the same sort is one more expression of the row, and what was read is forgotten.
-use Prim.Native.Nat.{ℕ, zero, suc, _+_, _-_, _≤_, _<_}
-use native.Mathlib.Omega.{arith}
+use Prim.Native.Nat.{ℕ, suc}
 use mathlib.Core.Path.{_≡_, refl, sym, ap, _∙_}
-use mathlib.Core.List.{List, [], _∷_}
-use lib.ListN.{length, drop, length-drop}
-use lib.Seq.{drop-drop}
+use mathlib.Core.List.{List, []}
 use Rattle.eb3.specs.Reading.{Read, refused, taken, Reader, giving, then, both, repeat}
-use Rattle.scan.specs.declared.Checked.{Checked}
-use Rattle.scan.specs.declared.Checked.the-variants.{Left, Refused}
-use Rattle.scan.specs.Checking.{checked, last-of}
-use Rattle.scan.specs.Laws.{Ends, checked-giving, then-checked}
+use Rattle.scan.specs.Checking.{checked}
+use Rattle.scan.specs.Laws.{checked-giving, then-checked}
 use Rattle.scan.specs.RowLaws.{repeat-next}
 
 -- Only the words that are left, or the refusal.

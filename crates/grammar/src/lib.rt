@@ -23,7 +23,7 @@ pub struct Scope {
 
 // What stands in front of a row: the row goes on at a place, with so many expressions; an expression of the other sort
 // stands at a place; or a refusal.
-pub enum Front {
+enum Front {
     On(usize, usize),
     Other(usize),
     Wrong(u8),
@@ -70,7 +70,7 @@ fn data_front(s: &[u16], at: usize, rest: usize, c: Scope) -> Front
     }
 }
 
-// A condition with `rest` more behind it.
+// A condition with `rest` more behind it. No code of a condition depends on the scope; the contract names it for the data in it.
 fn cond_front(s: &[u16], at: usize, rest: usize, c: Scope) -> Front
     requires { ⌜ rest ≤ at + 1 ⌝ }
     ensures { λ r. ⌜ CondFront (scope c) (now (s .entry)) at rest r ⌝ }
