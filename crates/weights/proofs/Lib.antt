@@ -1,3 +1,4 @@
 pub mod Breadth
 pub mod Copies
 pub mod Fields
+pub mod Laying

@@ -1,7 +1,7 @@
 -- A weight is a measure of the specification, cut off at 65,536.
 use mathlib.Core.Bool.{Bool}
-use Prim.Native.Nat.{ℕ}
-use Rattle.eb3.specs.Measures.{sat, Measure, parallel-breadth-of}
+use Prim.Native.Nat.{ℕ, zero, suc}
+use Rattle.eb3.specs.Measures.{sat, Measure, parallel-breadth-of, star-of}
 use Rattle.weights.specs.declared.Weight.{Weight}
 use Prim.Native.Nat.{_+_}
 
@@ -16,8 +16,13 @@ weight m = record { size = m .size; reach = m .reach; breadth = m .breadth }
 
 -- A parallel's measure from its sides', by whether its mask is zero.
 abbrev pub parallel-by : Bool → Measure → Measure → Measure
-parallel-by zero l r = record {
+parallel-by none l r = record {
   size = sat cap (sat cap (5 + l .size) + r .size);
   reach = sat cap (sat cap (5 + l .reach) + r .reach);
-  breadth = parallel-breadth-of (sat cap) zero (l .breadth) (r .breadth);
+  breadth = parallel-breadth-of (sat cap) none (l .breadth) (r .breadth);
 }
+
+-- n stars around a term of that measure.
+unfoldable pub stars-of : ℕ → Measure → Measure
+stars-of zero m = m
+stars-of (suc n) m = star-of (sat cap) (stars-of n m)

@@ -5,7 +5,7 @@ ghost use mathlib.Core.Bool.{Bool};
 ghost use Prim.Native.Nat.{ℕ, _+_, _*_, _≤_, _<_, max, min};
 ghost use Rattle.eb3.specs.Unfolding.{right-nest};
 ghost use Rattle.eb3.specs.Measures.{sat, leaf, nothing, sequence-of, choice-of, star-of, parallel-breadth-of, guard-of};
-ghost use Rattle.weights.specs.Weighing.{measure, cap, parallel-by};
+ghost use Rattle.weights.specs.Weighing.{measure, cap, parallel-by, stars-of};
 
 pub struct Weight {
     pub size: u32,
@@ -157,6 +157,19 @@ pub fn parallels(n: usize, zero: bool, a: Weight) -> Weight
     while i < n {
         w = parallel(zero, a, w);
         i = i + 1;
+    }
+    w
+}
+
+// n stars, one around the other.
+pub fn stars(n: usize, a: Weight) -> Weight
+    ensures { λ r. ⌜ measure r ≡ stars-of n (measure a) ⌝ }
+{
+    let mut w = a;
+    let mut laid = 0;
+    while laid < n {
+        w = star(w);
+        laid = laid + 1;
     }
     w
 }
