@@ -18,18 +18,19 @@ use Rattle.rule_terms.specs.declared.Weighed.the-variants.{Found, Refuse
 use Rattle.rule_terms.specs.Weighed.{weighed}
 use Rattle.rule_terms.specs.Laws.{term-case}
 use Rattle.rule_terms.specs.WeighedLaws.{weighed-in}
-use Rattle.rule_terms.proofs.Parts.{terms, answer, two-first, two-second, two-both, pair-out, sequence-in, choice-in, star-out, star-in, parallel-none, parallel-out, parallel-in, copies-none, copies-out, copies-in}
-use Rattle.rule_terms.proofs.Binders.{guard-none, guard-out, guard-in, over-none, over-out, over-in, many-none, many-in}
+use Rattle.rule_terms.proofs.Parts.{terms, answer, pair-first, sides-first, pair-second, sides-second, sequence-in, choice-in, sides-in, parallel-none, parallel-in, copies-none, copies-out, copies-in}
+use Rattle.rule_terms.proofs.Binders.{guard-none, guard-out, guard-in, quantified-none, quantified-in}
 
 pub term-none : (T Γ s : List ℕ) → length s ≡ 0 → Refused 4 ≡ answer T (terms T Γ s)
 unfolding read-rule-term rule-terms weighed
 term-none T Γ s h = rw (nil-form s h)
 
+-- No code of a term but, since it was asked, a star.
 abbrev Other : ℕ → Type 0
-Other w = ((((((((((Unit {0} × (w ≡ 20 → ⊥)) × (w ≡ 21 → ⊥)) × (w ≡ 22 → ⊥)) × (w ≡ 23 → ⊥)) × (w ≡ 24 → ⊥)) × (w ≡ 25 → ⊥)) × (w ≡ 26 → ⊥)) × (w ≡ 27 → ⊥)) × (w ≡ 28 → ⊥)) × (w ≡ 29 → ⊥))
+Other w = (((((((((Unit {0} × (w ≡ 20 → ⊥)) × (w ≡ 21 → ⊥)) × (w ≡ 22 → ⊥)) × (w ≡ 23 → ⊥)) × (w ≡ 25 → ⊥)) × (w ≡ 26 → ⊥)) × (w ≡ 27 → ⊥)) × (w ≡ 28 → ⊥)) × (w ≡ 29 → ⊥))
 
-other-kind : (Γ : List ℕ) (w : ℕ) → Other w → rule-kind edition-1 Γ w ≡ RuleKind.wrong
-other-kind Γ w h = simp (ne-eqb w 20 (h .0 .0 .0 .0 .0 .0 .0 .0 .0 .1), ne-eqb w 21 (h .0 .0 .0 .0 .0 .0 .0 .0 .1), ne-eqb w 22 (h .0 .0 .0 .0 .0 .0 .0 .1), ne-eqb w 23 (h .0 .0 .0 .0 .0 .0 .1), ne-eqb w 24 (h .0 .0 .0 .0 .0 .1), ne-eqb w 25 (h .0 .0 .0 .0 .1), ne-eqb w 26 (h .0 .0 .0 .1), ne-eqb w 27 (h .0 .0 .1), ne-eqb w 28 (h .0 .1), ne-eqb w 29 (h .1))
+other-kind : (Γ : List ℕ) (w : ℕ) → (w ≡ 24 → ⊥) → Other w → rule-kind edition-1 Γ w ≡ RuleKind.wrong
+other-kind Γ w n h = simp (ne-eqb w 20 (h .0 .0 .0 .0 .0 .0 .0 .0 .1), ne-eqb w 21 (h .0 .0 .0 .0 .0 .0 .0 .1), ne-eqb w 22 (h .0 .0 .0 .0 .0 .0 .1), ne-eqb w 23 (h .0 .0 .0 .0 .0 .1), ne-eqb w 24 n, ne-eqb w 25 (h .0 .0 .0 .0 .1), ne-eqb w 26 (h .0 .0 .0 .1), ne-eqb w 27 (h .0 .0 .1), ne-eqb w 28 (h .0 .1), ne-eqb w 29 (h .1))
 
 -- s is the words, t those behind the first
 module _ (T Γ s t : List ℕ) (h : length s ≡ 0 → ⊥) (q : t ≡ drop 1 s) where
@@ -60,9 +61,6 @@ module _ (T Γ s t : List ℕ) (h : length s ≡ 0 → ⊥) (q : t ≡ drop 1 s)
     pub term-choice : getD s 0 0 ≡ 23 → p ≡ answer T (by (RuleKind.pair rule-choice)) → p ≡ answer T (terms T Γ s)
     term-choice e f = by-code 23 p e f
 
-    pub term-star : getD s 0 0 ≡ 24 → p ≡ answer T (by RuleKind.star) → p ≡ answer T (terms T Γ s)
-    term-star e f = by-code 24 p e f
-
     pub term-parallel : getD s 0 0 ≡ 25 → p ≡ answer T (by RuleKind.parallel) → p ≡ answer T (terms T Γ s)
     term-parallel e f = by-code 25 p e f
 
@@ -84,11 +82,11 @@ module _ (T Γ s t : List ℕ) (h : length s ≡ 0 → ⊥) (q : t ≡ drop 1 s)
   pub term-many-full : getD s 0 0 ≡ 28 → 8 ≤ length Γ → Refused 4 ≡ answer T (terms T Γ s)
   term-many-full e l = by-wrong (ap (rule-kind edition-1 Γ) e ∙ rw (le-ltb (length Γ) 8 l))
 
-  pub term-other : Other (getD s 0 0) → Refused 4 ≡ answer T (terms T Γ s)
-  term-other o = by-wrong (other-kind Γ (getD s 0 0) o)
+  pub term-other : (getD s 0 0 ≡ 24 → ⊥) → Other (getD s 0 0) → Refused 4 ≡ answer T (terms T Γ s)
+  term-other n o = by-wrong (other-kind Γ (getD s 0 0) n o)
 
-pub ruleset codes = (term-none, term-internal, term-action, term-sequence, term-choice, term-star, term-parallel, term-guard, term-over, term-many, term-over-full, term-many-full, term-call, term-other)
+pub ruleset codes = (term-none, term-internal, term-action, term-sequence, term-choice, term-parallel, term-guard, term-over, term-many, term-over-full, term-many-full, term-call, term-other)
 
-pub ruleset parts = (two-first, two-second, two-both, pair-out, sequence-in, choice-in, star-out, star-in, parallel-none, parallel-out, parallel-in, copies-none, copies-out, copies-in)
+pub ruleset parts = (pair-first, sides-first, pair-second, sides-second, sequence-in, choice-in, sides-in, parallel-none, parallel-in, copies-none, copies-out, copies-in)
 
-pub ruleset binders = (guard-none, guard-out, guard-in, over-none, over-out, over-in, many-none, many-in)
+pub ruleset binders = (guard-none, guard-out, guard-in, quantified-none, quantified-in)

@@ -3,3 +3,4 @@ mod Leaves
 mod Parts
 mod Binders
 mod Codes
+mod Stars

@@ -16,8 +16,7 @@ use Rattle.scan.specs.Laws.{Fine, tail-at, number-word}
 use Rattle.weights.specs.declared.Weight.{Weight}
 use Rattle.weights.specs.Weighing.{cap, measure, weight}
 use Rattle.rule_terms.specs.declared.Weighed.the-variants.{Found, Refused}
-use Rattle.rule_terms.specs.declared.Two.the-variants.{Both, Neither}
-use Rattle.rule_terms.specs.Weighed.{weighed, weighed-two}
+use Rattle.rule_terms.specs.Weighed.{weighed}
 
 -- What was read: n words are left, and they are the last of the words given.
 pub record Got {A : Type 0} (t : List ℕ) (n : ℕ) (r : Read A) : Type 0 where
@@ -68,20 +67,6 @@ module _ (R : RuleSet) (M : ℕ → Measure) where
   pub refused-in : (r : Read RuleTerm) (k : ℕ) → r ≡ refused k → Refused k ≡ weighed R M r
   unfolding weighed
   refused-in r k e = rw e
-
-  pub two-out : (r : Read (RuleTerm × RuleTerm)) (k : ℕ) → Neither k ≡ weighed-two R M r → r ≡ refused k
-  unfolding weighed-two
-  two-out (refused j) k e = cc
-  two-out (taken a u) k e = cc
-
-  pub two-got : (t : List ℕ) (n : ℕ) (v w : Weight) (r : Read (RuleTerm × RuleTerm)) → Fine t r → Both n v w ≡ weighed-two R M r → (g : Got t n r) × Measured v (g .value .0) × Measured w (g .value .1)
-  unfolding weighed-two
-  two-got t n v w (refused j) f e = absurd (let z : _≡_ {A = ℕ} 0 1 = cc in omega arith)
-  two-got t n v w (taken a u) f e =
-      let k : n ≡ length u = cc in
-      let l : v ≡ weight (measure-term (sat cap) R M (a .0)) = cc in
-      let m : w ≡ weight (measure-term (sat cap) R M (a .1)) = cc in
-      (record { value = a; rest = u; read = refl; left = k; words = ap (λ j. last-of j t) k ∙ tail-at u t f }, ap measure l, ap measure m)
 
 -- ── readers in a row, by what each read ──
 
