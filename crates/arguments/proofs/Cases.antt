@@ -1,7 +1,7 @@
 -- A case for each way that these functions return; the premises have the form of what the code tells there, so that `search` finds them.
 use Prim.Native.Nat.{ℕ, zero, suc, _+_, _-_, _*_, _^_, _%_, _≤_, _<_, min}
 use native.Mathlib.Nat.{one-mul, mod-eq-of-lt, pow-le-pow-right, lt-of-le-of-lt}
-use native.Mathlib.Numerals.{add-one, sub-one}
+use native.Mathlib.Numerals.{add-one}
 use native.Mathlib.Omega.{arith}
 use mathlib.Core.Path.{_≡_, refl, sym, ap, _∙_}
 use mathlib.Core.Bool.{true, false, _&&_}
@@ -12,15 +12,14 @@ use lib.Dec.{lit<, eqb}
 use borrow.Author.Tests.{lt-ltb, le-ltb, le-leb, lt-leb, eq-eqb, ne-eqb}
 use Rattle.scan.specs.declared.Checked.{Checked}
 use Rattle.scan.specs.declared.Checked.the-variants.{Left, Refused}
-use Rattle.scan.specs.Checking.{checked, last-of}
-use Rattle.scan.specs.Laws.{nil-form, part, number-ends, checked-giving, both-in, both-out}
+use Rattle.scan.specs.Checking.{checked}
+use Rattle.scan.specs.Laws.{nil-form, part}
 use Rattle.eb3.specs.Sizes.{zero-mask}
 use Rattle.eb3.specs.RuleSets.{domain-size}
-use Rattle.eb3.specs.Reading.{refused, pick, then, both, number-of, by-number, number-in}
-use Rattle.eb3.specs.TermReading.{mask-of}
-use Rattle.eb3.specs.RuleReading.{argument-of, arguments-of}
+use Rattle.eb3.specs.Reading.{refused, pick, then, number-of, by-number, number-in}
+use Rattle.eb3.specs.RuleReading.{argument-of}
 use Rattle.arguments.specs.Tables.{row, declared, constant-of-domain, variable-of-domain}
-use Rattle.arguments.specs.TableLaws.{domain-at, domain-beyond, argument-is, argument-ends}
+use Rattle.arguments.specs.TableLaws.{domain-at, domain-beyond, argument-is}
 
 -- ── the tables ──
 
@@ -67,23 +66,7 @@ limit-high n h =
     let m : min n 16 ≡ 16 = omega arith in
     ap (λ x. 2 ^ x) (sym m)
 
-pub mask-none : (k n : ℕ) (t : List ℕ) → k ≡ 0 → Left (length t) ≡ checked (mask-of k n t)
-unfolding mask-of checked
-mask-none k n t h = rw h
-
-mask-next : (k n : ℕ) (t : List ℕ) → (k ≡ 0 → ⊥) → checked (mask-of k n t) ≡ checked (both (number-of 5 (2 ^ min n 16)) (mask-of (k - 1) (n - 16)) t)
-unfolding mask-of
-mask-next zero n t h = absurd (h refl)
-mask-next (suc k) n t h = rw (checked-giving, sub-one (suc k))
-
-module _ (k n m : ℕ) (t : List ℕ) (p : Checked) (z : k ≡ 0 → ⊥) (d : m ≡ 2 ^ min n 16) (e : p ≡ checked (number-of 5 m t)) where
-  pub mask-out : (j : ℕ) → p ≡ Refused j → Refused j ≡ checked (mask-of k n t)
-  mask-out j h = both-out (number-of 5 (2 ^ min n 16)) (mask-of (k - 1) (n - 16)) t p j (rw (← d) e) h ∙ sym (mask-next k n t z)
-
-  pub mask-more : (r : List ℕ) (q : Checked) (i o : ℕ) → p ≡ Left i → r ≡ last-of i t → q ≡ checked (mask-of (k - 1) o r) → o ≡ n - 16 → q ≡ checked (mask-of k n t)
-  mask-more r q i o h l f g = both-in (number-of 5 (2 ^ min n 16)) (mask-of (k - 1) (n - 16)) t r p q i (number-ends 5 (2 ^ min n 16)) (rw (← d) e) h l (rw (← g) f) ∙ sym (mask-next k n t z)
-
-pub ruleset masks = (limit-low, limit-high, mask-none, mask-out, mask-more)
+pub ruleset masks = (limit-low, limit-high)
 
 -- A mask with i of its four words looked at, all of them zero.
 abbrev pub Zeros : List ℕ → ℕ → Type 0
@@ -185,21 +168,3 @@ module _ (T Γ : List ℕ) (d : ℕ) where
   argument-wrong s h o = by-code s (drop 1 s) (Refused 4) h refl (simp (ne-eqb (getD s 0 0) 1 (o .0 .1), ne-eqb (getD s 0 0) 2 (o .1)))
 
 pub ruleset an-argument = (constant-none, constant-over, constant-in, constant-out, variable-none, variable-unknown, variable-in, variable-other, argument-none, argument-constant, argument-variable, argument-wrong)
-
-pub arguments-none : (T Γ ds t : List ℕ) → length ds ≡ 0 → Left (length t) ≡ checked (arguments-of (declared T) Γ ds t)
-unfolding arguments-of checked
-arguments-none T Γ ds t h = rw (nil-form ds h)
-
--- x is the first domain
-module _ (T Γ : List ℕ) (x : ℕ) where
-  pub arguments-out : (ds t : List ℕ) (p : Checked) (k : ℕ) → (length ds ≡ 0 → ⊥) → x ≡ getD ds 0 0 → p ≡ checked (argument-of (declared T) Γ x t) → p ≡ Refused k → Refused k ≡ checked (arguments-of (declared T) Γ ds t)
-  unfolding arguments-of
-  arguments-out [] t p k h d e f = absurd (h refl)
-  arguments-out (y ∷ ds) t p k h d e f = rw checked-giving (both-out (argument-of (declared T) Γ y) (arguments-of (declared T) Γ ds) t p k (rw (← d) e) f)
-
-  pub arguments-more : (ds es t r : List ℕ) (p q : Checked) (n : ℕ) → (length ds ≡ 0 → ⊥) → x ≡ getD ds 0 0 → p ≡ checked (argument-of (declared T) Γ x t) → p ≡ Left n → r ≡ last-of n t → es ≡ drop 1 ds → q ≡ checked (arguments-of (declared T) Γ es r) → q ≡ checked (arguments-of (declared T) Γ ds t)
-  unfolding arguments-of
-  arguments-more [] es t r p q n h d e f l i j = absurd (h refl)
-  arguments-more (y ∷ ds) es t r p q n h d e f l i j = rw checked-giving (both-in (argument-of (declared T) Γ y) (arguments-of (declared T) Γ ds) t r p q n (argument-ends (declared T) Γ y) (rw (← d) e) f l (rw (← i) j))
-
-pub ruleset some-arguments = (arguments-none, arguments-out, arguments-more)

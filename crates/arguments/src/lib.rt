@@ -14,7 +14,6 @@ ghost use Rattle.arguments.specs.Tables.{row, declared, constant-of-doma
 use scan::Checked;
 use scan::behind;
 use scan::last;
-use scan::number;
 use scan::wide;
 
 // ── the tables ──
@@ -88,13 +87,19 @@ fn less_16(n: usize) -> usize
 pub fn check_mask(t: &[u16], k: usize, n: usize) -> Checked
     ensures { λ r. ⌜ r ≡ checked (mask-of k n (now (t .entry))) ⌝ }
 {
-    if k == 0 {
-        return Checked::Left(t.len());
+    let mut i = 0;
+    let mut left = n;
+    while i < k {
+        if t.len() <= i {
+            return Checked::Refused(4);
+        }
+        if mask_limit(left) <= wide(t[i]) {
+            return Checked::Refused(5);
+        }
+        left = less_16(left);
+        i = i + 1;
     }
-    match number(t, 5, mask_limit(n)) {
-        Checked::Left(m) => check_mask(last(t, m), k - 1, less_16(n)),
-        Checked::Refused(j) => Checked::Refused(j),
-    }
+    Checked::Left(t.len() - k)
 }
 
 // The four words in front are zero.
@@ -168,12 +173,20 @@ fn variable_argument(t: &[u16], vars: &[u16], d: usize) -> Checked
 pub fn check_arguments(t: &[u16], tb: &[u32], vars: &[u16], ds: &[u32]) -> Checked
     ensures { λ r. ⌜ r ≡ checked (arguments-of (declared (now (tb .entry))) (now (vars .entry)) (now (ds .entry)) (now (t .entry))) ⌝ }
 {
-    if ds.len() == 0 {
-        return Checked::Left(t.len());
+    let mut n = t.len();
+    let mut i = 0;
+    while i < ds.len() {
+        let d = wide32(ds[i]);
+        match check_argument(last(t, n), tb, vars, d) {
+            Checked::Left(m) => {
+                n = m;
+                i = i + 1;
+                continue;
+            }
+            Checked::Refused(k) => {
+                return Checked::Refused(k);
+            }
+        }
     }
-    let d = wide32(ds[0]);
-    match check_argument(t, tb, vars, d) {
-        Checked::Left(n) => check_arguments(last(t, n), tb, vars, &ds[1..]),
-        Checked::Refused(k) => Checked::Refused(k),
-    }
+    Checked::Left(n)
 }
