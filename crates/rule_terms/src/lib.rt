@@ -207,7 +207,8 @@ fn in_parallel(t: &[u16], tb: &[u32], vars: &[u16]) -> Weighed
     }
 }
 
-// A guard's condition, which names no function before.
+// A guard's condition, which names no function before. Apart from `guarded`, so that what it hands over shares its place in
+// the frame with what `operand` does.
 fn condition(t: &[u16], tb: &[u32], vars: &[u16]) -> Checked
     ensures { λ r. ⌜ r ≡ checked (read-cond 1 (guard-scope (attributes (declared (now (tb .entry)))) (length (now (vars .entry)))) (now (t .entry))) ⌝ }
 {
@@ -292,6 +293,8 @@ fn quantified(t: &[u16], tb: &[u32], vars: &[u16], masked: bool) -> Weighed
     }
 }
 
+// A choice, and a parallel: each calls `quantified`, which as a function with two callers keeps a frame of its own and takes
+// nothing of `check_term`'s.
 fn over(t: &[u16], tb: &[u32], vars: &[u16]) -> Weighed
     requires { ⌜ (length (now vars) < 8) × (length (now t) ≤ 65535) ⌝ }
     ensures { λ r. ⌜ r ≡ weighed (declared (now (tb .entry))) (callee (now (tb .entry))) (rule-by (declared (now (tb .entry))) (read-rule-term edition-1 (declared (now (tb .entry)))) (now (vars .entry)) RuleKind.choice-quantifier (now (t .entry))) ⌝ }
