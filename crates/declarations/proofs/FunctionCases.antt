@@ -1,6 +1,7 @@
 -- Functions: their expressions, and their cells. A case for each way that these functions return.
 use Prim.Native.Nat.{ℕ, zero, suc, _+_, _-_, _*_, _≤_, _<_}
-use native.Mathlib.Numerals.{add-one, sub-one}
+use native.Mathlib.Nat.{mul-le-mul}
+use native.Mathlib.Numerals.{sub-one}
 use native.Mathlib.Omega.{arith}
 use mathlib.Core.Path.{_≡_, refl, sym, ap, _∙_, subst}
 use mathlib.Core.List.{List, [], _∷_}
@@ -13,53 +14,22 @@ use Rattle.eb3.specs.Expressions.{Data}
 use Rattle.eb3.specs.RuleSets.{Function, domain-size}
 use Rattle.eb3.specs.Reading.{Read, refused, taken, Reader, giving, then, both, number-of, repeat, for-each, series}
 use Rattle.eb3.specs.ExpressionReading.{read-data}
-use Rattle.eb3.specs.RuleReading.{at-start-scope, at-label-scope, function-from, read-function}
+use Rattle.eb3.specs.RuleReading.{function-from, read-function}
 use Rattle.scan.specs.Checking.{checked, last-of}
-use Rattle.scan.specs.Laws.{Ends, Fine, tail-at, checked-giving, both-in, both-out, number-word}
-use Rattle.scan.specs.RowLaws.{for-each-next}
+use Rattle.scan.specs.Laws.{Fine, tail-at, both-in, both-out, number-word}
 use Rattle.grammar.specs.Laws.{data-ends}
-use Rattle.arguments.specs.Tables.{from, row, label-place, declared}
+use Rattle.arguments.specs.Tables.{row, declared}
 use Rattle.declarations.specs.declared.Counted.{Counted}
 use Rattle.declarations.specs.declared.Counted.the-variants.{Cells, Refused as CountRefused}
 use Rattle.declarations.specs.Entering.{labels-of, cells-of, all-cells, function-cells, functions-cells, cells-bound}
-use Rattle.declarations.specs.ScopeFacts.{one-each, at-start, at-label, start-scope, label-scope}
+use Rattle.declarations.specs.ScopeFacts.{one-each, at-start, start-scope}
 use Rattle.declarations.specs.FunctionLaws.{function-ends}
-
--- ── the expressions for labels ──
-
-abbrev for-label : ℕ → ℕ → List ℕ → Reader Data
-for-label n i ds = read-data 1 (at-label-scope edition-1 (replicate n 1) i (length ds))
-
-labels-next : (T : List ℕ) (k l : ℕ) → (k ≡ 0 → ⊥) → labels-of T l k ≡ row T (18 + 3 * l) ∷ labels-of T (l + 1) (k - 1)
-unfolding from
-labels-next T zero l z = absurd (z refl)
-labels-next T (suc k) l z = rw (sub-one (suc k), add-one l)
-
-pub later-none : (T t : List ℕ) (n i k l : ℕ) → k ≡ 0 → Left (length t) ≡ checked (for-each (labels-of T l k) (for-label n i) t)
-unfolding for-each from checked
-later-none T t n i k l z = rw z
-
--- R is the label's row
-module _ (T t R : List ℕ) (n i k l : ℕ) (p : Checked) (z : k ≡ 0 → ⊥) (g : R ≡ row T (18 + 3 * l)) (e : p ≡ checked (read-data 1 (at-label n i (length R)) t)) where
-  here : p ≡ checked (for-label n i (row T (18 + 3 * l)) t)
-  here = e ∙ ap (λ S. checked (read-data 1 S t)) (label-scope n i (length R)) ∙ ap (λ ds. checked (for-label n i ds t)) g
-
-  next : checked (both (for-label n i (row T (18 + 3 * l))) (for-each (labels-of T (l + 1) (k - 1)) (for-label n i)) t) ≡ checked (for-each (labels-of T l k) (for-label n i) t)
-  next = sym (for-each-next (row T (18 + 3 * l)) (labels-of T (l + 1) (k - 1)) (for-label n i) t) ∙ ap (λ ls. checked (for-each ls (for-label n i) t)) (sym (labels-next T k l z))
-
-  pub later-out : (j : ℕ) → p ≡ Refused j → Refused j ≡ checked (for-each (labels-of T l k) (for-label n i) t)
-  later-out j h = both-out (for-label n i (row T (18 + 3 * l))) (for-each (labels-of T (l + 1) (k - 1)) (for-label n i)) t p j here h ∙ next
-
-  pub later-in : (r : List ℕ) (q : Checked) (m : ℕ) → p ≡ Left m → r ≡ last-of m t → q ≡ checked (for-each (labels-of T (l + 1) (k - 1)) (for-label n i) r) → q ≡ checked (for-each (labels-of T l k) (for-label n i) t)
-  later-in r q m h s f = both-in (for-label n i (row T (18 + 3 * l))) (for-each (labels-of T (l + 1) (k - 1)) (for-label n i)) t r p q m (data-ends 1 _) here h s f ∙ next
+use Rattle.declarations.specs.Noting.{start-of, for-label, label-expressions, function-of}
 
 -- ── both kinds ──
 
-abbrev start-of : ℕ → ℕ → Reader Data
-start-of n i = read-data 1 (at-start-scope edition-1 (replicate n 1) i)
-
-abbrev labels-for : List ℕ → ℕ → ℕ → Reader (List Data)
-labels-for T n i = for-each (labels-of T 0 (getD T 17 0)) (for-label n i)
+abbrev pub labels-for : List ℕ → ℕ → ℕ → Reader (List Data)
+labels-for T n i = label-expressions T n i (getD T 17 0)
 
 module _ (T t : List ℕ) (n i : ℕ) (p : Checked) (e : p ≡ checked (read-data 1 (at-start i) t)) where
   start : p ≡ checked (start-of n i t)
@@ -71,8 +41,6 @@ module _ (T t : List ℕ) (n i : ℕ) (p : Checked) (e : p ≡ checked (read-dat
   -- a is the word read, x the number that it is
   pub expressions-in : (r : List ℕ) (q : Checked) (m a x : ℕ) → a ≡ getD T 17 0 → x ≡ a → p ≡ Left m → r ≡ last-of m t → q ≡ checked (for-each (labels-of T 0 x) (for-label n i) r) → q ≡ checked (both (start-of n i) (labels-for T n i) t)
   expressions-in r q m a x g w h s f = both-in (start-of n i) (labels-for T n i) t r p q m (data-ends 1 _) start h s (f ∙ ap (λ y. checked (for-each (labels-of T 0 y) (for-label n i) r)) (w ∙ g))
-
-pub ruleset expressing = (expressions-out, expressions-in)
 
 -- ── a function ──
 
@@ -88,10 +56,7 @@ no-parameter d j t e = go (number-of 5 d t) refl e
     go (refused k) i f = i ∙ (let k : k ≡ j = cc in ap refused k)
     go (taken a u) i f = absurd (let y : _≡_ {A = ℕ} 0 1 = cc in omega arith)
 
-abbrev function-of : List ℕ → ℕ → ℕ → Reader Function
-function-of T n = read-function edition-1 (getD T 0 0) (labels-of T 0 (getD T 17 0)) (replicate n 1)
-
-abbrev sizes-in : List ℕ → List ℕ
+abbrev pub sizes-in : List ℕ → List ℕ
 sizes-in T = declared T .domains
 
 function-is : (T t : List ℕ) (n i : ℕ) → function-of T n i t ≡ giving function-from (both (repeat 1 (number-of 5 (getD T 0 0))) (both (start-of n i) (labels-for T n i)) t)
@@ -99,7 +64,7 @@ unfolding read-function
 function-is T t n i = ap (λ c. giving function-from (both (repeat c (number-of 5 (getD T 0 0))) (both (start-of n i) (labels-for T n i)) t)) (one-each n i)
 
 -- with its parameter read
-function-on : (T t : List ℕ) (n i m : ℕ) → Left m ≡ checked (number-of 5 (getD T 0 0) t) → function-of T n i t ≡ giving function-from (giving (λ b. (getD t 0 0 ∷ [], b)) (both (start-of n i) (labels-for T n i) (last-of m t)))
+pub function-on : (T t : List ℕ) (n i m : ℕ) → Left m ≡ checked (number-of 5 (getD T 0 0) t) → function-of T n i t ≡ giving function-from (giving (λ b. (getD t 0 0 ∷ [], b)) (both (start-of n i) (labels-for T n i) (last-of m t)))
 unfolding both then
 function-on T t n i m e = function-is T t n i ∙ rw (one-parameter (getD T 0 0) m t e)
 
@@ -139,11 +104,18 @@ module _ (T t : List ℕ) (n i a d : ℕ) (p : Checked) (g : a ≡ getD T 0 0) (
 
 -- ── functions ──
 
+-- where a row begins
+pub place-small : (x i : ℕ) → x ≤ 64 → i < 65536 → (3 + x) * i ≤ 4390912
+place-small x i h k =
+    let a : 3 + x ≤ 67 = omega arith in
+    let b : i ≤ 65536 = omega arith in
+    mul-le-mul a b
+
 pub functions-none : (T t : List ℕ) (n k i : ℕ) → k ≡ 0 → Cells (length t) 0 ≡ functions-cells (sizes-in T) (series k i (function-of T n) t)
 unfolding series functions-cells all-cells
 functions-none T t n k i z = rw z
 
-functions-next : (T t : List ℕ) (n k i : ℕ) → (k ≡ 0 → ⊥) → series k i (function-of T n) t ≡ giving (λ p. p .0 ∷ p .1) (both (function-of T n i) (series (k - 1) (i + 1) (function-of T n)) t)
+pub functions-next : (T t : List ℕ) (n k i : ℕ) → (k ≡ 0 → ⊥) → series k i (function-of T n) t ≡ giving (λ p. p .0 ∷ p .1) (both (function-of T n i) (series (k - 1) (i + 1) (function-of T n)) t)
 unfolding series
 functions-next T t n zero i z = absurd (z refl)
 functions-next T t n (suc k) i z = rw (sub-one (suc k))
@@ -203,10 +175,11 @@ module _ (T t : List ℕ) (n k i : ℕ) (p : Counted) (z : k ≡ 0 → ⊥) (e :
     functions-in l d b = rw whole (sum-given (sizes-in T) (it .0) l c d _ (it .1 .1) (sym b ∙ others))
 
 -- no sum overflows
+pub one-bound : (p : Counted) (m c : ℕ) → p ≡ Cells m c → cells-bound p 1 → c ≤ 1 * 4294967296
+one-bound p m c h e = subst (λ x. cells-bound x 1) h e
+
 pub functions-bound : (p q : Counted) (m c l d k : ℕ) → (k ≡ 0 → ⊥) → p ≡ Cells m c → cells-bound p 1 → q ≡ Cells l d → cells-bound q (k - 1) → c + d ≤ k * 4294967296
 functions-bound p q m c l d k z h e b f =
-    let one : c ≤ 1 * 4294967296 = subst (λ x. cells-bound x 1) h e in
+    let one : c ≤ 1 * 4294967296 = one-bound p m c h e in
     let more : d ≤ (k - 1) * 4294967296 = subst (λ x. cells-bound x (k - 1)) b f in
     omega (arith, one, more)
-
-pub ruleset functioning = (function-out, function-stops, function-in, functions-none, functions-out, functions-stop, functions-in)

@@ -1,2 +1,4 @@
 mod Cases
 mod FunctionCases
+mod LaterCases
+mod NotingCases

@@ -8,3 +8,6 @@ pub mod Regions
 pub mod DeclaringLaws
 pub mod ProcessLaws
 pub mod SectionFacts
+pub mod Directory
+pub mod Noting
+pub mod DirectoryLaws

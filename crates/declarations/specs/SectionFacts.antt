@@ -3,8 +3,7 @@ use mathlib.Core.Path.{_≡_, refl, ap, sym, _∙_, subst}
 use mathlib.Core.List.{List, [], _∷_, _++_, map}
 use Prim.Native.Nat.{ℕ, zero, suc, _+_, _*_, _≤_, _<_}
 use native.Mathlib.Omega.{arith}
-use native.Mathlib.Decide.{decLt}
-use lib.ListN.{length, getD, set, replicate, length-append, length-map, getD-replicate, List·getD-eq-default, length-replicate}
+use lib.ListN.{length, getD, set, replicate, length-append, length-map}
 use Rattle.eb3.specs.Refusal
 use Rattle.eb3.specs.Generic.AllLists.{All, all-map}
 use Rattle.eb3.specs.Generic.Lists.{concat-map}
@@ -19,6 +18,7 @@ use Rattle.eb3.specs.ExpressionReading.{read-data}
 use Rattle.eb3.specs.RuleReading.{read-domains, count-for, at-start-scope, at-label-scope, function-from, read-function}
 use Rattle.eb3.specs.Laws.Reading.{Sound, number-sound, count-sound, repeat-sound, counted-sound}
 use Rattle.declarations.specs.Entering.{cells-of, all-cells}
+use Rattle.declarations.specs.ScopeFacts.{one-each}
 
 -- Labels: as many as were asked for, of at most two parameters each.
 pub labels-read : (n D : ℕ) (t u : List ℕ) (ls : List (List ℕ)) → repeat n (counted 0 2 (number-of Refusal.reference D)) t ≡ taken ls u → (length ls ≡ n) × All (λ l. length l ≤ 2) ls
@@ -41,13 +41,6 @@ domains-read t ds u e =
     words-length (d ∷ ds) = ap suc (words-length ds)
 
 -- Functions: as many as were asked for, of one parameter each.
-one-each : (n i : ℕ) → count-for (replicate n 1) i ≡ 1
-one-each n i = go (decLt i n)
-  where
-    go : Dec (i < n) → count-for (replicate n 1) i ≡ 1
-    go (yes h) = getD-replicate n i 1 1 h
-    go (no h) = List·getD-eq-default (replicate n 1) 1 (omega (arith, length-replicate {A = ℕ} n 1))
-
 abbrev IsTaken : {A : Type 0} → Read A → Type 0
 IsTaken (refused k) = ⊥
 IsTaken (taken a v) = Unit

@@ -1,17 +1,18 @@
-// A rule stream's domains, labels and functions, checked, with the tables that later sections are read by (document 01,
-// "Blocks and the rule stream", items 2 to 4; refusals 4 and 5).
+// A rule stream's domains, labels and functions, checked, with the tables that later sections are read by and the
+// directory of where each function's expressions stand (document 01, "Blocks and the rule stream", items 2 to 4; refusals
+// 4 and 5).
 ghost use mathlib.Core.Path.{_≡_};
 ghost use mathlib.Core.List.{List, [], _∷_, _++_};
-ghost use Prim.Native.Nat.{ℕ, _+_, _-_, _*_, _≤_, _<_};
-ghost use lib.ListN.{drop, take, getD, length, replicate};
+ghost use Prim.Native.Nat.{ℕ, _+_, _-_, _*_, _%_, _≤_, _<_};
+ghost use lib.ListN.{drop, take, getD, set, length};
 ghost use lib.Seq.{paste};
 ghost use Rattle.eb3.specs.Limits.{edition-1};
-ghost use Rattle.eb3.specs.Reading.{number-of, both, count-of, repeat, counted, for-each, series};
-ghost use Rattle.eb3.specs.ExpressionReading.{read-data};
-ghost use Rattle.eb3.specs.RuleReading.{read-domains, at-start-scope, at-label-scope, read-function};
+ghost use Rattle.eb3.specs.Reading.{number-of, count-of, repeat, counted};
+ghost use Rattle.eb3.specs.RuleReading.{read-domains};
 ghost use Rattle.scan.specs.Checking.{checked, last-of};
-ghost use Rattle.arguments.specs.Tables.{row, declared};
-ghost use Rattle.declarations.specs.Entering.{labels-of, Entered, function-cells, functions-cells, cells-bound};
+ghost use Rattle.declarations.specs.Entering.{Entered, cells-bound};
+ghost use Rattle.declarations.specs.Directory.{row-width};
+ghost use Rattle.declarations.specs.Noting.{LabelsNoted, ExpressionsNoted, FunctionNoted, FunctionsNoted};
 use arguments::entry;
 use arguments::row_at;
 use arguments::size_of;
@@ -125,68 +126,122 @@ pub fn enter_labels(t: &[u16], tb: &mut [u32], n: usize, at: usize, d: usize) ->
 
 // ── functions ──
 
-// The expressions of function i of n for k labels, from label l on.
-fn later(t: &[u16], tb: &[u32], n: usize, i: usize, k: usize, l: usize) -> Checked
-    requires { ⌜ k + l < 65536 ⌝ }
-    ensures { λ r. ⌜ r ≡ checked (for-each (labels-of (now (tb .entry)) l k) (λ ds. read-data 1 (at-label-scope edition-1 (replicate n 1) i (length ds))) (now (t .entry))) ⌝ }
+fn low32(x: usize) -> u32
+    ensures { λ r. ⌜ r ≡ x % 4294967296 ⌝ }
 {
-    if k == 0 {
-        return Checked::Left(t.len());
-    }
-    let c = Scope {
-        variables: 1 + row_at(tb, 18 + 3 * l).len(),
-        now: i,
-        before: n,
-    };
-    match check_data(t, c) {
-        Checked::Left(m) => later(last(t, m), tb, n, i, k - 1, l + 1),
-        Checked::Refused(j) => Checked::Refused(j),
+    (x % 4294967296) as u32
+}
+
+// The low 32 bits of x, at a place of the directory; nothing where there is no such place, so that a caller with no use
+// for a directory lends none.
+fn note(dir: &mut [u32], at: usize, x: usize)
+    ensures { λ _. ⌜ now (dir .exit) ≡ set (now (dir .entry)) at (x % 4294967296) ⌝ }
+{
+    if at < dir.len() {
+        dir[at] = low32(x);
+        return;
     }
 }
 
-// The expression of function i of n for the empty trace, and those for the labels.
-fn expressions(t: &[u16], tb: &[u32], n: usize, i: usize) -> Checked
-    requires { ⌜ getD (now tb) 17 0 ≤ 64 ⌝ }
-    ensures { λ r. ⌜ r ≡ checked (both (read-data 1 (at-start-scope edition-1 (replicate n 1) i)) (for-each (labels-of (now (tb .entry)) 0 (getD (now (tb .entry)) 17 0)) (λ ds. read-data 1 (at-label-scope edition-1 (replicate n 1) i (length ds)))) (now (t .entry))) ⌝ }
+// The expressions of function i of n for the first k labels, noted from the place at on.
+fn later(t: &[u16], tb: &[u32], dir: &mut [u32], n: usize, i: usize, k: usize, at: usize) -> Checked
+    requires { ⌜ (k < 65536) × (at < 4294967296) ⌝ }
+    ensures { λ r. ⌜ LabelsNoted (now (tb .entry)) n i k (now (t .entry)) (now (dir .entry)) at r (now (dir .exit)) ⌝ }
 {
+    let mut left = t.len();
+    let mut l = 0;
+    while l < k {
+        note(dir, at + l, left);
+        let c = Scope {
+            variables: 1 + row_at(tb, 18 + 3 * l).len(),
+            now: i,
+            before: n,
+        };
+        match check_data(last(t, left), c) {
+            Checked::Left(m) => {
+                left = m;
+            }
+            Checked::Refused(j) => {
+                return Checked::Refused(j);
+            }
+        }
+        l = l + 1;
+    }
+    Checked::Left(left)
+}
+
+// The expression of function i of n for the empty trace, and those for the labels, noted from the place at on.
+fn expressions(t: &[u16], tb: &[u32], dir: &mut [u32], n: usize, i: usize, at: usize) -> Checked
+    requires { ⌜ (getD (now tb) 17 0 ≤ 64) × (at < 4294967295) ⌝ }
+    ensures { λ r. ⌜ ExpressionsNoted (now (tb .entry)) n i (now (t .entry)) (now (dir .entry)) at r (now (dir .exit)) ⌝ }
+{
+    note(dir, at, t.len());
     let c = Scope {
         variables: 1,
         now: i,
         before: 0,
     };
     match check_data(t, c) {
-        Checked::Left(m) => later(last(t, m), tb, n, i, wide32(entry(tb, 17)), 0),
+        Checked::Left(m) => later(last(t, m), tb, dir, n, i, wide32(entry(tb, 17)), at + 1),
         Checked::Refused(j) => Checked::Refused(j),
     }
 }
 
-// One function: its parameter's domain, whose elements are its cells, and its expressions.
-fn function(t: &[u16], tb: &[u32], n: usize, i: usize) -> Counted
-    requires { ⌜ getD (now tb) 17 0 ≤ 64 ⌝ }
-    ensures { λ r. ⌜ (r ≡ function-cells (declared (now (tb .entry)) .domains) (read-function edition-1 (getD (now (tb .entry)) 0 0) (labels-of (now (tb .entry)) 0 (getD (now (tb .entry)) 17 0)) (replicate n 1) i (now (t .entry)))) × (cells-bound r 1) ⌝ }
+// One function, and its row of the directory from the place at on: its parameter's domain, whose elements are its cells,
+// which begin where those of the functions before it end, and its expressions.
+fn function(
+    t: &[u16],
+    tb: &[u32],
+    dir: &mut [u32],
+    n: usize,
+    i: usize,
+    at: usize,
+    begin: usize,
+) -> Counted
+    requires { ⌜ (getD (now tb) 17 0 ≤ 64) × (at < 4294967293) ⌝ }
+    ensures { λ r. ⌜ FunctionNoted (now (tb .entry)) n i (now (t .entry)) (now (dir .entry)) at begin r (now (dir .exit)) × cells-bound r 1 ⌝ }
 {
     match number(t, 5, wide32(entry(tb, 0))) {
-        Checked::Left(m) => match expressions(last(t, m), tb, n, i) {
-            Checked::Left(k) => {
-                let d = first(t);
-                Counted::Cells(k, size_of(tb, d))
+        Checked::Left(m) => {
+            let d = first(t);
+            let c = size_of(tb, d);
+            note(dir, at, c);
+            note(dir, at + 1, begin);
+            match expressions(last(t, m), tb, dir, n, i, at + 2) {
+                Checked::Left(k) => Counted::Cells(k, c),
+                Checked::Refused(j) => Counted::Refused(j),
             }
-            Checked::Refused(j) => Counted::Refused(j),
-        },
+        }
         Checked::Refused(j) => Counted::Refused(j),
     }
 }
 
-// k functions of n, from function i on.
-pub fn functions(t: &[u16], tb: &[u32], n: usize, k: usize, i: usize) -> Counted
-    requires { ⌜ (k + i < 65536) × (getD (now tb) 17 0 ≤ 64) ⌝ }
-    ensures { λ r. ⌜ (r ≡ functions-cells (declared (now (tb .entry)) .domains) (series k i (read-function edition-1 (getD (now (tb .entry)) 0 0) (labels-of (now (tb .entry)) 0 (getD (now (tb .entry)) 17 0)) (replicate n 1)) (now (t .entry)))) × (cells-bound r k) ⌝ }
+// Where function i's row begins in the directory.
+fn row_place(tb: &[u32], i: usize) -> usize
+    requires { ⌜ (i < 65536) × (getD (now tb) 17 0 ≤ 64) ⌝ }
+    ensures { λ r. ⌜ (r ≡ row-width (getD (now (tb .entry)) 17 0) * i) × (r ≤ 4390912) ⌝ }
+{
+    (3 + wide32(entry(tb, 17))) * i
+}
+
+// k functions of n, from function i on, whose cells begin at begin.
+pub fn functions(
+    t: &[u16],
+    tb: &[u32],
+    dir: &mut [u32],
+    n: usize,
+    k: usize,
+    i: usize,
+    begin: usize,
+) -> Counted
+    requires { ⌜ (k + i < 65536) × (getD (now tb) 17 0 ≤ 64) × (begin ≤ i * 4294967296) ⌝ }
+    ensures { λ r. ⌜ FunctionsNoted (now (tb .entry)) n k i (now (t .entry)) (now (dir .entry)) begin r (now (dir .exit)) × cells-bound r k ⌝ }
 {
     if k == 0 {
         return Counted::Cells(t.len(), 0);
     }
-    match function(t, tb, n, i) {
-        Counted::Cells(m, c) => match functions(last(t, m), tb, n, k - 1, i + 1) {
+    match function(t, tb, dir, n, i, row_place(tb, i), begin) {
+        Counted::Cells(m, c) => match functions(last(t, m), tb, dir, n, k - 1, i + 1, begin + c) {
             Counted::Cells(l, d) => Counted::Cells(l, c + d),
             Counted::Refused(j) => Counted::Refused(j),
         },
