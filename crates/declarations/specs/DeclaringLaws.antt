@@ -198,6 +198,10 @@ module _ (B : List ℕ) (at a b c d n : ℕ) where
     third = getD-set-other B₄ 211 (at + 7) n 0 (omega arith) ∙ getD-set-other B₃ (at + 8) (at + 7) d 0 (omega arith)
         ∙ getD-set-same B₂ (at + 7) c 0 (omega (arith, length-set B₁ (at + 6) b, length-set B (at + 5) a))
 
+    fourth : getD stored (at + 8) 0 ≡ d
+    fourth = getD-set-other B₄ 211 (at + 8) n 0 (omega arith)
+        ∙ getD-set-same B₃ (at + 8) d 0 (omega (arith, length-set B₂ (at + 7) c, length-set B₁ (at + 6) b, length-set B (at + 5) a))
+
     count : getD stored 211 0 ≡ n
     count = getD-set-same B₄ 211 n 0 (omega (arith, stored-length, length-set B₄ 211 n))
 
@@ -229,6 +233,10 @@ module _ (T : List ℕ) (p : ℕ) (l : List ℕ) (m : Measure) (left : ℕ) (sho
   entered-count : getD U 211 0 ≡ p + 1
   unfolding entered-process
   entered-count = count B (212 + 9 * p) (m .size) (m .reach) (m .breadth) left (p + 1) (omega arith) (omega (arith, B-length))
+
+  pub entered-left : getD U (212 + 9 * p + 8) 0 ≡ left
+  unfolding entered-process
+  entered-left = fourth B (212 + 9 * p) (m .size) (m .reach) (m .breadth) left (p + 1) (omega arith) (omega (arith, B-length))
 
   entered-measure : measure-row U p ≡ m
   unfolding entered-process

@@ -1,22 +1,30 @@
 -- Laws of the directory: what a reading took is found where it stood, and what keeps the places keeps what is found by them.
 use mathlib.Core.Path.{_≡_, refl, sym, ap, _∙_, subst}
 use mathlib.Core.List.{List, [], _∷_, _++_}
-use Prim.Native.Nat.{ℕ, suc, _+_, _-_, _%_, _≤_, _<_}
+use Prim.Native.Nat.{ℕ, suc, _+_, _*_, _-_, _%_, _≤_, _<_}
 use native.Mathlib.Omega.{arith}
-use lib.ListN.{length, getD, length-drop}
+use lib.ListN.{length, getD, length-drop, length-append}
 use Rattle.eb3.specs.Expressions.{Data}
 use Rattle.eb3.specs.Scopes.{Scope, data-in-scope}
-use Rattle.eb3.specs.RuleSets.{Function}
+use Rattle.eb3.specs.RuleSets.{Function, Process, RuleSet}
+use Rattle.eb3.specs.Generic.Lists.{concat-map}
+use Rattle.eb3.specs.Limits.{edition-1}
+use Rattle.eb3.specs.Refusal
 use Rattle.eb3.specs.Spelling.{data-words}
-use Rattle.eb3.specs.Reading.{Read, refused, taken, Reader, giving, then, both, for-each}
+use Rattle.eb3.specs.RuleSpelling.{one-word, counted-words, rule-words}
+use Rattle.eb3.specs.Reading.{Read, refused, taken, Reader, giving, then, both, number-of, counted, for-each}
 use Rattle.eb3.specs.ExpressionReading.{read-data}
-use Rattle.eb3.specs.Laws.Reading.{Sound, Sounds}
+use Rattle.eb3.specs.RuleReading.{read-rule-term, read-process}
+use Rattle.eb3.specs.Laws.Reading.{Sound, Sounds, number-sound, counted-sound}
+use Rattle.eb3.specs.Laws.RuleTermReading.{rule-term-sound}
 use Rattle.eb3.specs.Laws.ExpressionReading.{data-sound}
 use Rattle.scan.specs.declared.Checked.{Checked}
 use Rattle.scan.specs.declared.Checked.the-variants.{Left}
 use Rattle.scan.specs.Checking.{checked, last-of}
-use Rattle.scan.specs.Laws.{Tail, Fine, Ends, tail-at, tail-short}
-use Rattle.declarations.specs.Directory.{Stands, Standing, FunctionRow}
+use Rattle.scan.specs.Laws.{Tail, Fine, Ends, tail-at, tail-on, tail-short, number-ends}
+use Rattle.scan.specs.RowLaws.{counted-ends}
+use Rattle.arguments.specs.Tables.{process-place}
+use Rattle.declarations.specs.Directory.{Stands, Standing, FunctionRow, ProcessRows}
 
 -- ── readings that took something, taken apart ──
 
@@ -100,3 +108,42 @@ row-stays domains t D D′ at begin F h r = record {
   begins = h (at + 1) (omega arith) ∙ r .begins;
   expressions = standing-kept t D D′ (at + 2) (F .at-start ∷ F .at-label) (λ j b. h j (omega arith)) (r .expressions);
 }
+
+-- ── processes ──
+
+pub rows-kept : (t T T′ : List ℕ) (p : ℕ) (Ps : List Process) → ((j : ℕ) → 211 < j → j < 212 + 9 * (p + length Ps) → getD T′ j 0 ≡ getD T j 0) → ProcessRows t T p Ps → ProcessRows t T′ p Ps
+rows-kept t T T′ p [] h r = tt
+rows-kept t T T′ p (P ∷ Ps) h r = (
+  subst (λ n. Stands t n (rule-words 1 (P .term))) (sym (h (212 + 9 * p + 8) (omega arith) (omega arith))) (r .0),
+  rows-kept t T T′ (suc p) Ps (λ j a b. h j a (omega arith)) (r .1),
+)
+
+pub rows-more : (t T : List ℕ) (p : ℕ) (Ps : List Process) (P : Process) → ProcessRows t T p Ps → Stands t (getD T (process-place (p + length Ps) + 8) 0) (rule-words 1 (P .term)) → ProcessRows t T p (Ps ++ (P ∷ []))
+rows-more t T p [] P r h =
+    let e : p + 0 ≡ p = omega arith in
+    (subst (λ n. Stands t (getD T (process-place n + 8) 0) (rule-words 1 (P .term))) e h, tt)
+rows-more t T p (Q ∷ Ps) P r h =
+    let e : p + suc (length Ps) ≡ suc p + length Ps = omega arith in
+    (r .0, rows-more t T (suc p) Ps P (r .1) (subst (λ n. Stands t (getD T (process-place n + 8) 0) (rule-words 1 (P .term))) e h))
+
+-- Where a process was read, its term stands behind its parameters.
+pub term-stands : (R : RuleSet) (hi : ℕ) (whole t : List ℕ) (P : Process) (u : List ℕ) → R .width ≡ 1 → Tail t whole → read-process edition-1 R hi t ≡ taken P u
+    → Stands whole (length t - (getD t 0 0 + 1)) (rule-words 1 (P .term))
+unfolding read-process
+term-stands R hi whole t P u w tl e =
+    let h = then-took (counted 0 hi (number-of Refusal.reference (length (R .domains))) t) (λ ds v. giving (λ E. record { parameters = ds; term = E }) (read-rule-term edition-1 R ds v)) P u e in
+    let k = giving-taken (λ E. record { parameters = h .0; term = E }) (read-rule-term edition-1 R (h .0) (h .1)) P u (h .3) in
+    let s : (t ≡ counted-words one-word (h .0) ++ h .1) × _ = subst (Sound (counted-words one-word) _ t) (h .2) (counted-sound one-word (λ d. d < length (R .domains)) (number-of Refusal.reference (length (R .domains))) (number-sound Refusal.reference (length (R .domains))) 0 hi t) in
+    let v : Tail (h .1) t = subst (Fine t) (h .2) (counted-ends 0 hi (number-of Refusal.reference (length (R .domains))) (number-ends Refusal.reference (length (R .domains))) t) in
+    let n : length (h .1) ≡ length t - (getD t 0 0 + 1) = behind-parameters t (h .0) (h .1) (s .0) in
+    let st : Stands whole (length (h .1)) (rule-words (R .width) (k .0)) = stands-read (rule-words (R .width)) _ (read-rule-term edition-1 R (h .0)) (rule-term-sound edition-1 R (h .0)) whole (h .1) (k .0) u (tail-on (h .1) t whole tl v) (k .1) in
+    subst (λ (Q : Process). Stands whole (length t - (getD t 0 0 + 1)) (rule-words 1 (Q .term))) (sym (k .2)) (subst (λ m. Stands whole m (rule-words 1 (k .0))) n (subst (λ c. Stands whole (length (h .1)) (rule-words c (k .0))) w st))
+  where
+    words-length : (ds : List ℕ) → length (concat-map one-word ds) ≡ length ds
+    words-length [] = refl
+    words-length (d ∷ ds) = ap suc (words-length ds)
+
+    behind-parameters : (t ds v : List ℕ) → t ≡ counted-words one-word ds ++ v → length v ≡ length t - (getD t 0 0 + 1)
+    behind-parameters t ds v e =
+        let c : getD t 0 0 ≡ length ds = ap (λ l. getD l 0 0) e in
+        omega (arith, c, ap length e, length-append (concat-map one-word ds) v, words-length ds)

@@ -172,7 +172,7 @@ fn later(t: &[u16], tb: &[u32], dir: &mut [u32], n: usize, i: usize, k: usize, a
 
 // The expression of function i of n for the empty trace, and those for the labels, noted from the place at on.
 fn expressions(t: &[u16], tb: &[u32], dir: &mut [u32], n: usize, i: usize, at: usize) -> Checked
-    requires { ⌜ (getD (now tb) 17 0 ≤ 64) × (at < 4294967295) ⌝ }
+    requires { ⌜ (getD (now tb) 17 0 ≤ 64) × (at < 4294967000) ⌝ }
     ensures { λ r. ⌜ ExpressionsNoted (now (tb .entry)) n i (now (t .entry)) (now (dir .entry)) at r (now (dir .exit)) ⌝ }
 {
     note(dir, at, t.len());
@@ -198,7 +198,7 @@ fn function(
     at: usize,
     begin: usize,
 ) -> Counted
-    requires { ⌜ (getD (now tb) 17 0 ≤ 64) × (at < 4294967293) ⌝ }
+    requires { ⌜ (getD (now tb) 17 0 ≤ 64) × (at < 4294966000) ⌝ }
     ensures { λ r. ⌜ FunctionNoted (now (tb .entry)) n i (now (t .entry)) (now (dir .entry)) at begin r (now (dir .exit)) × cells-bound r 1 ⌝ }
 {
     match number(t, 5, wide32(entry(tb, 0))) {

@@ -92,7 +92,8 @@ fn admit_words(t: &[u16]) -> Admitted
     ensures { λ r. ⌜ r ≡ read-whole (now (t .entry)) ⌝ }
 {
     let mut tables = [0u32; 500];
-    match read(t, &mut tables) {
+    let mut none = [0u32; 0];
+    match read(t, &mut tables, &mut none) {
         Rules::Found(left, cells, w) => {
             if 254 <= left {
                 return Admitted::Refused(4);

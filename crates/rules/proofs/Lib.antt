@@ -1,2 +1,3 @@
 mod ProcessCases
 mod SectionCases
+mod FunctionCases

@@ -16,6 +16,8 @@ use Rattle.weights.specs.declared.Weight.{Weight}
 use Rattle.scan.specs.declared.Checked.{Checked}
 use Rattle.scan.specs.declared.Checked.the-variants.{Left, Refused as Checked·refused}
 use Rattle.scan.specs.Checking.{checked, last-of}
+use Rattle.scan.specs.Laws.{Tail, tail-on}
+use Rattle.scan.specs.RowLaws.{last-tail}
 use Rattle.rule_terms.specs.declared.Weighed.{Weighed}
 use Rattle.rule_terms.specs.declared.Weighed.the-variants.{Found, Refused}
 use Rattle.rule_terms.specs.Weighed.{weighed}
@@ -23,10 +25,11 @@ use Rattle.arguments.specs.Tables.{row, declared, callee}
 use Rattle.arguments.specs.TableLaws.{domains-length}
 use Rattle.declarations.specs.Declaring.{Declares, entered-process}
 use Rattle.declarations.specs.DeclaringLaws.{entered-length}
-use Rattle.declarations.specs.ProcessLaws.{Bounded, Narrow, entered-bounded}
+use Rattle.declarations.specs.ProcessLaws.{Bounded, entered-bounded}
 use Rattle.declarations.specs.Rows.{RowAt, numbers-row}
 use Rattle.rules.specs.Sections.{process-weighed, main-weighed}
-use Rattle.rules.specs.SectionLaws.{processes-refused, process-row-front, processes-last, processes-next}
+use Rattle.rules.specs.Filling.{ProcessesRead}
+use Rattle.rules.specs.SectionLaws.{processes-refused, process-row-front, last-answers, last-placed, next-answers, next-placed}
 
 pub limit-more : (n : ℕ) → (n ≡ 0 → ⊥) → 4 ≡ parameter-limit edition-1 n
 limit-more zero z = absurd (z refl)
@@ -95,14 +98,38 @@ room-3 B i j k a b c n h = room-1 (set (set B i a) j b) k c n (room-2 B i j a b 
 pub room-4 : (B : List ℕ) (i j k l a b c d n : ℕ) → n < length B → n < length (set (set (set (set B i a) j b) k c) l d)
 room-4 B i j k l a b c d n h = room-1 (set (set (set B i a) j b) k c) l d n (room-3 B i j k a b c n h)
 
+-- ── what the rest asks ──
+
+last-set : (T : List ℕ) (v : ℕ) (B : List ℕ) → length (set B 211 v) ≡ length T → 211 < length T → getD (set B 211 v) 211 0 ≡ v
+last-set T v B h k = getD-set-same B 211 v 0 (omega (arith, length-set B 211 v))
+
+pub next-asks : (T T′ t : List ℕ) (p left : ℕ) (w : Weight) → Bounded T → getD t 0 0 ≤ 4 → 212 + 9 * (p + 1) ≤ length T → T′ ≡ entered-process T p (take (getD t 0 0 + 1) t) (w .size) (w .reach) (w .breadth) left
+    → (length T′ ≡ length T) × (getD T′ 211 0 ≡ p + 1) × Bounded T′
+unfolding entered-process
+next-asks T T′ t p left w b few room e =
+    let short : length (take (getD t 0 0 + 1) t) ≤ 5 = omega (arith, length-take (getD t 0 0 + 1) t) in
+    let same : length T′ ≡ length T = ap length e ∙ entered-length T p (take (getD t 0 0 + 1) t) (measure w) left short room in
+    let same₁ = entered-length T p (take (getD t 0 0 + 1) t) (measure w) left short room in
+    (same, ap (λ l. getD l 211 0) e ∙ last-set T (p + 1) (set (set (set (set (paste T (212 + 9 * p) (take (getD t 0 0 + 1) t) (length (take (getD t 0 0 + 1) t))) (212 + 9 * p + 5) (w .size)) (212 + 9 * p + 6) (w .reach)) (212 + 9 * p + 7) (w .breadth)) (212 + 9 * p + 8) left) same₁ (omega arith), subst Bounded (sym e) (entered-bounded T p (take (getD t 0 0 + 1) t) (measure w) left short room b))
+
 -- ── all of them ──
 
+-- What is refused was not taken.
+unread : (r : Read RuleSet) (k : ℕ) (Q : RuleSet) (u : List ℕ) → Refused k ≡ main-weighed r → r ≡ taken Q u → ⊥
+unfolding main-weighed
+unread r k Q u e f =
+    let o : Refused k ≡ main-weighed (taken Q u) = e ∙ ap main-weighed f in
+    let z : _≡_ {A = ℕ} 0 1 = cc in
+    omega arith
+
 module _ (T t : List ℕ) (hi : ℕ) (q : Weighed) (e : q ≡ process-weighed (declared T) (callee T) (read-process edition-1 (declared T) hi t)) where
-  pub all-refused : (n k : ℕ) → 1 ≤ n → hi ≡ parameter-limit edition-1 (n - 1) → q ≡ Refused k → (R : RuleSet) → Declares T R → Narrow R → Refused k ≡ main-weighed (read-processes edition-1 n R t)
-  all-refused zero k l h f R d narrow = absurd (let z : ⊥ = omega arith in z)
-  all-refused (suc n) k l h f R d narrow =
+  pub all-refused : (n k : ℕ) → 1 ≤ n → hi ≡ parameter-limit edition-1 (n - 1) → q ≡ Refused k → ProcessesRead t T n (Refused k) T
+  all-refused zero k l h f = absurd (let z : ⊥ = omega arith in z)
+  all-refused (suc n) k l h f =
       let z : hi ≡ parameter-limit edition-1 n = h ∙ ap (parameter-limit edition-1) (sub-one (suc n)) in
-      processes-refused T t n k (sym f ∙ e ∙ ap (λ j. process-weighed (declared T) (callee T) (read-process edition-1 (declared T) j t)) z) R d
+      let a : (R : RuleSet) → Declares T R → Refused k ≡ main-weighed (read-processes edition-1 (suc n) R t) =
+      processes-refused T t n k (sym f ∙ e ∙ ap (λ j. process-weighed (declared T) (callee T) (read-process edition-1 (declared T) j t)) z) in
+      record { answer = λ R d narrow. a R d; same-length = refl; placed = λ whole R Q u tl p narrow g. absurd (unread (read-processes edition-1 (suc n) R t) k Q u (a R (p .declares)) g) }
 
   module _ (n m : ℕ) (w : Weight) (h : hi ≡ parameter-limit edition-1 n) (f : q ≡ Found m w) where
     was : Found m w ≡ process-weighed (declared T) (callee T) (read-process edition-1 (declared T) (parameter-limit edition-1 n) t)
@@ -113,38 +140,40 @@ module _ (T t : List ℕ) (hi : ℕ) (q : Weighed) (e : q ≡ process-weighed (d
         let r = process-row-front T t n m w was in
         (omega (arith, r .0, h), r .1)
 
-    last-of-all : n ≡ 0 → (R : RuleSet) → Declares T R → Found m w ≡ main-weighed (read-processes edition-1 (suc n) R t)
-    last-of-all z R d = processes-last T t n m w was R d z
+    -- x is the word read
+    module _ (p x : ℕ) (T′ : List ℕ) (small : hi ≤ 4) (b : Bounded T) (count : getD T 211 0 ≡ p) (room : 212 + 9 * (p + 1) ≤ length T) (i : x ≡ getD t 0 0)
+        (en : T′ ≡ entered-process T p (take (getD t 0 0 + 1) t) (w .size) (w .reach) (w .breadth) (length t - (x + 1))) where
+      entered : T′ ≡ entered-process T p (take (getD t 0 0 + 1) t) (w .size) (w .reach) (w .breadth) (length t - (getD t 0 0 + 1))
+      entered = en ∙ ap (λ y. entered-process T p (take (getD t 0 0 + 1) t) (w .size) (w .reach) (w .breadth) (length t - (y + 1))) i
 
-    next-of-all : (left p : ℕ) (T′ r : List ℕ) (v : Weighed) → Bounded T → getD T 211 0 ≡ p → 212 + 9 * (p + 1) ≤ length T
-        → T′ ≡ entered-process T p (take (getD t 0 0 + 1) t) (w .size) (w .reach) (w .breadth) left → r ≡ last-of m t
-        → ((Q : RuleSet) → Declares T′ Q → Narrow Q → v ≡ main-weighed (read-processes edition-1 n Q r)) → (R : RuleSet) → Declares T R → Narrow R → v ≡ main-weighed (read-processes edition-1 (suc n) R t)
-    next-of-all left p T′ r v b count room entered rest next R d narrow = processes-next T t n m w was R d left T′ r v p b narrow count room entered rest next
+      asks : (length T′ ≡ length T) × (getD T′ 211 0 ≡ p + 1) × Bounded T′
+      asks = next-asks T T′ t p (length t - (x + 1)) w b (all-front small .0) room en
 
-  pub all-last : (n m : ℕ) (w : Weight) → n ≡ 1 → hi ≡ parameter-limit edition-1 (n - 1) → q ≡ Found m w → (R : RuleSet) → Declares T R → Narrow R → Found m w ≡ main-weighed (read-processes edition-1 n R t)
-  all-last n m w o h f R d narrow =
+      one-last : n ≡ 0 → ProcessesRead t T (suc n) (Found m w) T′
+      one-last z = record {
+        answer = λ R d narrow. last-answers T t n m w was R d p T′ b narrow count room entered z;
+        same-length = asks .0;
+        placed = λ whole R Q u tl o narrow g. last-placed T t n m w was R (o .declares) p T′ b narrow count room entered z whole Q u tl (o .rows) g;
+      }
+
+      one-next : (r T″ : List ℕ) (v : Weighed) → r ≡ last-of m t → ProcessesRead r T′ n v T″ → ProcessesRead t T (suc n) v T″
+      one-next r T″ v rest next = record {
+        answer = λ R d narrow. next-answers T t n m w was R d p T′ b narrow count room entered r rest v (next .answer);
+        same-length = next .same-length ∙ asks .0;
+        placed = λ whole R Q u tl o narrow g. next-placed T t n m w was R (o .declares) p T′ b narrow count room entered r rest T″ whole Q u tl (o .rows) g
+            (λ P S y z k. next .placed whole P S u (tail-on r t whole tl (subst (λ y. Tail y t) (sym rest) (last-tail m t))) y z k);
+      }
+
+  pub all-last : (n m p x : ℕ) (w : Weight) (T′ : List ℕ) → n ≡ 1 → hi ≡ parameter-limit edition-1 (n - 1) → hi ≤ 4 → q ≡ Found m w → Bounded T → getD T 211 0 ≡ p → 212 + 9 * (n + p) ≤ length T → x ≡ getD t 0 0
+      → T′ ≡ entered-process T p (take (getD t 0 0 + 1) t) (w .size) (w .reach) (w .breadth) (length t - (x + 1)) → ProcessesRead t T n (Found m w) T′
+  all-last n m p x w T′ o h small f b count room i en =
       let z : n - 1 ≡ 0 = omega arith in
-      last-of-all 0 m w (h ∙ ap (parameter-limit edition-1) z) f refl R d ∙ ap (λ j. main-weighed (read-processes edition-1 j R t)) (sym o)
+      subst (λ y. ProcessesRead t T y (Found m w) T′) (sym o) (one-last 0 m w (h ∙ ap (parameter-limit edition-1) z) f p x T′ small b count (omega arith) i en refl)
 
-  pub all-next : (n m left p : ℕ) (w : Weight) (T′ r : List ℕ) (v : Weighed) → 1 ≤ n → (n ≡ 1 → ⊥) → hi ≡ parameter-limit edition-1 (n - 1) → q ≡ Found m w → Bounded T → getD T 211 0 ≡ p → 212 + 9 * (n + p) ≤ length T
-      → T′ ≡ entered-process T p (take (getD t 0 0 + 1) t) (w .size) (w .reach) (w .breadth) left → r ≡ last-of m t
-      → ((Q : RuleSet) → Declares T′ Q → Narrow Q → v ≡ main-weighed (read-processes edition-1 (n - 1) Q r)) → (R : RuleSet) → Declares T R → Narrow R → v ≡ main-weighed (read-processes edition-1 n R t)
-  all-next zero m left p w T′ r v l o h f b count room entered rest next = absurd (let z : ⊥ = omega arith in z)
-  all-next (suc n) m left p w T′ r v l o h f b count room entered rest next =
-      next-of-all n m w (h ∙ ap (parameter-limit edition-1) (sub-one (suc n))) f left p T′ r v b count (omega arith) entered rest
-      (λ Q d narrow. next Q d narrow ∙ ap (λ j. main-weighed (read-processes edition-1 j Q r)) (sub-one (suc n)))
+  pub all-next : (n m p x : ℕ) (w : Weight) (T′ r T″ : List ℕ) (v : Weighed) → 1 ≤ n → hi ≡ parameter-limit edition-1 (n - 1) → hi ≤ 4 → q ≡ Found m w → Bounded T → getD T 211 0 ≡ p → 212 + 9 * (n + p) ≤ length T → x ≡ getD t 0 0
+      → T′ ≡ entered-process T p (take (getD t 0 0 + 1) t) (w .size) (w .reach) (w .breadth) (length t - (x + 1)) → r ≡ last-of m t → ProcessesRead r T′ (n - 1) v T″ → ProcessesRead t T n v T″
+  all-next zero m p x w T′ r T″ v l h small f b count room i en rest next = absurd (let z : ⊥ = omega arith in z)
+  all-next (suc n) m p x w T′ r T″ v l h small f b count room i en rest next =
+      one-next n m w (h ∙ ap (parameter-limit edition-1) (sub-one (suc n))) f p x T′ small b count (omega arith) i en r T″ v rest (subst (λ y. ProcessesRead r T′ y v T″) (sub-one (suc n)) next)
 
-last-set : (T : List ℕ) (v : ℕ) (B : List ℕ) → length (set B 211 v) ≡ length T → 211 < length T → getD (set B 211 v) 211 0 ≡ v
-last-set T v B h k = getD-set-same B 211 v 0 (omega (arith, length-set B 211 v))
-
--- What the rest asks.
-pub next-asks : (T T′ t : List ℕ) (p left : ℕ) (w : Weight) → Bounded T → getD t 0 0 ≤ 4 → 212 + 9 * (p + 1) ≤ length T → T′ ≡ entered-process T p (take (getD t 0 0 + 1) t) (w .size) (w .reach) (w .breadth) left
-    → (length T′ ≡ length T) × (getD T′ 211 0 ≡ p + 1) × Bounded T′
-unfolding entered-process
-next-asks T T′ t p left w b few room e =
-    let short : length (take (getD t 0 0 + 1) t) ≤ 5 = omega (arith, length-take (getD t 0 0 + 1) t) in
-    let same : length T′ ≡ length T = ap length e ∙ entered-length T p (take (getD t 0 0 + 1) t) (measure w) left short room in
-    let same₁ = entered-length T p (take (getD t 0 0 + 1) t) (measure w) left short room in
-    (same, ap (λ l. getD l 211 0) e ∙ last-set T (p + 1) (set (set (set (set (paste T (212 + 9 * p) (take (getD t 0 0 + 1) t) (length (take (getD t 0 0 + 1) t))) (212 + 9 * p + 5) (w .size)) (212 + 9 * p + 6) (w .reach)) (212 + 9 * p + 7) (w .breadth)) (212 + 9 * p + 8) left) same₁ (omega arith), subst Bounded (sym e) (entered-bounded T p (take (getD t 0 0 + 1) t) (measure w) left short room b))
-
-pub ruleset processing = (process-in, process-out, all-refused, all-last, all-next)
+pub ruleset processing = (process-in, process-out)

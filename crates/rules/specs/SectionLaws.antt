@@ -1,28 +1,34 @@
 -- One process read and entered, then the rest: what the check of the processes answers, case by case.
 use mathlib.Core.Path.{_≡_, refl, ap, sym, _∙_, subst}
-use mathlib.Core.List.{List, [], _∷_, _++_}
+use mathlib.Core.List.{List, [], _∷_}
 use Prim.Native.Nat.{ℕ, zero, suc, _+_, _-_, _*_, _≤_}
 use native.Mathlib.Omega.{arith}
-use lib.ListN.{length, getD, take, drop, length-append}
+use lib.ListN.{length, getD, take, length-append}
 use Rattle.eb3.specs.Limits.{edition-1}
 use Rattle.eb3.specs.RuleSets.{Process, RuleSet, main-process, process}
 use Rattle.eb3.specs.Measures.{sat, Measure, measure-term, row-of, measure-main}
 use Rattle.eb3.specs.Laws.Signatures.{own-measure}
 use Rattle.eb3.specs.Refusal
 use Rattle.eb3.specs.Reading.{Read, refused, taken, then, counted, number-of}
+use Rattle.eb3.specs.RuleSpelling.{rule-words}
 use Rattle.eb3.specs.RuleReading.{parameter-limit, read-rule-term, read-process, with-process, read-processes}
 use Rattle.weights.specs.Weighing.{cap, measure, weight}
 use Rattle.weights.specs.declared.Weight.{Weight}
 use Rattle.scan.specs.Checking.{last-of}
-use Rattle.scan.specs.Laws.{Fine, Ends, then-fine, giving-fine, tail-at, tail-short, number-ends}
+use Rattle.scan.specs.Laws.{Tail, Fine, Ends, then-fine, giving-fine, tail-at, tail-short, number-ends}
 use Rattle.scan.specs.RowLaws.{counted-ends}
 use Rattle.rule_terms.specs.Laws.{term-ends}
 use Rattle.rule_terms.specs.declared.Weighed.{Weighed}
 use Rattle.rule_terms.specs.declared.Weighed.the-variants.{Found, Refused}
 use Rattle.arguments.specs.Tables.{declared, callee}
+use Rattle.arguments.specs.TableLaws.{width-declared}
 use Rattle.declarations.specs.Declaring.{Declares, entered-process}
+use Rattle.declarations.specs.DeclaringLaws.{entered-before, entered-left}
+use Rattle.declarations.specs.Directory.{Stands, ProcessRows}
+use Rattle.declarations.specs.DirectoryLaws.{rows-kept, rows-more, term-stands}
 use Rattle.declarations.specs.Regions.{count-of-same}
 use Rattle.declarations.specs.ProcessLaws.{process-alike, term-alike, Front, process-front, Bounded, Narrow, narrow-next, next-declares}
+use Rattle.rules.specs.Filling.{Placed}
 use Rattle.rules.specs.Sections.{process-weighed, main-weighed}
 
 abbrev IsFound : Weighed → Type 0
@@ -75,6 +81,9 @@ main-read R P =
     let n : main-process (with-process R P) ≡ length (R .processes) = omega (arith, length-append (R .processes) (P ∷ [])) in
     (λ i. measure-term (sat cap) (with-process R P) (row-of (sat cap) (with-process R P) (n i)) (process (with-process R P) (n i) .term)) ∙ own-measure (sat cap) R P
 
+same-taken : (a b : RuleSet) (u v : List ℕ) → taken a u ≡ taken b v → a ≡ b
+same-taken a b u v e = cc
+
 module _ (T t : List ℕ) (n : ℕ) where
   abbrev first-process : Read Process
   first-process = read-process edition-1 (declared T) (parameter-limit edition-1 n) t
@@ -105,26 +114,72 @@ module _ (T t : List ℕ) (n : ℕ) where
       weighs : measure w ≡ measure-term (sat cap) R (row-of (sat cap) R (length (R .processes))) (got .0 .term)
       weighs = got .4 ∙ term-alike T R d (got .0 .term)
 
-      -- the last: it is main;
-      pub processes-last : n ≡ 0 → Found m w ≡ main-weighed (read-processes edition-1 (suc n) R t)
-      unfolding read-processes then main-weighed
-      processes-last z =
-          let q : Found m w ≡ main-weighed (taken (with-process R (got .0)) (got .1)) = λ i. Found (got .3 i) (weight ((weighs ∙ sym (main-read R (got .0))) i)) in
-          q ∙ (ap (λ k. main-weighed (read-processes edition-1 k (with-process R (got .0)) (got .1))) (sym z)
-          ∙ sym (ap (λ r. main-weighed (then r λ P. read-processes edition-1 n (with-process R P))) read-behind))
-
-      -- or one of several: the others behind it, by the tables with it entered.
-      pub processes-next : (left : ℕ) (T′ r : List ℕ) (q : Weighed) (p : ℕ) → Bounded T → Narrow R → getD T 211 0 ≡ p → 212 + 9 * (p + 1) ≤ length T
-          → T′ ≡ entered-process T p (take (getD t 0 0 + 1) t) (w .size) (w .reach) (w .breadth) left → r ≡ last-of m t
-          → ((Q : RuleSet) → Declares T′ Q → Narrow Q → q ≡ main-weighed (read-processes edition-1 n Q r)) → q ≡ main-weighed (read-processes edition-1 (suc n) R t)
+      rest-reads : read-processes edition-1 (suc n) R t ≡ read-processes edition-1 n (with-process R (got .0)) (got .1)
       unfolding read-processes then
-      processes-next left T′ r q p b narrow count room entered rest next =
-          let f = process-front (declared T) (parameter-limit edition-1 n) t (got .0) (got .1) (got .2) in
-          let four : length (got .0 .parameters) ≤ 4 = limit-four n (length (got .0 .parameters)) (f .few) in
-          let c : length (R .processes) ≡ p = sym (count-of-same T (R .processes) (d .same-processes)) ∙ count in
-          let t′ : T′ ≡ entered-process T (length (R .processes)) (length (got .0 .parameters) ∷ got .0 .parameters) (w .size) (w .reach) (w .breadth) left =
-          entered ∙ (λ i. entered-process T (sym c i) (f .front i) (w .size) (w .reach) (w .breadth) left) in
-          let d′ = next-declares T R (got .0) (measure w) left d b narrow (omega (arith, c)) four weighs in
-          next (with-process R (got .0)) (subst (λ S. Declares S (with-process R (got .0))) (sym t′) d′) (narrow-next R (got .0) narrow four)
-          ∙ (ap (λ u. main-weighed (read-processes edition-1 n (with-process R (got .0)) u)) (rest ∙ sym (process-left (declared T) (parameter-limit edition-1 n) t (got .0) (got .1) m (got .2) (got .3)))
-          ∙ sym (ap (λ r. main-weighed (then r λ P. read-processes edition-1 n (with-process R P))) read-behind))
+      rest-reads = ap (λ r. then r λ P. read-processes edition-1 n (with-process R P)) read-behind
+
+      -- Entered, it is declared with the others, and its term stands behind its parameters.
+      module _ (p : ℕ) (T′ : List ℕ) (b : Bounded T) (narrow : Narrow R) (count : getD T 211 0 ≡ p) (room : 212 + 9 * (p + 1) ≤ length T)
+          (entered : T′ ≡ entered-process T p (take (getD t 0 0 + 1) t) (w .size) (w .reach) (w .breadth) (length t - (getD t 0 0 + 1))) where
+        abbrev head : List ℕ
+        head = length (got .0 .parameters) ∷ got .0 .parameters
+
+        f : Front (parameter-limit edition-1 n) t (got .0)
+        f = process-front (declared T) (parameter-limit edition-1 n) t (got .0) (got .1) (got .2)
+
+        four : length (got .0 .parameters) ≤ 4
+        four = limit-four n (length (got .0 .parameters)) (f .few)
+
+        c : length (R .processes) ≡ p
+        c = sym (count-of-same T (R .processes) (d .same-processes)) ∙ count
+
+        enough : 212 + 9 * (length (R .processes) + 1) ≤ length T
+        enough = omega (arith, c)
+
+        there : T′ ≡ entered-process T (length (R .processes)) head (w .size) (w .reach) (w .breadth) (length t - (getD t 0 0 + 1))
+        there = entered ∙ (λ i. entered-process T (sym c i) (f .front i) (w .size) (w .reach) (w .breadth) (length t - (getD t 0 0 + 1)))
+
+        grown : Declares T′ (with-process R (got .0))
+        grown = subst (λ S. Declares S (with-process R (got .0))) (sym there) (next-declares T R (got .0) (measure w) (length t - (getD t 0 0 + 1)) d b narrow enough four weighs)
+
+        grown-narrow : Narrow (with-process R (got .0))
+        grown-narrow = narrow-next R (got .0) narrow four
+
+        grown-placed : (whole : List ℕ) → Tail t whole → ProcessRows whole T 0 (R .processes) → Placed whole T′ (with-process R (got .0))
+        grown-placed whole tl rows =
+            let short : length head ≤ 5 = omega (arith, four) in
+            let kept : ProcessRows whole T′ 0 (R .processes) = rows-kept whole T T′ 0 (R .processes)
+            (λ j o q. ap (λ S. getD S j 0) there ∙ entered-before T (length (R .processes)) head (measure w) (length t - (getD t 0 0 + 1)) short enough j (omega arith) (omega arith)) rows in
+            let place : getD T′ (212 + 9 * (0 + length (R .processes)) + 8) 0 ≡ length t - (getD t 0 0 + 1) =
+            let z : 212 + 9 * (0 + length (R .processes)) + 8 ≡ 212 + 9 * length (R .processes) + 8 = omega arith in
+            (λ i. getD (there i) (z i) 0) ∙ entered-left T (length (R .processes)) head (measure w) (length t - (getD t 0 0 + 1)) short enough in
+            record {
+              declares = grown;
+              rows = rows-more whole T′ 0 (R .processes) (got .0) kept
+                  (subst (λ m. Stands whole m (rule-words 1 (got .0 .term))) (sym place) (term-stands (declared T) (parameter-limit edition-1 n) whole t (got .0) (got .1) (width-declared T) tl (got .2)));
+            }
+
+        -- the last: it is main;
+        pub last-answers : n ≡ 0 → Found m w ≡ main-weighed (read-processes edition-1 (suc n) R t)
+        unfolding read-processes main-weighed
+        last-answers z =
+            let q : Found m w ≡ main-weighed (taken (with-process R (got .0)) (got .1)) = λ i. Found (got .3 i) (weight ((weighs ∙ sym (main-read R (got .0))) i)) in
+            q ∙ (ap (λ k. main-weighed (read-processes edition-1 k (with-process R (got .0)) (got .1))) (sym z) ∙ sym (ap main-weighed rest-reads))
+
+        pub last-placed : n ≡ 0 → (whole : List ℕ) (Q : RuleSet) (u : List ℕ) → Tail t whole → ProcessRows whole T 0 (R .processes) → read-processes edition-1 (suc n) R t ≡ taken Q u → Placed whole T′ Q
+        unfolding read-processes
+        last-placed z whole Q u tl rows e =
+            let q : taken (with-process R (got .0)) (got .1) ≡ taken Q u = ap (λ k. read-processes edition-1 k (with-process R (got .0)) (got .1)) (sym z) ∙ sym rest-reads ∙ e in
+            subst (Placed whole T′) (same-taken (with-process R (got .0)) Q (got .1) u q) (grown-placed whole tl rows)
+
+        -- or one of several: the others behind it, by the tables with it entered.
+        module _ (r : List ℕ) (rest : r ≡ last-of m t) where
+          left : r ≡ got .1
+          left = rest ∙ sym (process-left (declared T) (parameter-limit edition-1 n) t (got .0) (got .1) m (got .2) (got .3))
+
+          pub next-answers : (q : Weighed) → ((Q : RuleSet) → Declares T′ Q → Narrow Q → q ≡ main-weighed (read-processes edition-1 n Q r)) → q ≡ main-weighed (read-processes edition-1 (suc n) R t)
+          next-answers q next = next (with-process R (got .0)) grown grown-narrow ∙ ap (λ u. main-weighed (read-processes edition-1 n (with-process R (got .0)) u)) left ∙ sym (ap main-weighed rest-reads)
+
+          pub next-placed : (T″ whole : List ℕ) (Q : RuleSet) (u : List ℕ) → Tail t whole → ProcessRows whole T 0 (R .processes) → read-processes edition-1 (suc n) R t ≡ taken Q u
+              → ((P Q : RuleSet) → Placed whole T′ P → Narrow P → read-processes edition-1 n P r ≡ taken Q u → Placed whole T″ Q) → Placed whole T″ Q
+          next-placed T″ whole Q u tl rows e next = next (with-process R (got .0)) Q (grown-placed whole tl rows) grown-narrow (ap (read-processes edition-1 n (with-process R (got .0))) left ∙ sym rest-reads ∙ e)

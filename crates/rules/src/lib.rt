@@ -1,16 +1,16 @@
-// A rule set's stream behind its first two words, read once from the front: sections 2 to 5, the tables that they fill,
-// and main's measures (document 01, "Blocks and the rule stream"; refusals 4 to 6).
+// A rule set's stream behind its first two words, read once from the front: sections 2 to 5, the tables and the directory
+// that they fill, and main's measures (document 01, "Blocks and the rule stream"; refusals 4 to 6).
 ghost use mathlib.Core.Path.{_≡_};
 ghost use mathlib.Core.List.{List, [], _∷_, _++_};
 ghost use Prim.Native.Nat.{ℕ, _+_, _-_, _*_, _≤_, _<_};
 ghost use lib.ListN.{drop, take, getD, length, set};
 ghost use Rattle.eb3.specs.Limits.{edition-1};
-ghost use Rattle.eb3.specs.RuleSets.{Function, RuleSet};
-ghost use Rattle.eb3.specs.RuleReading.{parameter-limit, read-process, read-processes, read-rules};
+ghost use Rattle.eb3.specs.RuleReading.{parameter-limit, read-process};
 ghost use Rattle.arguments.specs.Tables.{declared, callee};
-ghost use Rattle.declarations.specs.Declaring.{Heads, Tables, Declares, entered-process};
-ghost use Rattle.declarations.specs.ProcessLaws.{Bounded, Narrow};
-ghost use Rattle.rules.specs.Sections.{process-weighed, main-weighed, rules-weighed, joined, process-section, function-section, label-section};
+ghost use Rattle.declarations.specs.Declaring.{entered-process};
+ghost use Rattle.declarations.specs.ProcessLaws.{Bounded};
+ghost use Rattle.rules.specs.Sections.{process-weighed, joined};
+ghost use Rattle.rules.specs.Filling.{ProcessesRead, ProcessSectionRead, FunctionSectionRead, LabelSectionRead, RulesRead};
 use arguments::entry;
 use arguments::wide32;
 use declarations::Counted;
@@ -83,7 +83,7 @@ fn enter_process(tb: &mut [u32], t: &[u16], p: usize, w: Weight, left: usize)
 // n processes, from number p on; the last is main, whose measures are given back.
 fn processes(t: &[u16], tb: &mut [u32], n: usize, p: usize) -> Weighed
     requires { ⌜ (1 ≤ n) × (212 + 9 * (n + p) ≤ length (now tb)) × (n + p < 65536) × (length (now t) ≤ 65535) × (getD (now tb) 211 0 ≡ p) × Bounded (now tb) ⌝ }
-    ensures { λ r. ⌜ ((R : RuleSet) → Declares (now (tb .entry)) R → Narrow R → r ≡ main-weighed (read-processes edition-1 n R (now (t .entry)))) ⌝ }
+    ensures { λ r. ⌜ ProcessesRead (now (t .entry)) (now (tb .entry)) n r (now (tb .exit)) ⌝ }
 {
     match check_process(t, tb, limit_of(n - 1)) {
         Weighed::Found(m, w) => {
@@ -102,7 +102,7 @@ fn processes(t: &[u16], tb: &mut [u32], n: usize, p: usize) -> Weighed
 
 fn process_section(t: &[u16], tb: &mut [u32]) -> Weighed
     requires { ⌜ (length (now tb) ≡ 500) × (length (now t) ≤ 65535) × Bounded (now tb) ⌝ }
-    ensures { λ r. ⌜ ((domains : List ℕ) (labels : List (List ℕ)) (functions : List Function) → Tables (now (tb .entry)) domains labels functions → r ≡ main-weighed (process-section domains labels functions (now (t .entry)))) ⌝ }
+    ensures { λ r. ⌜ ProcessSectionRead (now (t .entry)) (now (tb .entry)) r (now (tb .exit)) ⌝ }
 {
     match count(t, 1, 32) {
         Checked::Left(m) => {
@@ -124,16 +124,16 @@ fn with_cells(w: Weighed, c: usize) -> Rules
     }
 }
 
-fn function_section(t: &[u16], tb: &mut [u32]) -> Rules
+fn function_section(t: &[u16], tb: &mut [u32], dir: &mut [u32]) -> Rules
     requires { ⌜ (length (now tb) ≡ 500) × (length (now t) ≤ 65535) × Bounded (now tb) ⌝ }
-    ensures { λ r. ⌜ ((domains : List ℕ) (labels : List (List ℕ)) → Heads (now (tb .entry)) domains labels → r ≡ rules-weighed (function-section domains labels (now (t .entry)))) ⌝ }
+    ensures { λ r. ⌜ FunctionSectionRead (now (t .entry)) (now (tb .entry)) (now (dir .entry)) r (now (tb .exit)) (now (dir .exit)) ⌝ }
 {
     match count(t, 0, 16) {
         Checked::Left(m) => {
             let n = first(t);
             tb[210] = narrow32(n);
             let u = last(t, m);
-            match functions(u, tb, n, n, 0) {
+            match functions(u, tb, dir, n, n, 0, 0) {
                 Counted::Cells(j, c) => with_cells(process_section(last(u, j), tb), c),
                 Counted::Refused(k) => Rules::Refused(k),
             }
@@ -142,9 +142,9 @@ fn function_section(t: &[u16], tb: &mut [u32]) -> Rules
     }
 }
 
-fn label_section(t: &[u16], tb: &mut [u32]) -> Rules
+fn label_section(t: &[u16], tb: &mut [u32], dir: &mut [u32]) -> Rules
     requires { ⌜ (length (now tb) ≡ 500) × (length (now t) ≤ 65535) × (getD (now tb) 0 0 ≤ 16) ⌝ }
-    ensures { λ r. ⌜ ((domains : List ℕ) → declared (now (tb .entry)) .domains ≡ domains → r ≡ rules-weighed (label-section domains (now (t .entry)))) ⌝ }
+    ensures { λ r. ⌜ LabelSectionRead (now (t .entry)) (now (tb .entry)) (now (dir .entry)) r (now (tb .exit)) (now (dir .exit)) ⌝ }
 {
     match count(t, 1, 64) {
         Checked::Left(m) => {
@@ -153,7 +153,7 @@ fn label_section(t: &[u16], tb: &mut [u32]) -> Rules
             let d = wide32(entry(tb, 0));
             let u = last(t, m);
             match enter_labels(u, tb, n, 18, d) {
-                Checked::Left(j) => function_section(last(u, j), tb),
+                Checked::Left(j) => function_section(last(u, j), tb, dir),
                 Checked::Refused(k) => Rules::Refused(k),
             }
         }
@@ -162,16 +162,16 @@ fn label_section(t: &[u16], tb: &mut [u32]) -> Rules
 }
 
 // A rule set behind its edition and its number of blocks: how many words are left behind it, and main's measures.
-// What the tables held before makes no difference.
-pub fn read(t: &[u16], tb: &mut [u32]) -> Rules
+// What the tables and the directory held before makes no difference; a directory too short is filled as far as it goes.
+pub fn read(t: &[u16], tb: &mut [u32], dir: &mut [u32]) -> Rules
     requires { ⌜ (length (now tb) ≡ 500) × (length (now t) ≤ 65535) ⌝ }
-    ensures { λ r. ⌜ r ≡ rules-weighed (read-rules edition-1 (now (t .entry))) ⌝ }
+    ensures { λ r. ⌜ RulesRead (now (t .entry)) (now (tb .entry)) (now (dir .entry)) r (now (tb .exit)) (now (dir .exit)) ⌝ }
 {
     match check_domains(t) {
         Checked::Left(m) => {
             let k = first(t) + 1;
             copy(tb, 0, t, k);
-            label_section(last(t, m), tb)
+            label_section(last(t, m), tb, dir)
         }
         Checked::Refused(k) => Rules::Refused(k),
     }

@@ -24,5 +24,5 @@ process-section-spec =
     (λ c κs. let h = section-asks (c .before .before .before .before .before .before .before .before .before .args .tb .now) (c .before .before .before .before .before .before .before .before .before .args .t .now) _ (c .before .before .before .before .before .before .count .ensures) _ _ (c .before .before .before .before .before .before .before .before .before .pre .0) (c .before .before .before .before .before .before .before .before .before .pre .2) (c .before .before .before .before .m .given .1) (c .before .before .first .ensures .0) in (h .0, h .1, h .2, omega (arith, last-len _ _ _ (c .before .last .ensures)), h .3, h .4))
     (λ c. search needs)
     (λ c. omega (arith, length-set (c .before .before .before .before .before .before .before .before .before .before .before .before .args .tb .now) 211 0))
-    (λ c. section-in (c .before .before .before .before .before .before .before .before .before .before .before .before .args .tb .now) (c .before .before .before .before .before .before .before .before .before .before .before .before .args .t .now) _ (c .before .before .before .before .before .before .before .before .before .count .ensures) _ _ _ _ (omega arith) (c .before .before .before .before .before .before .before .before .before .before .before .before .pre .2) (c .before .before .before .before .before .before .before .m .given .1) (c .before .before .before .before .before .first .ensures .0) (c .before .before .before .before .last .ensures) (c .before .before .processes .ensures))
+    (λ c. section-in (c .before .before .before .before .before .before .before .before .before .before .before .before .args .tb .now) (c .before .before .before .before .before .before .before .before .before .before .before .before .args .t .now) _ (c .before .before .before .before .before .before .before .before .before .count .ensures) _ _ _ _ _ (omega arith) (c .before .before .before .before .before .before .before .before .before .before .before .before .pre .2) (c .before .before .before .before .before .before .before .m .given .1) (c .before .before .before .before .before .first .ensures .0) (c .before .before .before .before .last .ensures) (c .before .before .processes .ensures))
     (λ c. section-out (c .before .before .before .before .before .before .args .tb .now) (c .before .before .before .before .before .before .args .t .now) _ (c .before .before .before .count .ensures) _ (c .before .k .given .1)))

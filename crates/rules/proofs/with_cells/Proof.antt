@@ -1,4 +1,4 @@
-use Rattle.rules.proofs.SectionCases.{joining}
+use Rattle.rules.proofs.FunctionCases.{joining}
 use borrow.Author.Needs.{needs}
 use Rattle.rules.proofs.with_cells.Statement.{statement}
 use Rattle.rules.proofs.with_cells.Tie as tie
