@@ -1,20 +1,29 @@
 -- A case for each way that a helper of the evaluators returns, over its operands; the premises have the form of what the code tells there.
-use mathlib.Core.Path.{_≡_, sym, ap, _∙_}
+use mathlib.Core.Path.{_≡_, sym, ap, _∙_, subst}
 use mathlib.Core.Bool.{Bool, true, false, not, _&&_, _||_, cond}
 use mathlib.Core.List.{List, [], _∷_, _++_}
-use Prim.Native.Nat.{ℕ, _+_, _/_, _%_}
+use Prim.Native.Nat.{ℕ, _/_, _%_, _<_}
 use native.Mathlib.Omega.{arith}
-use lib.ListN.{drop, getD}
+use lib.ListN.{length, drop, getD}
 use Rattle.eb3.specs.Values.{Value, encode, decode}
 use Rattle.eb3.specs.Expressions.{evaluate-data, evaluate-cond}
 use Rattle.eb3.specs.Spelling.{data-words, cond-words}
 use Rattle.scan.specs.Checking.{last-of}
-use Rattle.expressions.specs.Stores.{reading-in, environment-in}
+use Rattle.expressions.specs.Stores.{stored, reading-in, environment-in}
 use Rattle.expressions.specs.Answering.{value-word, truth, answer, DataAt, CondAt, Evaluated, Judged}
-use Rattle.expressions.specs.Operands.{Paired, Selected, Named, Joined, Negated}
+use Rattle.expressions.specs.Operands.{Valued, Paired, Selected, Named, Joined, Negated}
 use Rattle.expressions.specs.Laws.{data-parted, cond-parted, data-value}
 
 -- ── operands ──
+
+-- v is the constant, or the variable's word; u are the words behind it
+pub constant-case : (t u : List ℕ) (v r : ℕ) → v ≡ getD t 0 0 → u ≡ drop 1 t → r ≡ answer v (length u) → r ≡ answer (getD t 0 0) (length (drop 1 t))
+constant-case t u v r e k h = h ∙ (λ j. answer (e j) (length (k j)))
+
+pub variable-case : (t u M : List ℕ) (i v r : ℕ) → i ≡ getD t 0 0 → v ≡ stored M i → v < 65536 → u ≡ drop 1 t → r ≡ answer v (length u) → Valued t M r
+variable-case t u M i v r e f s k h =
+    let n : v ≡ stored M (getD t 0 0) = f ∙ ap (stored M) e in
+    record { value = h ∙ (λ j. answer (n j) (length (k j))); small = subst (λ x. x < 65536) n s }
 
 -- t are the words, x what the first operand answers, u the words behind it, y what the next answers there
 module _ (t u M : List ℕ) (x y : ℕ) where

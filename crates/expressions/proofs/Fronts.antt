@@ -14,7 +14,7 @@ use Rattle.eb3.specs.Scopes.{Scope, args-in-scope}
 use Rattle.eb3.specs.Spelling.{number-words, data-words, args-words, cond-words}
 use Rattle.expressions.specs.Stores.{stored, reading-in, variable-in, environment-in, before-place}
 use Rattle.expressions.specs.Answering.{value-word, truth, answer, Plain, DataAt, CondAt, Evaluated, Judged}
-use Rattle.expressions.specs.Operands.{sum-word, difference-word, equal-word, less-word, Paired, Selected, Named, Joined, Negated}
+use Rattle.expressions.specs.Operands.{sum-word, difference-word, equal-word, less-word, Valued, Paired, Selected, Named, Joined, Negated}
 use Rattle.expressions.proofs.Words.{word-of-value}
 
 -- ── data ──
@@ -65,7 +65,7 @@ other-data w h = simp (ne-eqb w 1 (h .0 .0 .0 .0 .0 .0 .1), ne-eqb w 2 (h .0 .0 
 abbrev DataArm : DataFront → List ℕ → List ℕ → ℕ → Type 0
 DataArm none t M r = r ≡ answer 65535 (length t)
 DataArm constant t M r = r ≡ answer (getD t 0 0) (length (drop 1 t))
-DataArm variable t M r = (r ≡ answer (stored M (getD t 0 0)) (length (drop 1 t))) × (stored M (getD t 0 0) < 65536)
+DataArm variable t M r = Valued t M r
 DataArm sum t M r = Paired sum-word t M r
 DataArm difference t M r = Paired difference-word t M r
 DataArm selection t M r = Selected t M r
@@ -89,7 +89,7 @@ module _ (s t M : List ℕ) (r : ℕ) (q : t ≡ drop 1 s) where
   by-data Undefined P rest at h = h ∙ ap (λ u. answer 65535 (length u)) (q ∙ ap (drop 1) (at .spelled))
   by-data (Constant n) P rest at h = h ∙ ap (λ u. answer (getD u 0 0) (length (drop 1 u))) (q ∙ ap (drop 1) (at .spelled))
   by-data (Variable i) P rest at h =
-      h .0 ∙ (λ j. answer (sym (word-of-value (stored M (getD t 0 0)) (h .1)) j) (length (drop 1 t)))
+      h .value ∙ (λ j. answer (sym (word-of-value (stored M (getD t 0 0)) (h .small)) j) (length (drop 1 t)))
       ∙ ap (λ u. answer (value-word (decode 65534 (stored M (getD u 0 0)))) (length (drop 1 u))) (q ∙ ap (drop 1) (at .spelled))
   by-data (Add a b) P rest at h =
       h P a b rest (record { plain = at .plain; in-scope = at .in-scope .0; spelled = q ∙ ap (drop 1) (at .spelled) ∙ append-assoc (data-words 1 a) (data-words 1 b) rest }) (at .in-scope .1)
@@ -112,13 +112,11 @@ module _ (s t M : List ℕ) (r : ℕ) (q : t ≡ drop 1 s) where
     data-arm k e h P d rest at =
         by-data d P rest at (subst (λ j. DataArm j t M r) (sym e ∙ ap data-front first ∙ data-known d s rest (at .spelled)) h)
 
-    pub data-constant : (u : List ℕ) (v : ℕ) → w ≡ 1 → v ≡ getD t 0 0 → u ≡ drop 1 t → r ≡ answer v (length u) → Evaluated s M r
-    data-constant u v e i j h = data-arm constant (ap data-front e) (h ∙ (λ o. answer (i o) (length (j o))))
+    pub data-constant : w ≡ 1 → r ≡ answer (getD t 0 0) (length (drop 1 t)) → Evaluated s M r
+    data-constant e h = data-arm constant (ap data-front e) h
 
-    pub data-variable : (u : List ℕ) (i v : ℕ) → w ≡ 2 → i ≡ getD t 0 0 → v ≡ stored M i → v < 65536 → u ≡ drop 1 t → r ≡ answer v (length u) → Evaluated s M r
-    data-variable u i v e k l m j h =
-        let n : v ≡ stored M (getD t 0 0) = l ∙ ap (stored M) k in
-        data-arm variable (ap data-front e) (h ∙ (λ o. answer (n o) (length (j o))), subst (λ x. x < 65536) n m)
+    pub data-variable : w ≡ 2 → Valued t M r → Evaluated s M r
+    data-variable e h = data-arm variable (ap data-front e) h
 
     pub data-sum : w ≡ 3 → Paired sum-word t M r → Evaluated s M r
     data-sum e h = data-arm sum (ap data-front e) h

@@ -1,15 +1,15 @@
 -- What an evaluation of operands answers: for all operands that stand at the front of the words, one behind the other, in a scope of edition 1.
--- `Paired`, `Selected` and `Named` are the operands of data, `Joined` and `Negated` those of conditions (document 01, "Values and conditions").
+-- `Valued`, `Paired`, `Selected` and `Named` are the operands of data, `Joined` and `Negated` those of conditions (document 01, "Values and conditions").
 use mathlib.Core.Path.{_≡_}
 use mathlib.Core.Bool.{Bool, not, cond}
 use mathlib.Core.List.{List, [], _∷_, _++_}
-use Prim.Native.Nat.{ℕ}
+use Prim.Native.Nat.{ℕ, _<_}
 use lib.ListN.{length, drop, getD}
 use Rattle.eb3.specs.Values.{Value, encode, add, subtract, equal, less}
 use Rattle.eb3.specs.Expressions.{Data, Cond, evaluate-data, evaluate-cond}
 use Rattle.eb3.specs.Scopes.{Scope, data-in-scope, cond-in-scope}
 use Rattle.eb3.specs.Spelling.{data-words, cond-words}
-use Rattle.expressions.specs.Stores.{environment-in, reading-in}
+use Rattle.expressions.specs.Stores.{stored, environment-in, reading-in}
 use Rattle.expressions.specs.Answering.{value-word, truth, answer, DataAt, CondAt}
 
 -- ── what is made of two values ──
@@ -27,6 +27,11 @@ abbrev pub less-word : Value → Value → ℕ
 less-word v w = truth (less v w)
 
 -- ── the operands of a code ──
+
+-- A variable's number.
+pub record Valued (t M : List ℕ) (r : ℕ) : Type 0 where
+  pub value : r ≡ answer (stored M (getD t 0 0)) (length (drop 1 t))
+  pub small : stored M (getD t 0 0) < 65536
 
 -- Two data.
 abbrev pub Paired : (Value → Value → ℕ) → List ℕ → List ℕ → ℕ → Type 0

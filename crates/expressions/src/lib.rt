@@ -5,11 +5,11 @@ ghost use mathlib.Core.Path.{_≡_};
 ghost use mathlib.Core.Bool.{_&&_, _||_};
 ghost use mathlib.Core.List.{[], _∷_};
 ghost use Prim.Native.Nat.{_≤_, _<_};
-ghost use lib.ListN.{length};
+ghost use lib.ListN.{length, drop, getD};
 ghost use Rattle.eb3.specs.Values.{decode, encode, add, subtract, equal, less};
 ghost use Rattle.expressions.specs.Stores.{stored, reading-in, before-place};
 ghost use Rattle.expressions.specs.Answering.{truth, answer, Evaluated, Judged};
-ghost use Rattle.expressions.specs.Operands.{sum-word, difference-word, equal-word, less-word, Paired, Selected, Named, Joined, Negated};
+ghost use Rattle.expressions.specs.Operands.{sum-word, difference-word, equal-word, less-word, Valued, Paired, Selected, Named, Joined, Negated};
 use scan::behind;
 use scan::first;
 use scan::last;
@@ -108,12 +108,41 @@ fn old_cells(m: &[u16]) -> usize
 
 // ── data ──
 
+// A constant, and a variable, behind their code.
+fn constant(t: &[u16]) -> usize
+    requires { ⌜ length (now t) < 65535 ⌝ }
+    ensures { λ r. ⌜ (r ≡ answer (getD (now (t .entry)) 0 0) (length (drop 1 (now (t .entry))))) × (r < 4294967296) ⌝ }
+{
+    pack(first(t), behind(t).len())
+}
+
+fn variable(t: &[u16], m: &[u16]) -> usize
+    requires { ⌜ length (now t) < 65535 ⌝ }
+    ensures { λ r. ⌜ Valued (now (t .entry)) (now (m .entry)) r × (r < 4294967296) ⌝ }
+{
+    pack(word(m, first(t)), behind(t).len())
+}
+
+// As eval_data, but a constant or a variable costs no call: most operands are one of these.
+fn operand(s: &[u16], m: &[u16]) -> usize
+    requires { ⌜ length (now s) ≤ 65535 ⌝ }
+    ensures { λ r. ⌜ Evaluated (now (s .entry)) (now (m .entry)) r × (r < 4294967296) ⌝ }
+{
+    let w = first(s);
+    let t = behind(s);
+    match w {
+        1 => constant(t),
+        2 => variable(t, m),
+        _ => eval_data(s, m),
+    }
+}
+
 fn added(t: &[u16], m: &[u16]) -> usize
     requires { ⌜ length (now t) < 65535 ⌝ }
     ensures { λ r. ⌜ Paired sum-word (now (t .entry)) (now (m .entry)) r × (r < 4294967296) ⌝ }
 {
-    let x = eval_data(t, m);
-    let y = eval_data(last(t, x / 65536), m);
+    let x = operand(t, m);
+    let y = operand(last(t, x / 65536), m);
     pack(add(x % 65536, y % 65536), y / 65536)
 }
 
@@ -121,8 +150,8 @@ fn subtracted(t: &[u16], m: &[u16]) -> usize
     requires { ⌜ length (now t) < 65535 ⌝ }
     ensures { λ r. ⌜ Paired difference-word (now (t .entry)) (now (m .entry)) r × (r < 4294967296) ⌝ }
 {
-    let x = eval_data(t, m);
-    let y = eval_data(last(t, x / 65536), m);
+    let x = operand(t, m);
+    let y = operand(last(t, x / 65536), m);
     pack(subtract(x % 65536, y % 65536), y / 65536)
 }
 
@@ -133,8 +162,8 @@ fn selected(t: &[u16], m: &[u16]) -> usize
 {
     let c = eval_cond(t, m);
     let u = last(t, c / 65536);
-    let x = eval_data(u, m);
-    let y = eval_data(last(u, x / 65536), m);
+    let x = operand(u, m);
+    let y = operand(last(u, x / 65536), m);
     if c % 65536 == 0 {
         return y;
     }
@@ -146,7 +175,7 @@ fn attribute(t: &[u16], m: &[u16], at: usize) -> usize
     requires { ⌜ (length (now t) < 65535) × (at < 65536) ⌝ }
     ensures { λ r. ⌜ Named at (now (t .entry)) (now (m .entry)) r × (r < 4294967296) ⌝ }
 {
-    let x = eval_data(behind(t), m);
+    let x = operand(behind(t), m);
     pack(cell(m, at, first(t), x % 65536), x / 65536)
 }
 
@@ -158,8 +187,8 @@ pub fn eval_data(s: &[u16], m: &[u16]) -> usize
     let w = first(s);
     let t = behind(s);
     match w {
-        1 => pack(first(t), behind(t).len()),
-        2 => pack(word(m, first(t)), behind(t).len()),
+        1 => constant(t),
+        2 => variable(t, m),
         3 => added(t, m),
         4 => subtracted(t, m),
         5 => selected(t, m),
@@ -175,8 +204,8 @@ fn compared_equal(t: &[u16], m: &[u16]) -> usize
     requires { ⌜ length (now t) < 65535 ⌝ }
     ensures { λ r. ⌜ Paired equal-word (now (t .entry)) (now (m .entry)) r × (r < 4294967296) ⌝ }
 {
-    let x = eval_data(t, m);
-    let y = eval_data(last(t, x / 65536), m);
+    let x = operand(t, m);
+    let y = operand(last(t, x / 65536), m);
     pack(equal(x % 65536, y % 65536), y / 65536)
 }
 
@@ -184,8 +213,8 @@ fn compared_less(t: &[u16], m: &[u16]) -> usize
     requires { ⌜ length (now t) < 65535 ⌝ }
     ensures { λ r. ⌜ Paired less-word (now (t .entry)) (now (m .entry)) r × (r < 4294967296) ⌝ }
 {
-    let x = eval_data(t, m);
-    let y = eval_data(last(t, x / 65536), m);
+    let x = operand(t, m);
+    let y = operand(last(t, x / 65536), m);
     pack(less(x % 65536, y % 65536), y / 65536)
 }
 
