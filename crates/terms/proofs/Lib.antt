@@ -1,0 +1,7 @@
+mod Numbers
+mod Readings
+mod Leaves
+mod Nested
+mod Parts
+mod Codes
+mod Limits
