@@ -34,6 +34,7 @@ use Rattle.engine.specs.declared.Admitted.{Admitted}
 use Rattle.engine.specs.declared.Admitted.the-variants.{Sizes as Admitted·sizes, Refused as Admitted·refused}
 use Rattle.engine.specs.declared.Limits.{Limits}
 use Rattle.engine.specs.Answering.{admitted, reported, read-whole}
+use Rattle.engine.specs.Admitting.{Described, WordsAdmitted, FileAdmitted}
 
 -- ── judging ──
 
@@ -117,6 +118,10 @@ module _ (s : List ℕ) (n : ℕ) (e : length s ≡ 512 * n) (some : 1 ≤ n) (f
         ap (λ u. take (254 * n - 2) (drop 2 u)) j
         ∙ (ap (take (254 * n - 2)) (drop-append-le 2 (stream s) _ h)
         ∙ take-at (drop 2 (stream s)) _ (254 * n - 2) (length-drop 2 (stream s) ∙ ap (λ m. m - 2) stream-long))
+
+-- What was admitted of the words lent is so of the stream.
+pub file-admitted : (rules words D : List ℕ) (n : ℕ) (r : Admitted) (words′ T D′ t : List ℕ) → words′ ≡ stream rules ++ drop (254 * n) words → t ≡ drop 2 (stream rules) → WordsAdmitted t D r T D′ → FileAdmitted rules words D n r words′ T D′
+file-admitted rules words D n r words′ T D′ t j e a = record { answer = a .answer ∙ ap read-whole e; decoded = j; described = subst (λ u. Described u (length D) T D′) e (a .described) }
 
 -- ── blocks ──
 

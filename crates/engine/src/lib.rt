@@ -14,6 +14,7 @@ ghost use Rattle.rules.specs.Sections.{rules-weighed};
 ghost use Rattle.weights.specs.Weighing.{measure};
 ghost use Rattle.eb3.specs.Laws.Judging.{judged};
 ghost use Rattle.engine.specs.Answering.{admitted, reported, read-whole};
+ghost use Rattle.engine.specs.Admitting.{WordsAdmitted, FileAdmitted};
 use blocks::Opened;
 use blocks::join;
 use blocks::open;
@@ -86,14 +87,13 @@ fn cells_word(n: usize) -> u32
     n as u32
 }
 
-// The stream's words behind its first two: sections 2 to 5, the end, and main's measures.
-fn admit_words(t: &[u16]) -> Admitted
-    requires { ⌜ length (now t) ≤ 16254 ⌝ }
-    ensures { λ r. ⌜ r ≡ read-whole (now (t .entry)) ⌝ }
+// The stream's words behind its first two: sections 2 to 5, the end, and main's measures; with the tables and the directory that
+// later steps go by. An empty directory will do where there are none.
+fn admit_words(t: &[u16], tables: &mut [u32], dir: &mut [u32]) -> Admitted
+    requires { ⌜ (length (now t) ≤ 16254) × (length (now tables) ≡ 500) ⌝ }
+    ensures { λ r. ⌜ WordsAdmitted (now (t .entry)) (now (dir .entry)) r (now (tables .exit)) (now (dir .exit)) ⌝ }
 {
-    let mut tables = [0u32; 500];
-    let mut none = [0u32; 0];
-    match read(t, &mut tables, &mut none) {
+    match read(t, tables, dir) {
         Rules::Found(left, cells, w) => {
             if 254 <= left {
                 return Admitted::Refused(4);
@@ -108,13 +108,19 @@ fn admit_words(t: &[u16]) -> Admitted
 }
 
 // n blocks, decoded into lent words.
-fn admit_in(rules: &[u8], words: &mut [u16], n: usize) -> Admitted
-    requires { ⌜ (length (now rules) ≡ 512 * n) × (254 * n ≤ length (now words)) × (1 ≤ n) × (n ≤ 64) ⌝ }
-    ensures { λ r. ⌜ r ≡ read-whole (drop 2 (stream (now (rules .entry)))) ⌝ }
+fn admit_in(
+    rules: &[u8],
+    words: &mut [u16],
+    tables: &mut [u32],
+    dir: &mut [u32],
+    n: usize,
+) -> Admitted
+    requires { ⌜ (length (now rules) ≡ 512 * n) × (254 * n ≤ length (now words)) × (1 ≤ n) × (n ≤ 64) × (length (now tables) ≡ 500) ⌝ }
+    ensures { λ r. ⌜ FileAdmitted (now (rules .entry)) (now (words .entry)) (now (dir .entry)) n r (now (words .exit)) (now (tables .exit)) (now (dir .exit)) ⌝ }
 {
     join(rules, words, n);
     let end = 254 * n;
-    admit_words(&words[2..end])
+    admit_words(&words[2..end], tables, dir)
 }
 
 // Local words for one block, eight, or as many as there may be: a small rule set does not pay for clearing a large array.
@@ -123,7 +129,10 @@ fn admit_one(rules: &[u8]) -> Admitted
     ensures { λ r. ⌜ r ≡ read-whole (drop 2 (stream (now (rules .entry)))) ⌝ }
 {
     let mut words = [0u16; 254];
-    admit_in(rules, &mut words, 1)
+    let mut tables = [0u32; 500];
+    let mut none = [0u32; 0];
+    let r = admit_in(rules, &mut words, &mut tables, &mut none, 1);
+    r
 }
 
 fn admit_few(rules: &[u8], n: usize) -> Admitted
@@ -131,7 +140,10 @@ fn admit_few(rules: &[u8], n: usize) -> Admitted
     ensures { λ r. ⌜ r ≡ read-whole (drop 2 (stream (now (rules .entry)))) ⌝ }
 {
     let mut words = [0u16; 2032];
-    admit_in(rules, &mut words, n)
+    let mut tables = [0u32; 500];
+    let mut none = [0u32; 0];
+    let r = admit_in(rules, &mut words, &mut tables, &mut none, n);
+    r
 }
 
 fn admit_many(rules: &[u8], n: usize) -> Admitted
@@ -139,7 +151,10 @@ fn admit_many(rules: &[u8], n: usize) -> Admitted
     ensures { λ r. ⌜ r ≡ read-whole (drop 2 (stream (now (rules .entry)))) ⌝ }
 {
     let mut words = [0u16; 16256];
-    admit_in(rules, &mut words, n)
+    let mut tables = [0u32; 500];
+    let mut none = [0u32; 0];
+    let r = admit_in(rules, &mut words, &mut tables, &mut none, n);
+    r
 }
 
 // Admit: C, G, W and the start term's size, or the first refusal of 1 to 8.

@@ -1,5 +1,5 @@
-use Rattle.engine.proofs.Cases.{words-refused, words-few, words-long, words-behind, words-judged}
 use native.Mathlib.Omega.{arith}
+use Rattle.engine.proofs.Cases.{words-refused, words-few, words-long, words-behind, words-judged}
 use borrow.Author.Needs.{needs}
 use Rattle.engine.proofs.admit_words.Statement.{statement}
 use Rattle.engine.proofs.admit_words.Tie as tie
@@ -11,20 +11,102 @@ use Rattle.engine.proofs.zeros.Reads as zeros-reads
 use Rattle.rules.proofs.read.Reads as read-reads
 use Rattle.scan.proofs.last.Reads as last-reads
 
+-- src/lib.rt:96:11
+read-requires : tie.Need-read-requires
+read-requires c κs = search needs
+
+-- src/lib.rt:97:22
+enum-known-left : tie.Need-enum-known-left
+enum-known-left c = search needs
+
+-- src/lib.rt:99:17
+same-length : tie.Need-same-length
+same-length c = search needs
+
+-- src/lib.rt:99:17
+same-length-2 : tie.Need-same-length-2
+same-length-2 c = search needs
+
+-- src/lib.rt:99:17
+returns : tie.Need-returns
+returns c = record { answer = words-long (c .before .before .before .before .before .before .before .before .before .before .before .before .before .before .args .t .now) _ (c .before .before .before .before .before .before .before .before .read .ensures .answer) _ _ _ (c .before .before .left .given .1) (omega (arith, c .if1 .taken)); described = c .before .before .before .before .before .before .before .before .read .ensures .directory }
+
+-- src/lib.rt:101:23
+last-requires : tie.Need-last-requires
+last-requires c κs = search needs
+
+-- src/lib.rt:101:17
+zeros-requires : tie.Need-zeros-requires
+zeros-requires c κs = search needs
+
+-- src/lib.rt:102:17
+same-length-3 : tie.Need-same-length-3
+same-length-3 c = search needs
+
+-- src/lib.rt:102:17
+same-length-4 : tie.Need-same-length-4
+same-length-4 c = search needs
+
+-- src/lib.rt:102:17
+returns-2 : tie.Need-returns-2
+returns-2 c = record { answer = words-behind (c .before .before .before .before .before .before .before .before .before .before .before .before .before .before .before .before .before .args .t .now) _ (c .before .before .before .before .before .before .before .before .before .before .before .read .ensures .answer) _ _ _ (c .before .before .before .before .before .left .given .1) _ (c .before .before .last .ensures) _ (c .before .zeros .ensures) (c .if2 .taken); described = c .before .before .before .before .before .before .before .before .before .before .before .read .ensures .directory }
+
+-- src/lib.rt:104:19
+cells-word-requires : tie.Need-cells-word-requires
+cells-word-requires c κs = words-few (c .before .before .before .before .before .before .before .before .before .before .before .before .before .before .before .before .before .args .t .now) _ (c .before .before .before .before .before .before .before .before .before .before .before .read .ensures .answer) _ _ _ (c .before .before .before .before .before .left .given .1)
+
+-- src/lib.rt:104:13
+judge-requires : tie.Need-judge-requires
+judge-requires c κs = search needs
+
+-- src/lib.rt:106:24
+enum-known-k : tie.Need-enum-known-k
+enum-known-k c = search needs
+
+-- src/lib.rt:92:1
+same-length-5 : tie.Need-same-length-5
+same-length-5 c = search needs
+
+-- src/lib.rt:92:1
+same-length-6 : tie.Need-same-length-6
+same-length-6 c = search needs
+
+-- src/lib.rt:92:1
+returns-3 : tie.Need-returns-3
+returns-3 c = record { answer = words-judged (c .before .before .before .before .before .before .before .before .before .before .before .before .before .before .before .before .before .before .before .args .t .now) _ (c .before .before .before .before .before .before .before .before .before .before .before .before .before .read .ensures .answer) _ _ _ (c .before .before .before .before .before .before .before .left .given .1) _ (c .before .before .before .before .last .ensures) _ (c .before .before .before .zeros .ensures) _ _ (omega (arith, c .before .before .before .before .before .if1 .left)) (c .before .before .if2 .left) (c .before .cells-word .ensures) (c .judge .ensures); described = c .before .before .before .before .before .before .before .before .before .before .before .before .before .read .ensures .directory }
+
+-- src/lib.rt:92:1
+same-length-7 : tie.Need-same-length-7
+same-length-7 c = search needs
+
+-- src/lib.rt:92:1
+same-length-8 : tie.Need-same-length-8
+same-length-8 c = search needs
+
+-- src/lib.rt:92:1
+returns-4 : tie.Need-returns-4
+returns-4 c = record { answer = words-refused (c .before .before .before .before .before .before .before .before .before .before .before .before .before .args .t .now) _ (c .before .before .before .before .before .before .before .read .ensures .answer) _ (c .before .k .given .1); described = c .before .before .before .before .before .before .before .read .ensures .directory }
+
 pub admit-words-spec : {M : Type 1} → statement M
 admit-words-spec =
     tie.close
     (tie.spec
-    (λ c. search needs)
-    (λ c. search needs)
-    (λ c κs. search needs)
-    (λ c. search needs)
-    (λ c. words-long (c .before .before .before .before .before .before .before .before .before .before .args .t .now) _ (c .before .before .before .before .before .before .read .ensures .answer) _ _ _ (c .before .before .left .given .1) (omega (arith, c .if1 .taken)))
-    (λ c κs. search needs)
-    (λ c κs. search needs)
-    (λ c. words-behind (c .before .before .before .before .before .before .before .before .before .before .before .before .before .args .t .now) _ (c .before .before .before .before .before .before .before .before .before .read .ensures .answer) _ _ _ (c .before .before .before .before .before .left .given .1) _ (c .before .before .last .ensures) _ (c .before .zeros .ensures) (c .if2 .taken))
-    (λ c κs. words-few (c .before .before .before .before .before .before .before .before .before .before .before .before .before .args .t .now) _ (c .before .before .before .before .before .before .before .before .before .read .ensures .answer) _ _ _ (c .before .before .before .before .before .left .given .1))
-    (λ c κs. search needs)
-    (λ c. search needs)
-    (λ c. words-judged (c .before .before .before .before .before .before .before .before .before .before .before .before .before .before .before .args .t .now) _ (c .before .before .before .before .before .before .before .before .before .before .before .read .ensures .answer) _ _ _ (c .before .before .before .before .before .before .before .left .given .1) _ (c .before .before .before .before .last .ensures) _ (c .before .before .before .zeros .ensures) _ _ (omega (arith, c .before .before .before .before .before .if1 .left)) (c .before .before .if2 .left) (c .before .cells-word .ensures) (c .judge .ensures))
-    (λ c. words-refused (c .before .before .before .before .before .before .before .before .before .args .t .now) _ (c .before .before .before .before .before .read .ensures .answer) _ (c .before .k .given .1)))
+    read-requires
+    enum-known-left
+    same-length
+    same-length-2
+    returns
+    last-requires
+    zeros-requires
+    same-length-3
+    same-length-4
+    returns-2
+    cells-word-requires
+    judge-requires
+    enum-known-k
+    same-length-5
+    same-length-6
+    returns-3
+    same-length-7
+    same-length-8
+    returns-4)
