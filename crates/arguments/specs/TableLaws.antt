@@ -1,5 +1,6 @@
 -- What the tables declare, entry by entry, and the scope of a guard under them; and laws of the readers of masks and arguments: what is left is an end
 -- of the words (`..-end`), what was read of a mask is its words, and there is one argument for each domain.
+-- Document 01, "Blocks and the rule stream", item 5: masks and arguments, and what they are judged by.
 use mathlib.Core.Path.{_≡_, refl, sym, ap, _∙_, subst}
 use mathlib.Core.List.{List, [], _∷_, _++_}
 use Prim.Native.Nat.{ℕ, zero, suc, _+_, _-_, _*_, _^_, _≤_, _<_, min}

@@ -2,6 +2,7 @@
 -- Word 0: how many domains; from 1 their sizes. Word 17: how many labels; from 18 three words for each: how many parameters, and their domains.
 -- Word 210: how many functions. Word 211: how many processes; from 212 nine words for each: how many parameters, up to four domains, its size, reach
 -- and breadth cut off at 65,536, and how many words are left at its term.
+-- Document 01, "Blocks and the rule stream", item 5: masks and arguments, and what they are judged by.
 use mathlib.Core.List.{List, [], _∷_}
 use Prim.Native.Nat.{ℕ, zero, suc, _+_, _*_}
 use lib.Dec.{eqb, ltb, leb}

@@ -1,4 +1,5 @@
 -- What the code answers, in the specification's words.
+-- Document 01, "Blocks and the rule stream"; refusals 1 to 3.
 use mathlib.Core.Bool.{Bool, _&&_}
 use mathlib.Core.List.{List}
 use Prim.Native.Nat.{ℕ, _+_, _*_}

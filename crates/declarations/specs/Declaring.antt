@@ -1,4 +1,5 @@
 -- What filled tables declare: the domains, labels and functions read so far, then the processes with their measures.
+-- Document 01, "Blocks and the rule stream", items 2 to 5; refusals 4 and 5.
 use mathlib.Core.Path.{_≡_}
 use mathlib.Core.List.{List, map}
 use Prim.Native.Nat.{ℕ, _+_}

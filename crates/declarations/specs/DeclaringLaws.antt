@@ -1,5 +1,6 @@
 -- What is entered into the tables is what they then declare, and the rest stays declared as it was: domains, labels, the functions' count, and process
 -- after process. What is declared is alike, so terms are read and measured as over the rule set itself.
+-- Document 01, "Blocks and the rule stream", items 2 to 5; refusals 4 and 5.
 use mathlib.Core.Path.{_≡_, refl, sym, ap, _∙_, subst, fun-ext}
 use mathlib.Core.Logic.{_≢_}
 use mathlib.Core.Bool.{cond}

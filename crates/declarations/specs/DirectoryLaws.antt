@@ -1,4 +1,5 @@
 -- Laws of the directory: what a reading took is found where it stood, and what keeps the places keeps what is found by them.
+-- Document 01, "Blocks and the rule stream", items 2 to 5; refusals 4 and 5.
 use mathlib.Core.Path.{_≡_, refl, sym, ap, _∙_, subst}
 use mathlib.Core.List.{List, [], _∷_, _++_}
 use Prim.Native.Nat.{ℕ, suc, _+_, _*_, _-_, _%_, _≤_, _<_}

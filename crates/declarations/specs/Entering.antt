@@ -1,4 +1,5 @@
 -- What the checks of domains, labels and functions answer, and the rows that they enter.
+-- Document 01, "Blocks and the rule stream", items 2 to 5; refusals 4 and 5.
 use mathlib.Core.Path.{_≡_}
 use mathlib.Core.List.{List, [], _∷_, map}
 use Prim.Native.Nat.{ℕ, suc, _+_, _*_, _≤_}

@@ -1,4 +1,5 @@
 -- Laws of reading functions: what is left is an end of the words.
+-- Document 01, "Blocks and the rule stream", items 2 to 5; refusals 4 and 5.
 use Prim.Native.Nat.{ℕ}
 use mathlib.Core.Path.{_≡_}
 use mathlib.Core.List.{List}

@@ -1,4 +1,5 @@
 -- Reading one process by filled tables, and keeping them within their bounds.
+-- Document 01, "Blocks and the rule stream", items 2 to 5; refusals 4 and 5.
 use mathlib.Core.Path.{_≡_, refl, ap, sym, _∙_, subst}
 use mathlib.Core.List.{List, [], _∷_, _++_, map, append-nil}
 use Prim.Native.Nat.{ℕ, zero, suc, _+_, _*_, _≤_, _<_}

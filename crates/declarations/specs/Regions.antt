@@ -1,5 +1,6 @@
 -- Words of the tables: a copy and a row word by word, and what is declared by them. Each part of `declared` reads its own region of the tables only:
 -- domains below 17, labels from 17 below 210, the functions' count at 210, processes from 211 on; what keeps a region keeps what is declared there.
+-- Document 01, "Blocks and the rule stream", items 2 to 5; refusals 4 and 5.
 use mathlib.Core.Path.{_≡_, sym, ap, _∙_, subst}
 use mathlib.Core.List.{List, [], map}
 use Prim.Native.Nat.{ℕ, zero, suc, _+_, _*_, _≤_, _<_}

@@ -1,5 +1,6 @@
 -- A count and as many words, each read by itself (`One`), are a row at the front of the words: what was read is that row (`RowAt`), and a copy of it
 -- into the tables enters it.
+-- Document 01, "Blocks and the rule stream", items 2 to 5; refusals 4 and 5.
 use Prim.Native.Nat.{ℕ, zero, suc, _+_, _≤_}
 use native.Mathlib.Omega.{arith}
 use mathlib.Core.Path.{_≡_, refl, sym, ap, _∙_}

@@ -1,4 +1,5 @@
 -- The scopes of a function's expressions in edition 1, where each function has one parameter, are those that the code gives.
+-- Document 01, "Blocks and the rule stream", items 2 to 5; refusals 4 and 5.
 use Prim.Native.Nat.{ℕ, _+_, _<_}
 use native.Mathlib.Omega.{arith}
 use native.Mathlib.Decide.{decLt}

@@ -1,5 +1,6 @@
 -- What admitting a file leaves for the steps behind it: the stream's words, the tables that declare the rule set, and the directory of where its functions
 -- and processes stand, so that nothing is read twice in a call.
+-- Document 01, "Operations".
 use mathlib.Core.Path.{_≡_}
 use mathlib.Core.List.{List, _++_}
 use Prim.Native.Nat.{ℕ, _*_, _≤_}

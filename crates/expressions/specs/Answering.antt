@@ -1,5 +1,6 @@
 -- What an evaluation answers, in one number: the value as a word, and 65,536 times the words that are left behind the expression.
 -- One number, since every other answer goes through memory.
+-- Document 01, "Values and conditions".
 use mathlib.Core.Path.{_≡_}
 use mathlib.Core.Bool.{Bool, cond}
 use mathlib.Core.List.{List, _++_}

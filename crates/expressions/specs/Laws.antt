@@ -1,4 +1,5 @@
 -- Laws of answers: what an evaluation answers is taken apart again, and every value in a store is a word.
+-- Document 01, "Values and conditions".
 use mathlib.Core.Path.{_≡_, sym, ap, _∙_, subst}
 use mathlib.Core.Bool.{Bool, true, false}
 use mathlib.Core.List.{List, _++_}

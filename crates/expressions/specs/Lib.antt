@@ -1,4 +1,5 @@
 -- What expressions are evaluated in, and what an evaluation answers.
+-- Document 01, "Values and conditions".
 pub mod Stores
 pub mod Answering
 pub mod Operands

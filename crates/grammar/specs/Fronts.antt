@@ -1,5 +1,6 @@
 -- What stands in front of a row of expressions, as the code tells it: the place and the number of expressions with which the row goes on,
 -- a place where an expression of the other sort stands first, or a refusal.
+-- Document 01, "Values and conditions"; refusals 4 and 5.
 use Prim.Native.Nat.{ℕ, suc, _+_, _≤_, _<_}
 use mathlib.Core.Path.{_≡_}
 use mathlib.Core.List.{List}

@@ -1,5 +1,6 @@
 -- Laws of reading expressions: what is left is an end of the words, and each reader is its own step, since a depth of more codes than words
 -- changes nothing.
+-- Document 01, "Values and conditions"; refusals 4 and 5.
 use Prim.Native.Nat.{ℕ, zero, suc, _≤_}
 use native.Mathlib.Nat.{le-refl, le-trans, le-of-suc-le-suc, not-suc-le-zero}
 use lib.Dec.{leb}

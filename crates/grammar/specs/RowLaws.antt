@@ -1,4 +1,5 @@
 -- Laws of expressions in a row, for any reader: an operand of the same sort is one more expression of the row, and what was read is forgotten.
+-- Document 01, "Values and conditions"; refusals 4 and 5.
 use Prim.Native.Nat.{ℕ, suc}
 use mathlib.Core.Path.{_≡_, refl, sym, ap, _∙_}
 use mathlib.Core.List.{List, []}

@@ -1,4 +1,5 @@
 -- Stars in front of a term: what is read of the whole, by what is read behind them.
+-- Document 01, "Blocks and the rule stream", item 5; "Unfolding, size and breadth".
 use Prim.Native.Nat.{ℕ, zero, suc, _≤_}
 use mathlib.Core.Path.{_≡_}
 use mathlib.Core.List.{List}

@@ -1,4 +1,5 @@
 -- What a check of process terms answers of a reading: how many words are left, and the measures of what was read.
+-- Document 01, "Blocks and the rule stream", item 5; "Unfolding, size and breadth".
 use mathlib.Core.Bool.{Bool, true, false}
 use mathlib.Core.List.{List, []}
 use Prim.Native.Nat.{ℕ}

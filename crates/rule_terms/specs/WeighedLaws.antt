@@ -1,4 +1,5 @@
 -- What an answer of a check says of the reading: `..-out`, that it was refused; `..-got`, what was read and the words behind it.
+-- Document 01, "Blocks and the rule stream", item 5; "Unfolding, size and breadth".
 use Prim.Native.Nat.{ℕ, _<_}
 use native.Mathlib.Omega.{arith}
 use mathlib.Core.Path.{_≡_, refl, ap, _∙_}

@@ -1,4 +1,5 @@
 -- What reading a rule set answers and fills: the tables by which its processes are read, and the directory of where its parts stand.
+-- Document 01, "Blocks and the rule stream", items 2 to 5; refusals 4 to 6.
 use mathlib.Core.Path.{_≡_}
 use mathlib.Core.List.{List}
 use Prim.Native.Nat.{ℕ, _*_, _≤_, _<_}

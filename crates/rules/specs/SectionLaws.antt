@@ -1,4 +1,5 @@
 -- One process read and entered, then the rest: what the check of the processes answers, case by case.
+-- Document 01, "Blocks and the rule stream", items 2 to 5; refusals 4 to 6.
 use mathlib.Core.Path.{_≡_, refl, ap, sym, _∙_, subst}
 use mathlib.Core.List.{List, [], _∷_}
 use Prim.Native.Nat.{ℕ, zero, suc, _+_, _-_, _*_, _≤_}

@@ -1,4 +1,5 @@
 -- What the check of a whole rule set answers, and its sections as they follow one another.
+-- Document 01, "Blocks and the rule stream", items 2 to 5; refusals 4 to 6.
 use mathlib.Core.List.{List}
 use Prim.Native.Nat.{ℕ}
 use lib.ListN.{length}

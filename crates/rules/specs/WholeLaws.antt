@@ -1,4 +1,5 @@
 -- From what the check of a rule set answers to what Admit answers of its words: the end, then main's measures.
+-- Document 01, "Blocks and the rule stream", items 2 to 5; refusals 4 to 6.
 use mathlib.Core.Path.{_≡_, refl, ap, sym, _∙_, subst}
 use mathlib.Core.Bool.{Bool, true, false, _&&_}
 use mathlib.Core.List.{List, [], _∷_, _++_}

@@ -1,4 +1,5 @@
 -- What a check answers of a reading: not what was read, but how many words are left behind it.
+-- Document 01, "Operations": 4, 5 and 6 by the first offending word of the stream.
 use mathlib.Core.List.{List}
 use Prim.Native.Nat.{ℕ, _-_}
 use lib.ListN.{length, drop}

@@ -1,5 +1,6 @@
 -- Laws of reading, for any reader: what is left is an end of the words (`Ends`), readers that agree (`Same`), and how the answer of a check is made
 -- of the answers of its parts: `..-out`, the first is refused; `..-in`, the first is read and the rest is checked on what is left.
+-- Document 01, "Operations": 4, 5 and 6 by the first offending word of the stream.
 use Prim.Native.Nat.{ℕ, suc, _+_, _-_, _≤_, _<_}
 use native.Mathlib.Nat.{le-refl, le-trans}
 use native.Mathlib.Omega.{arith}

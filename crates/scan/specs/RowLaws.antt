@@ -1,4 +1,5 @@
 -- Laws of counts and of rows: as many readings as a count says (by recursion or by a loop), one for each entry, a series, a number of several words.
+-- Document 01, "Operations": 4, 5 and 6 by the first offending word of the stream.
 use Prim.Native.Nat.{ℕ, zero, suc, _+_, _-_, _*_, _≤_, _<_}
 use native.Mathlib.Nat.{le-refl}
 use native.Mathlib.Numerals.{sub-one}

@@ -1,5 +1,6 @@
 -- A running term and an event are read by the largest number, the words of a constant, domains, labels and what a guard may name: rule sets alike in
 -- these read the same (`given-term-alike`, `given-event-alike`).
+-- Document 01, "Unfolding, size and breadth"; refusal 10.
 use mathlib.Core.Path.{_≡_, refl, ap, _∙_}
 use mathlib.Core.List.{List, [], _∷_, map}
 use Prim.Native.Nat.{ℕ, zero, suc}

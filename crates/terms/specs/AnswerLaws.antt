@@ -1,4 +1,5 @@
 -- What an answer of the check says of the reading: what was read, the words behind it and its measures (`got`), or that nothing was (`none-read`).
+-- Document 01, "Unfolding, size and breadth"; refusal 10.
 use Prim.Native.Nat.{ℕ, _+_, _-_, _*_, _/_, _%_, _≤_, _<_}
 use native.Mathlib.Nat.{mod-eq-of-lt, div-eq-of-lt, add-mul-mod-self-left, add-mul-div-left, div-div-eq-div-mul, zero-add}
 use native.Mathlib.Omega.{arith}

@@ -1,5 +1,6 @@
 -- Answers of the check as numbers: what one tells, and how the parts' answers make the whole's. `weighed-running` (Given) is what an answer says of a
 -- reading.
+-- Document 01, "Unfolding, size and breadth"; refusal 10.
 use mathlib.Core.List.{List, [], _∷_}
 use mathlib.Core.Path.{_≡_}
 use Prim.Native.Nat.{ℕ, zero, suc, _+_, _-_, _*_, _/_, _%_, _≤_}

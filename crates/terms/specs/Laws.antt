@@ -1,5 +1,6 @@
 -- Laws of reading running terms, over any rule set: what is left is an end of the words (`term-ends`), and the reader is its own step, since a depth
 -- of more codes than words changes nothing (`term-case`).
+-- Document 01, "Unfolding, size and breadth"; refusal 10.
 use Prim.Native.Nat.{ℕ, zero, suc, _≤_}
 use native.Mathlib.Nat.{le-refl, le-trans, le-of-suc-le-suc, not-suc-le-zero}
 use mathlib.Core.Path.{_≡_, refl, ap, _∙_}

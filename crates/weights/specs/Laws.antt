@@ -1,4 +1,5 @@
 -- `parallel-by` is the specification's parallel, whatever its mask.
+-- Document 01, "Unfolding, size and breadth"; refusals 7 and 8.
 use mathlib.Core.Path.{_≡_, refl}
 use Rattle.eb3.specs.Terms.{Mask}
 use Rattle.eb3.specs.Sizes.{zero-mask}

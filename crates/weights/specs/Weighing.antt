@@ -1,4 +1,5 @@
 -- A weight is a measure of the specification, cut off at 65,536.
+-- Document 01, "Unfolding, size and breadth"; refusals 7 and 8.
 use mathlib.Core.Bool.{Bool}
 use Prim.Native.Nat.{ℕ, zero, suc}
 use Rattle.eb3.specs.Measures.{sat, Measure, parallel-breadth-of, star-of}

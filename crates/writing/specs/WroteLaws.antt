@@ -1,4 +1,5 @@
 -- Laws of writing: one word more at a time, and one list behind another into the rest that is lent on.
+-- Document 01, "Operations": what is written, and what is kept.
 use mathlib.Core.Path.{_≡_, refl, sym, ap, _∙_}
 use mathlib.Core.Bool.{Bool, true, false}
 use mathlib.Core.List.{List, [], _∷_, _++_, append-assoc}
