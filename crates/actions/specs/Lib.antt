@@ -1,0 +1,3 @@
+-- Actions as numbers.
+pub mod Codes
+pub mod CodesLaws
