@@ -1,11 +1,11 @@
 -- Laws of actions' numbers: equal numbers are equal actions, and a number tells the label and the arguments.
 use mathlib.Core.Path.{_≡_, refl, sym, ap, _∙_, subst}
 use mathlib.Core.Bool.{Bool, true, false, cond}
-use mathlib.Core.List.{List, [], _∷_, _++_}
-use Prim.Native.Nat.{ℕ, zero, suc, _+_, _-_, _*_, _/_, _%_, _^_, _≤_, _<_}
+use mathlib.Core.List.{List, [], _∷_}
+use Prim.Native.Nat.{ℕ, _-_, _/_, _%_, _^_, _<_}
 use native.Mathlib.Omega.{arith}
 use lib.Dec.{T, eqb, eqb→eq, eqb-refl}
-use lib.ListN.{length, take, getD}
+use lib.ListN.{take}
 use lib.Seq.{getD-take}
 use borrow.Author.Tests.{ne-eqb}
 use Rattle.eb3.specs.Generic.AllLists.{All}

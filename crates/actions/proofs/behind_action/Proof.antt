@@ -1,5 +1,5 @@
 use borrow.Author.Needs.{needs}
-use Rattle.actions.proofs.Cases.{cases, behind-some, behind-none}
+use Rattle.actions.proofs.Cases.{behind-some, behind-none}
 use Rattle.actions.proofs.behind_action.Statement.{statement}
 use Rattle.actions.proofs.behind_action.Tie as tie
 use Rattle.actions.proofs.behind_action.Reads as reads
