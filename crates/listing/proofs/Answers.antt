@@ -1,0 +1,212 @@
+-- Answers of listing, put together and taken apart; one move, and two operands' lists one behind the other.
+use mathlib.Core.Path.{_≡_, refl, sym, ap, _∙_}
+use mathlib.Core.Bool.{Bool}
+use mathlib.Core.List.{List, [], _∷_, _++_, append-nil}
+use Prim.Native.Nat.{ℕ, _+_, _-_, _*_, _/_, _%_, _≤_, _<_}
+use native.Mathlib.Nat.{le-refl}
+use native.Mathlib.Omega.{arith}
+use lib.ListN.{length, take, drop, set, getD, length-append, length-drop, length-set, drop-of-length-le}
+use lib.Seq.{take-append-add, drop-length, length-take-le}
+use Rattle.eb3.specs.Expressions.{Cond}
+use Rattle.eb3.specs.Scopes.{Scope}
+use Rattle.eb3.specs.Terms.{Term}
+use Rattle.eb3.specs.Spelling.{words}
+use Rattle.scan.specs.Checking.{last-of}
+use Rattle.scan.specs.Laws.{part}
+use Rattle.expressions.specs.Answering.{answer}
+use Rattle.listing.specs.Listing.{TermAt, holding, codes, room, full, Right, Listed}
+use Rattle.listing.specs.Positions.{TwoAt, second-at, behind-shorter}
+use Rattle.listing.specs.Arms.{Lists, Sound, OneListed, TwoListed}
+
+pub answer-is : (left n : ℕ) → answer left n ≡ left + 65536 * n
+unfolding answer
+answer-is left n = refl
+
+module _ (r left n : ℕ) (e : r ≡ answer left n) (h : left ≤ 65535) where
+  pub answered-left : r % 65536 ≡ left
+  answered-left = omega (arith, e, answer-is left n)
+
+  pub answered-count : r / 65536 ≡ n
+  answered-count = omega (arith, e, answer-is left n)
+
+-- ── the whole ──
+
+pub sound-lost : (entry exit : List ℕ) → length exit ≡ length entry → Sound entry exit full
+sound-lost entry exit h = record { same-length = h; bounded = le-refl full; count-bounded = λ z. absurd (omega (arith, z)) }
+
+pub never-full : {A : Type 0} → full < full → A
+never-full z = absurd (omega (arith, z))
+
+pub sound-of : {s M entry exit : List ℕ} {r : ℕ} → Listed s M entry exit r → Sound entry exit r
+sound-of h = record { same-length = h .same-length; bounded = h .bounded; count-bounded = h .count-bounded }
+
+-- of what is known of every term that may stand there
+pub listed-of : {s M entry exit : List ℕ} {r : ℕ} → Sound entry exit r
+    → ((P : Scope) (E : Term) (rest : List ℕ) → TermAt s P E rest → (room (holding M) E ≤ length entry → r < full) × (r < full → Right (holding M) E rest exit r))
+    → Listed s M entry exit r
+listed-of h f = record {
+  same-length = h .same-length;
+  bounded = h .bounded;
+  count-bounded = h .count-bounded;
+  has-room = λ P E rest k. f P E rest k .0;
+  right = λ P E rest k. f P E rest k .1;
+}
+
+pub right-of : (g : Cond → Bool) (E : Term) (o : List ℕ) {rest exit : List ℕ} {left r : ℕ} → codes g E ≡ o → left ≡ length rest → Lists o left exit r → Right g E rest exit r
+right-of g E o {rest} {exit} {left} {r} e f h = record {
+  counted = h .counted ∙ (λ i. answer (f i) (length (sym e i)));
+  listed = (λ i. take (length (e i)) exit) ∙ h .listed ∙ sym e;
+}
+
+pub lists-of : {g : Cond → Bool} {E : Term} {rest exit : List ℕ} {r : ℕ} → Right g E rest exit r → Lists (codes g E) (length rest) exit r
+lists-of h = record { counted = h .counted; listed = h .listed }
+
+-- ── one move ──
+
+pub one-none : (code left : ℕ) (entry : List ℕ) → length entry ≡ 0 → OneListed code left entry entry full
+one-none code left entry h = record {
+  sound = sound-lost entry entry refl;
+  has-room = λ k. absurd (omega arith);
+  right = λ z. never-full z;
+}
+
+front-set : (entry : List ℕ) (code : ℕ) → (length entry ≡ 0 → ⊥) → take 1 (set entry 0 code) ≡ code ∷ []
+front-set [] code h = absurd (h refl)
+front-set (x ∷ entry) code h = refl
+
+pub one-made : (code left : ℕ) (entry : List ℕ) → left ≤ 65535 → (length entry ≡ 0 → ⊥) → OneListed code left entry (set entry 0 code) (left + 65536)
+one-made code left entry l h = record {
+  sound = record { same-length = length-set entry 0 code; bounded = omega arith; count-bounded = λ z. omega arith };
+  has-room = λ k. omega arith;
+  right = λ z. record { counted = omega (arith, answer-is left 1); listed = front-set entry code h };
+}
+
+-- ── two operands ──
+
+-- A lent rest that came back.
+pub back-rest : (x y : List ℕ) (n : ℕ) → take n x ++ (y ++ drop (length x - n) (drop n x)) ≡ take n x ++ y
+back-rest x y n =
+    let e : drop (length x - n) (drop n x) ≡ [] = ap (λ k. drop k (drop n x)) (sym (length-drop n x)) ∙ drop-length (drop n x) in
+    ap (λ l. take n x ++ (y ++ l)) e ∙ ap (λ l. take n x ++ l) (append-nil y)
+
+-- l is the answer of the first operand's list, r that of the second's behind it
+module _ (t M entry mid : List ℕ) (l : ℕ) (first : Listed t M entry mid l) (short : length t ≤ 65535) (few : length entry ≤ 131072) where
+  pub two-lost-first : full ≤ l → (exit : List ℕ) → length exit ≡ length entry → TwoListed t M entry exit full
+  two-lost-first f exit h = record {
+    sound = sound-lost entry exit h;
+    has-room = λ P E F rest k m. absurd (omega (arith, first .has-room P E (words 1 F ++ rest) (k .first) (omega arith)));
+    right = λ P E F rest k z. never-full z;
+  }
+
+  module _ (ok : l < full) where
+    module _ (P : Scope) (E F : Term) (rest : List ℕ) (k : TwoAt t P E F rest) where
+      first-right : Right (holding M) E (words 1 F ++ rest) mid l
+      first-right = first .right P E (words 1 F ++ rest) (k .first) ok
+
+      first-left : l % 65536 ≡ length (words 1 F ++ rest)
+      first-left = answered-left l (length (words 1 F ++ rest)) (length (codes (holding M) E)) (first-right .counted) (omega (arith, behind-shorter t P E (words 1 F ++ rest) (k .first)))
+
+      pub first-count : l / 65536 ≡ length (codes (holding M) E)
+      first-count = answered-count l (length (words 1 F ++ rest)) (length (codes (holding M) E)) (first-right .counted) (omega (arith, behind-shorter t P E (words 1 F ++ rest) (k .first)))
+
+      pub first-listed : take (l / 65536) mid ≡ codes (holding M) E
+      first-listed = ap (λ n. take n mid) first-count ∙ first-right .listed
+
+    module _ (u back : List ℕ) (r : ℕ) (isu : u ≡ last-of (l % 65536) t) (lent : Listed u M (take (length mid - l / 65536) (drop (l / 65536) mid)) back r) where
+      second : Listed u M (drop (l / 65536) mid) back r
+      second = rw (← part (l / 65536) mid) lent
+
+      abbrev pub whole : List ℕ
+      whole = take (l / 65536) mid ++ (back ++ drop (length mid - l / 65536) (drop (l / 65536) mid))
+
+      whole-is : whole ≡ take (l / 65536) mid ++ back
+      whole-is = back-rest mid back (l / 65536)
+
+      first-fits : l / 65536 ≤ length mid
+      first-fits = omega (arith, first .count-bounded ok, first .same-length)
+
+      pub whole-length : length whole ≡ length entry
+      whole-length = omega (arith, ap length whole-is, length-append (take (l / 65536) mid) back, length-take-le (l / 65536) mid first-fits, second .same-length, length-drop (l / 65536) mid, first .same-length, first-fits)
+
+      module _ (P : Scope) (E F : Term) (rest : List ℕ) (k : TwoAt t P E F rest) where
+        second-here : TermAt u P F rest
+        second-here = second-at (l % 65536) u k (first-left P E F rest k) isu
+
+        pub second-lost : full ≤ r → room (holding M) F ≤ length entry - l / 65536 → ⊥
+        second-lost f m = omega (arith, second .has-room P F rest second-here (omega (arith, length-drop (l / 65536) mid, first .same-length)))
+
+        second-right : r < full → Right (holding M) F rest back r
+        second-right z = second .right P F rest second-here z
+
+        rest-short : length rest ≤ 65535
+        rest-short = omega (arith, behind-shorter t P E (words 1 F ++ rest) (k .first), length-append (words 1 F) rest)
+
+        pub second-count : r < full → r / 65536 ≡ length (codes (holding M) F)
+        second-count z = answered-count r (length rest) (length (codes (holding M) F)) (second-right z .counted) rest-short
+
+        pub second-left : r < full → r % 65536 ≡ length rest
+        second-left z = answered-left r (length rest) (length (codes (holding M) F)) (second-right z .counted) rest-short
+
+        pub second-listed : r < full → take (length (codes (holding M) F)) back ≡ codes (holding M) F
+        second-listed z = second-right z .listed
+
+        pub both-front : whole ≡ codes (holding M) E ++ back
+        both-front = whole-is ∙ ap (λ x. x ++ back) (first-listed P E F rest k)
+
+      pub two-lost-second : full ≤ r → TwoListed t M entry whole full
+      two-lost-second f = record {
+        sound = sound-lost entry whole whole-length;
+        has-room = λ P E F rest k m. absurd (second-lost P E F rest k f (omega (arith, first-count P E F rest k)));
+        right = λ P E F rest k z. never-full z;
+      }
+
+      pub both-fit : r < full → l / 65536 + r / 65536 ≤ length entry
+      both-fit z = omega (arith, second .count-bounded z, length-drop (l / 65536) mid, first .same-length, first-fits)
+
+      pub two-made : r < full → TwoListed t M entry whole (l / 65536 * 65536 + r)
+      two-made z =
+          let fit = both-fit z in
+          let low : l / 65536 * 65536 + r < full = omega arith in
+          record {
+            sound = record { same-length = whole-length; bounded = omega arith; count-bounded = λ y. omega arith };
+            has-room = λ P E F rest k m. low;
+            right = λ P E F rest k y. record {
+              counted = omega (
+                arith,
+                second-right P E F rest k z .counted,
+                answer-is (length rest) (length (codes (holding M) F)),
+                first-count P E F rest k,
+                answer-is (length rest) (length (codes (holding M) E ++ codes (holding M) F)),
+                length-append (codes (holding M) E) (codes (holding M) F),
+              );
+              listed =
+                  ap (λ n. take n whole) (length-append (codes (holding M) E) (codes (holding M) F))
+                  ∙ ap (take (length (codes (holding M) E) + length (codes (holding M) F))) (both-front P E F rest k)
+                  ∙ take-append-add (codes (holding M) E) back (length (codes (holding M) F))
+                  ∙ ap (λ x. codes (holding M) E ++ x) (second-listed P E F rest k z);
+            };
+          }
+
+-- ── what the recursion asks ──
+
+pub front-len : (s : List ℕ) (w : ℕ) → w ≡ getD s 0 0 → w < 65536 → w ≤ 65536 * length s
+front-len [] w e h = omega arith
+front-len (x ∷ s) w e h = omega arith
+
+pub mask-len : (d t : List ℕ) → t ≡ drop 4 d → length t ≤ length d
+mask-len d t e = omega (arith, ap length e, length-drop 4 d)
+
+pub mask-short : (d t : List ℕ) → t ≡ drop 4 d → length d ≤ 65535 → length t ≤ 65535
+mask-short d t e h = omega (arith, mask-len d t e)
+
+pub lent-len : (x : List ℕ) (n : ℕ) → length (take (length x - n) (drop n x)) ≤ length x
+lent-len x n = omega (arith, ap length (part n x), length-drop n x)
+
+pub star-lent : (entry : List ℕ) → length entry ≤ 131072 → length (take (length (set entry 0 0) - 1) (drop 1 (set entry 0 0))) ≤ 131072
+star-lent entry h = omega (arith, lent-len (set entry 0 0) 1, length-set entry 0 0)
+
+pub mask-short-drop : (d : List ℕ) → length d < 4 → drop (length d) d ≡ drop 4 d
+mask-short-drop d h = drop-length d ∙ sym (drop-of-length-le d {i = 4} (omega arith))
+
+pub lent-few : {t M entry mid : List ℕ} {l : ℕ} → Listed t M entry mid l → length entry ≤ 131072 → length (take (length mid - l / 65536) (drop (l / 65536) mid)) ≤ 131072
+lent-few {t} {M} {entry} {mid} {l} h k = omega (arith, lent-len mid (l / 65536), h .same-length)

@@ -1,0 +1,8 @@
+mod Pieces
+mod Skipping
+mod Writing
+mod Copying
+mod Answers
+mod Arms
+mod Sides
+mod Parallels

@@ -1,0 +1,41 @@
+-- What listing answers at each form of a term: one move, two operands one behind the other, two operands combined by a mask.
+use mathlib.Core.Path.{_≡_}
+use mathlib.Core.List.{List, [], _∷_, _++_}
+use Prim.Native.Nat.{ℕ, _/_, _≤_, _<_}
+use lib.ListN.{length, take}
+use Rattle.eb3.specs.Scopes.{Scope}
+use Rattle.eb3.specs.Terms.{Term}
+use Rattle.expressions.specs.Answering.{answer}
+use Rattle.actions.specs.CodesLaws.{masked-code}
+use Rattle.listing.specs.Listing.{holding, codes, full}
+use Rattle.listing.specs.Positions.{TwoAt, MaskedAt}
+use Rattle.listing.specs.Combining.{combined}
+use Rattle.listing.specs.RoomLaws.{two-room, masked-room}
+
+-- The array begins with o, and so many words are left.
+pub record Lists (o : List ℕ) (left : ℕ) (exit : List ℕ) (r : ℕ) : Type 0 where
+  pub counted : r ≡ answer left (length o)
+  pub listed : take (length o) exit ≡ o
+
+-- What is known of an answer whatever the words are.
+pub record Sound (entry exit : List ℕ) (r : ℕ) : Type 0 where
+  pub same-length : length exit ≡ length entry
+  pub bounded : r ≤ full
+  pub count-bounded : r < full → r / 65536 ≤ length entry
+
+pub record OneListed (code left : ℕ) (entry exit : List ℕ) (r : ℕ) : Type 0 where
+  pub sound : Sound entry exit r
+  pub has-room : 1 ≤ length entry → r < full
+  pub right : r < full → Lists (code ∷ []) left exit r
+
+pub record TwoListed (t M entry exit : List ℕ) (r : ℕ) : Type 0 where
+  pub sound : Sound entry exit r
+  pub has-room : (P : Scope) (E F : Term) (rest : List ℕ) → TwoAt t P E F rest → two-room (holding M) E F ≤ length entry → r < full
+  pub right : (P : Scope) (E F : Term) (rest : List ℕ) → TwoAt t P E F rest → r < full → Lists (codes (holding M) E ++ codes (holding M) F) (length rest) exit r
+
+pub record MaskedListed (d M entry exit : List ℕ) (r : ℕ) : Type 0 where
+  pub sound : Sound entry exit r
+  pub has-room : (P : Scope) (Δ : List ℕ) (E F : Term) (rest : List ℕ) → MaskedAt d P Δ E F rest
+      → masked-room (holding M) E F (length (combined (masked-code Δ) (codes (holding M) E) (codes (holding M) F))) ≤ length entry → r < full
+  pub right : (P : Scope) (Δ : List ℕ) (E F : Term) (rest : List ℕ) → MaskedAt d P Δ E F rest → r < full
+      → Lists (combined (masked-code Δ) (codes (holding M) E) (codes (holding M) F)) (length rest) exit r
