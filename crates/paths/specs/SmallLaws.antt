@@ -1,0 +1,141 @@
+-- Small actions, those of rule sets of edition 1: equal numbers are equal actions, and an action's number says whether it is in a mask. Each action that a
+-- move of a term performs is one of the term's, so that the actions of a term with small actions are small as long as it runs.
+use mathlib.Core.Path.{_≡_, refl, sym, ap, _∙_, subst}
+use mathlib.Core.Bool.{Bool, true, false}
+use mathlib.Core.List.{List, [], _∷_}
+use mathlib.Core.Option.{some}
+use Prim.Native.Nat.{ℕ, zero, suc, _+_, _-_, _*_, _<_, _%_, _/_}
+use native.Mathlib.Omega.{arith}
+use native.Mathlib.Nat.{zero-div}
+use lib.Dec.{T, eqb, eqb→eq, eqb-refl, eqb·suc-zero, eqb·zero-suc}
+use lib.ListN.{getD, getElem?}
+use Rattle.eb3.specs.Generic.AllLists.{All}
+use Rattle.eb3.specs.Generic.Booleans.{T-fst, T-snd}
+use Rattle.eb3.specs.Expressions.{Cond}
+use Rattle.eb3.specs.Terms.{Term, Done, Internal, Perform, Sequence, Choice, Star, Parallel, Guard, VisibleAction, Action, internal, visible, Mask, bit, in-mask, same-action}
+use Rattle.eb3.specs.Laws.Terms.{same-action→eq, same-action-refl}
+use Rattle.eb3.specs.Moves.{Move, moves}
+use Rattle.eb3.specs.Reading.{pick}
+use Rattle.eb3.specs.Sizes.{zero-mask}
+use Rattle.eb3.specs.Derivations.{DataState, Step, S-1, S-1′, S-2, S-3, S-4-left, S-4-right, S-5, S-6, S-7, S-8, S-9-left, S-9-right, S-10}
+use Rattle.eb3.specs.Laws.Semantics.{move-stepped}
+use Rattle.actions.specs.Codes.{arguments-code, action-code, Small}
+use Rattle.paths.specs.Paths.{code-in-mask}
+
+abbrev pub SmallActions : Term → Type 0
+SmallActions Done = Unit
+SmallActions Internal = Unit
+SmallActions (Perform a) = Small (visible a)
+SmallActions (Sequence E F) = SmallActions E × SmallActions F
+SmallActions (Choice E F) = SmallActions E × SmallActions F
+SmallActions (Star E) = SmallActions E
+SmallActions (Parallel Δ E F) = SmallActions E × SmallActions F
+SmallActions (Guard C E) = SmallActions E
+
+-- ── steps keep them ──
+
+pub step-small : {S : DataState} {M M′ : S .State} {E E′ : Term} {ρ : Action} → Step S M E ρ E′ M′ → SmallActions E → SmallActions E′
+step-small S-1 w = tt
+step-small S-1′ w = tt
+step-small (S-2 d) w = (step-small d (w .0), w .1)
+step-small (S-3 d) w = step-small d (w .1)
+step-small (S-4-left d) w = step-small d (w .0)
+step-small (S-4-right d) w = step-small d (w .1)
+step-small S-5 w = tt
+step-small (S-6 d) w = (step-small d w, w)
+step-small S-7 w = tt
+step-small (S-8 h d e) w = (step-small d (w .0), step-small e (w .1))
+step-small (S-9-left h d) w = (step-small d (w .0), w .1)
+step-small (S-9-right h d) w = (w .0, step-small d (w .1))
+step-small (S-10 h d) w = step-small d w
+
+pub step-action-small : {S : DataState} {M M′ : S .State} {E E′ : Term} {ρ : Action} → Step S M E ρ E′ M′ → SmallActions E → Small ρ
+step-action-small S-1 w = w
+step-action-small S-1′ w = tt
+step-action-small (S-2 d) w = step-action-small d (w .0)
+step-action-small (S-3 d) w = step-action-small d (w .1)
+step-action-small (S-4-left d) w = step-action-small d (w .0)
+step-action-small (S-4-right d) w = step-action-small d (w .1)
+step-action-small S-5 w = tt
+step-action-small (S-6 d) w = step-action-small d w
+step-action-small S-7 w = tt
+step-action-small (S-8 h d e) w = step-action-small d (w .0)
+step-action-small (S-9-left h d) w = step-action-small d (w .0)
+step-action-small (S-9-right h d) w = step-action-small d (w .1)
+step-action-small (S-10 h d) w = step-action-small d w
+
+-- Of every entry of the list of moves.
+pub move-small : (g : Cond → Bool) (E : Term) (k : ℕ) (x : Move) → getElem? (moves g E) k ≡ some x → SmallActions E → SmallActions (x .successor)
+move-small g E k x e w = step-small (move-stepped g E k x e) w
+
+pub move-action-small : (g : Cond → Bool) (E : Term) (k : ℕ) (x : Move) → getElem? (moves g E) k ≡ some x → SmallActions E → Small (x .action)
+move-action-small g E k x e w = step-action-small (move-stepped g E k x e) w
+
+-- ── numbers of small actions ──
+
+pub arguments-code-injective : (xs ys : List ℕ) → All (λ x. x < 64) xs → All (λ x. x < 64) ys → arguments-code xs ≡ arguments-code ys → xs ≡ ys
+unfolding arguments-code
+arguments-code-injective [] [] h k e = refl
+arguments-code-injective [] (y ∷ ys) h k e = let z : ⊥ = omega arith in absurd z
+arguments-code-injective (x ∷ xs) [] h k e = let z : ⊥ = omega arith in absurd z
+arguments-code-injective (x ∷ xs) (y ∷ ys) h k e =
+    let lx : x < 64 = h .0 in
+    let ly : y < 64 = k .0 in
+    let p : x ≡ y = omega arith in
+    let q : arguments-code xs ≡ arguments-code ys = omega arith in
+    let r = arguments-code-injective xs ys (h .1) (k .1) q in
+    λ i. p i ∷ r i
+
+pub small-code-injective : (ρ σ : Action) → Small ρ → Small σ → action-code ρ ≡ action-code σ → ρ ≡ σ
+unfolding action-code
+small-code-injective internal internal h k e = refl
+small-code-injective internal (visible b) h k e = let z : ⊥ = omega arith in absurd z
+small-code-injective (visible a) internal h k e = let z : ⊥ = omega arith in absurd z
+small-code-injective (visible a) (visible b) h k e =
+    let la : a .label < 64 = h .0 in
+    let lb : b .label < 64 = k .0 in
+    let p : a .label ≡ b .label = omega arith in
+    let q : arguments-code (a .arguments) ≡ arguments-code (b .arguments) = omega arith in
+    let r = arguments-code-injective (a .arguments) (b .arguments) (h .2) (k .2) q in
+    λ i. visible (record { label = p i; arguments = r i })
+
+tests-agree : (a b : Bool) → (T a → T b) → (T b → T a) → a ≡ b
+tests-agree true true f g = refl
+tests-agree true false f g = absurd (f tt)
+tests-agree false true f g = absurd (g tt)
+tests-agree false false f g = refl
+
+pub small-same-action : (ρ σ : Action) → Small ρ → Small σ → eqb (action-code ρ) (action-code σ) ≡ same-action ρ σ
+small-same-action ρ σ h k =
+    tests-agree (eqb (action-code ρ) (action-code σ)) (same-action ρ σ)
+    (λ t. subst (λ τ. T (same-action ρ τ)) (small-code-injective ρ σ h k (eqb→eq (action-code ρ) (action-code σ) t)) (same-action-refl ρ))
+    (λ t. subst (λ τ. T (eqb (action-code ρ) (action-code τ))) (same-action→eq ρ σ t) (eqb-refl (action-code ρ)))
+
+pub small-in-mask : (Δ : Mask) (ρ : Action) → Small ρ → code-in-mask Δ (action-code ρ) ≡ in-mask Δ ρ
+unfolding code-in-mask action-code in-mask
+small-in-mask Δ internal h = refl
+small-in-mask Δ (visible a) h =
+    let l : a .label < 64 = h .0 in
+    let s : 1 + a .label + 64 * arguments-code (a .arguments) ≡ suc (a .label + 64 * arguments-code (a .arguments)) = omega arith in
+    let m : (suc (a .label + 64 * arguments-code (a .arguments)) - 1) % 64 ≡ a .label = omega arith in
+    rw (s, eqb·suc-zero (a .label + 64 * arguments-code (a .arguments)), m)
+
+-- ── a mask of zeros has no action ──
+
+zero-words : (Δ : Mask) → T (zero-mask Δ) → (i : ℕ) → getD Δ i 0 ≡ 0
+unfolding zero-mask
+zero-words [] t i = refl
+zero-words (w ∷ Δ) t zero = eqb→eq w 0 (T-fst (eqb w 0) (zero-mask Δ) t)
+zero-words (w ∷ Δ) t (suc i) = zero-words Δ (T-snd (eqb w 0) (zero-mask Δ) t) i
+
+pub zero-mask-bit : (Δ : Mask) → T (zero-mask Δ) → (label : ℕ) → bit Δ label ≡ false
+unfolding bit
+zero-mask-bit Δ t label = rw (zero-words Δ t (label / 16)) (rw zero-div refl)
+
+either-false : (b : Bool) {c : Bool} → c ≡ false → pick b false c ≡ false
+either-false true e = refl
+either-false false e = e
+
+pub zero-mask-code : (Δ : Mask) → T (zero-mask Δ) → (c : ℕ) → code-in-mask Δ c ≡ false
+unfolding code-in-mask
+zero-mask-code Δ t c = either-false (eqb c 0) (zero-mask-bit Δ t ((c - 1) % 64))
