@@ -1,4 +1,5 @@
 -- Laws of actions' numbers: equal numbers are equal actions, and a number tells the label and the arguments.
+-- Document 01, "Moves, in order": equal actions, label and arguments.
 use mathlib.Core.Path.{_≡_, refl, sym, ap, _∙_, subst}
 use mathlib.Core.Bool.{Bool, true, false, cond}
 use mathlib.Core.List.{List, [], _∷_}

@@ -1,3 +1,4 @@
 -- Actions as numbers.
+-- Document 01, "Moves, in order": equal actions, label and arguments.
 pub mod Codes
 pub mod CodesLaws

@@ -1,4 +1,5 @@
 -- Two environments that agree on all that an expression may name give it the same value: what its scope leaves out, it cannot read.
+-- Document 01, "Memory and the history machine".
 use mathlib.Core.Path.{_≡_, refl, ap, _∙_}
 use mathlib.Core.Bool.{not, _&&_, _||_, cond}
 use mathlib.Core.List.{List, _∷_}

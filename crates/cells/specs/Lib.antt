@@ -1,4 +1,5 @@
 -- The cells of a store: how they are laid out, and what filling them leaves.
+-- Document 01, "Memory and the history machine".
 pub mod Layout
 pub mod Filling
 pub mod CellLaws

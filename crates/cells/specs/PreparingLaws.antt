@@ -1,4 +1,5 @@
 -- Laws of preparing: word by word a store is made ready, and word by word a memory is put into it.
+-- Document 01, "Memory and the history machine".
 use mathlib.Core.Path.{_≡_, refl, sym, ap, subst, _∙_}
 use mathlib.Core.Bool.{Bool, true, false, cond}
 use mathlib.Core.List.{List, [], _∷_}

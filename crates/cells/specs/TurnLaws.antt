@@ -1,4 +1,5 @@
 -- Laws of filling: in a function's turn its expression, evaluated in the store, has the cell's value (`turn-value`), so one cell more is new.
+-- Document 01, "Memory and the history machine".
 use mathlib.Core.Path.{_≡_, refl, sym, ap, subst, _∙_}
 use mathlib.Core.List.{List, [], _∷_}
 use mathlib.Core.Logic.{_≢_}

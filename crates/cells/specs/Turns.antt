@@ -1,4 +1,5 @@
 -- The cells are filled one by one: what holds of the store after some of them, and what filling one function's cells leaves.
+-- Document 01, "Memory and the history machine".
 use mathlib.Core.Path.{_≡_}
 use mathlib.Core.List.{List}
 use mathlib.Core.Option.{Option}

@@ -1,4 +1,5 @@
 -- What listing answers at each form of a term: one move, two operands one behind the other, two operands combined by a mask.
+-- Document 01, "Moves, in order".
 use mathlib.Core.Path.{_≡_}
 use mathlib.Core.List.{List, [], _∷_, _++_}
 use Prim.Native.Nat.{ℕ, _/_, _≤_, _<_}

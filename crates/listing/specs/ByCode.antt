@@ -1,4 +1,5 @@
 -- A code tells which term stands behind it: one case for each code.
+-- Document 01, "Moves, in order".
 use mathlib.Core.Path.{_≡_}
 use mathlib.Core.List.{List}
 use Prim.Native.Nat.{ℕ}

@@ -1,4 +1,5 @@
 -- What is shown of the operands behind a code is shown of every term that begins with it.
+-- Document 01, "Moves, in order".
 use mathlib.Core.Path.{_≡_, ap}
 use mathlib.Core.List.{List, _∷_}
 use Prim.Native.Nat.{ℕ}

@@ -1,4 +1,5 @@
 -- The numbers of a term's moves by the term's form: those of a parallel are combined of its sides' (Combining).
+-- Document 01, "Moves, in order".
 use mathlib.Core.Path.{_≡_, refl, sym, ap, _∙_, subst}
 use mathlib.Core.Bool.{Bool, true, false, not, _&&_, cond}
 use mathlib.Core.List.{List, [], _∷_, _++_, map, append-nil}

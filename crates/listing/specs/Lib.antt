@@ -1,5 +1,6 @@
 -- What the listing of a term's moves answers (Listing, Arms, Combining), what follows a code (Counting), where operands stand (Positions), and the
 -- laws: cases by the code in front, numbers and room by the term's form.
+-- Document 01, "Moves, in order".
 pub mod Listing
 pub mod Counting
 pub mod Positions

@@ -1,4 +1,5 @@
 -- Where the operands of a term stand, told by the code in front of it.
+-- Document 01, "Moves, in order".
 use mathlib.Core.Path.{_≡_, refl, ap, _∙_}
 use mathlib.Core.List.{List, _∷_, _++_, append-assoc}
 use Prim.Native.Nat.{ℕ, _-_, _≤_}

@@ -1,4 +1,5 @@
 -- The room that listing takes, by the term's form, and its bound: twice the breadth.
+-- Document 01, "Moves, in order".
 use mathlib.Core.Path.{_≡_, refl, ap, _∙_}
 use mathlib.Core.Bool.{Bool, true, false, _&&_, cond}
 use Prim.Native.Nat.{ℕ, _+_, _*_, _≤_, max}

@@ -1,4 +1,5 @@
 -- A move's derivation written down as the decisions on the way to it, and the proof that it leads there.
+-- Document 01, "Moves, in order".
 pub mod Paths
 pub mod SeekLaws
 pub mod SmallLaws

@@ -3,24 +3,25 @@
 use mathlib.Core.Path.{_≡_, refl, sym, ap, _∙_, subst}
 use mathlib.Core.Bool.{Bool, true, false, not, _&&_, cond}
 use mathlib.Core.List.{List, [], _∷_, _++_, map, append-assoc}
-use mathlib.Core.Option.{Option, none, some, Option·some-injective, Option·none-ne-some}
+use mathlib.Core.Option.{some, Option·some-injective, Option·none-ne-some}
 use Prim.Native.Nat.{ℕ, zero, suc, _+_, _-_, _≤_, _<_}
 use native.Mathlib.Omega.{arith}
 use lib.Dec.{T, eqb, ltb, eqb·suc-zero}
-use lib.ListN.{length, getElem?, length-append, length-map}
+use lib.ListN.{length, getElem?, length-append}
 use borrow.Author.Tests.{ltb-true, ltb-false}
 use Rattle.eb3.specs.Generic.Lists.{filter, concat-map}
 use Rattle.eb3.specs.Expressions.{Cond}
-use Rattle.eb3.specs.Terms.{Term, Done, Internal, Perform, Sequence, Choice, Star, Parallel, Guard, Action, internal, visible, Mask, in-mask, same-action, done?}
+use Rattle.eb3.specs.Terms.{Term, Done, Internal, Perform, Sequence, Choice, Star, Parallel, Guard, internal, visible, Mask, in-mask, same-action, done?}
 use Rattle.eb3.specs.Moves.{Move, move, moves, sequenced, left-move, right-move, synchronised, outside-mask?, synchronise?, parallel-moves}
 use Rattle.eb3.specs.Reading.{pick}
 use Rattle.eb3.specs.Sizes.{size, zero-mask}
 use Rattle.eb3.specs.Laws.Sizes.{size-pos}
 use Rattle.eb3.specs.Laws.TransitionSystems.{getElem?-unmap}
 use Rattle.actions.specs.Codes.{action-code, Small}
-use Rattle.paths.specs.Paths.{Sought, at, beyond, one-on, seek, Sides, left-alone, right-alone, together, nowhere, code-in-mask, outside, or-left, or-right, seek-pair, locate, numbers, path-by, path, Followed, followed, within, follow}
+use Rattle.actions.specs.CodesLaws.{same-code}
+use Rattle.paths.specs.Paths.{Sought, at, beyond, seek, Sides, left-alone, right-alone, together, nowhere, outside, or-left, or-right, seek-pair, locate, numbers, path-by, path, Followed, followed, within, follow}
 use Rattle.paths.specs.SeekLaws.{Seen, seek-seen, Paired, pair-seen, entry-first, entry-rest, entry-made, entry-behind}
-use Rattle.paths.specs.SmallLaws.{SmallActions, move-action-small, small-same-action, small-in-mask, zero-mask-code}
+use Rattle.paths.specs.SmallLaws.{SmallActions, move-action-small, small-in-mask, zero-mask-code}
 
 -- ── the sides of the k-th of a parallel's moves ──
 
@@ -52,7 +53,7 @@ module _ (Δ : Mask) (E F : Term) (xs ys : List Move) where
         from-pair v (seek-pair Δ 0 (map code xs) (map code ys) k)
         (pair-seen code (λ (x : Move). in-mask Δ (x .action)) (λ (x y : Move). same-action (x .action) (y .action)) (synchronised Δ) Δ xs ys
         (λ i x h. small-in-mask Δ (x .action) (small i x h))
-        (λ i j x y h l. small-same-action (x .action) (y .action) (small i x h) (smalls j y l)) 0 k v e)
+        (λ i j x y h l. sym (same-code (x .action) (y .action) (small i x h) (smalls j y l))) 0 k v e)
 
     located-right : (k : ℕ) (v : Move) (s : Sought) → Seen ys (filter (outside-mask? Δ) ys) k s
         → getElem? (map (right-move Δ E) (filter (outside-mask? Δ) ys) ++ together-moves) k ≡ some v → Located v (or-right Δ (map code xs) (map code ys) s)

@@ -1,19 +1,18 @@
--- Small actions, those of rule sets of edition 1: equal numbers are equal actions, and an action's number says whether it is in a mask. Each action that a
+-- Small actions, those of rule sets of edition 1: an action's number says whether it is in a mask. Each action that a
 -- move of a term performs is one of the term's, so that the actions of a term with small actions are small as long as it runs.
-use mathlib.Core.Path.{_≡_, refl, sym, ap, _∙_, subst}
+-- Document 01, "Moves, in order".
+use mathlib.Core.Path.{_≡_, refl}
 use mathlib.Core.Bool.{Bool, true, false}
-use mathlib.Core.List.{List, [], _∷_}
+use mathlib.Core.List.{[], _∷_}
 use mathlib.Core.Option.{some}
 use Prim.Native.Nat.{ℕ, zero, suc, _+_, _-_, _*_, _<_, _%_, _/_}
 use native.Mathlib.Omega.{arith}
 use native.Mathlib.Nat.{zero-div}
-use lib.Dec.{T, eqb, eqb→eq, eqb-refl, eqb·suc-zero, eqb·zero-suc}
+use lib.Dec.{T, eqb, eqb→eq, eqb·suc-zero}
 use lib.ListN.{getD, getElem?}
-use Rattle.eb3.specs.Generic.AllLists.{All}
 use Rattle.eb3.specs.Generic.Booleans.{T-fst, T-snd}
 use Rattle.eb3.specs.Expressions.{Cond}
-use Rattle.eb3.specs.Terms.{Term, Done, Internal, Perform, Sequence, Choice, Star, Parallel, Guard, VisibleAction, Action, internal, visible, Mask, bit, in-mask, same-action}
-use Rattle.eb3.specs.Laws.Terms.{same-action→eq, same-action-refl}
+use Rattle.eb3.specs.Terms.{Term, Done, Internal, Perform, Sequence, Choice, Star, Parallel, Guard, Action, internal, visible, Mask, bit, in-mask}
 use Rattle.eb3.specs.Moves.{Move, moves}
 use Rattle.eb3.specs.Reading.{pick}
 use Rattle.eb3.specs.Sizes.{zero-mask}
@@ -72,44 +71,6 @@ pub move-action-small : (g : Cond → Bool) (E : Term) (k : ℕ) (x : Move) → 
 move-action-small g E k x e w = step-action-small (move-stepped g E k x e) w
 
 -- ── numbers of small actions ──
-
-pub arguments-code-injective : (xs ys : List ℕ) → All (λ x. x < 64) xs → All (λ x. x < 64) ys → arguments-code xs ≡ arguments-code ys → xs ≡ ys
-unfolding arguments-code
-arguments-code-injective [] [] h k e = refl
-arguments-code-injective [] (y ∷ ys) h k e = let z : ⊥ = omega arith in absurd z
-arguments-code-injective (x ∷ xs) [] h k e = let z : ⊥ = omega arith in absurd z
-arguments-code-injective (x ∷ xs) (y ∷ ys) h k e =
-    let lx : x < 64 = h .0 in
-    let ly : y < 64 = k .0 in
-    let p : x ≡ y = omega arith in
-    let q : arguments-code xs ≡ arguments-code ys = omega arith in
-    let r = arguments-code-injective xs ys (h .1) (k .1) q in
-    λ i. p i ∷ r i
-
-pub small-code-injective : (ρ σ : Action) → Small ρ → Small σ → action-code ρ ≡ action-code σ → ρ ≡ σ
-unfolding action-code
-small-code-injective internal internal h k e = refl
-small-code-injective internal (visible b) h k e = let z : ⊥ = omega arith in absurd z
-small-code-injective (visible a) internal h k e = let z : ⊥ = omega arith in absurd z
-small-code-injective (visible a) (visible b) h k e =
-    let la : a .label < 64 = h .0 in
-    let lb : b .label < 64 = k .0 in
-    let p : a .label ≡ b .label = omega arith in
-    let q : arguments-code (a .arguments) ≡ arguments-code (b .arguments) = omega arith in
-    let r = arguments-code-injective (a .arguments) (b .arguments) (h .2) (k .2) q in
-    λ i. visible (record { label = p i; arguments = r i })
-
-tests-agree : (a b : Bool) → (T a → T b) → (T b → T a) → a ≡ b
-tests-agree true true f g = refl
-tests-agree true false f g = absurd (f tt)
-tests-agree false true f g = absurd (g tt)
-tests-agree false false f g = refl
-
-pub small-same-action : (ρ σ : Action) → Small ρ → Small σ → eqb (action-code ρ) (action-code σ) ≡ same-action ρ σ
-small-same-action ρ σ h k =
-    tests-agree (eqb (action-code ρ) (action-code σ)) (same-action ρ σ)
-    (λ t. subst (λ τ. T (same-action ρ τ)) (small-code-injective ρ σ h k (eqb→eq (action-code ρ) (action-code σ) t)) (same-action-refl ρ))
-    (λ t. subst (λ τ. T (eqb (action-code ρ) (action-code τ))) (same-action→eq ρ σ t) (eqb-refl (action-code ρ)))
 
 pub small-in-mask : (Δ : Mask) (ρ : Action) → Small ρ → code-in-mask Δ (action-code ρ) ≡ in-mask Δ ρ
 unfolding code-in-mask action-code in-mask
