@@ -1,19 +1,17 @@
 -- Laws of preparing: word by word a store is made ready, and word by word a memory is put into it.
 -- Document 01, "Memory and the history machine".
 use mathlib.Core.Path.{_≡_, refl, sym, ap, subst, _∙_}
-use mathlib.Core.Bool.{Bool, true, false, cond}
+use mathlib.Core.Bool.{Bool}
 use mathlib.Core.List.{List, [], _∷_}
-use mathlib.Core.Logic.{_≢_}
 use Prim.Native.Nat.{ℕ, zero, suc, _+_, _-_, _*_, _/_, _%_, _≤_, _<_}
 use native.Mathlib.Omega.{arith}
 use native.Mathlib.Decide.{ℕ-discrete, decLt}
-use lib.Dec.{ltb, lit<}
 use lib.ListN.{length, getD, set, length-set, take, drop, length-drop, List·getD-eq-default}
 use lib.Seq.{length-take-le}
 use borrow.Author.Tests.{lt-ltb, le-ltb, le-leb}
 use Rattle.eb3.specs.Bytes.{words-in, written}
 use Rattle.eb3.specs.Laws.Bytes.{words-counted}
-use Rattle.expressions.specs.Stores.{stored, row-place, now-place, before-place}
+use Rattle.expressions.specs.Stores.{stored, now-place}
 use Rattle.writing.specs.Wrote.{Wrote}
 use Rattle.cells.specs.TurnLaws.{stored-there, stored-else}
 use Rattle.cells.specs.Preparing.{Prepared, ready-word, Loaded, Saved}

@@ -1,8 +1,8 @@
 -- What is read from a store that holds cells is what is read from the cells: for any place where they stand, so for now and for before; and a guard is
 -- judged in such a store as document 01 says.
-use mathlib.Core.Path.{_≡_, refl, sym, ap, _∙_}
+use mathlib.Core.Path.{_≡_, sym, ap, _∙_}
 use mathlib.Core.List.{List, [], _∷_}
-use Prim.Native.Nat.{ℕ, zero, suc, _+_, _*_, _≤_, _<_}
+use Prim.Native.Nat.{ℕ, zero, suc, _+_, _≤_, _<_}
 use native.Mathlib.Omega.{arith}
 use lib.Dec.{lit<}
 use lib.ListN.{length, getD}
@@ -29,6 +29,13 @@ module _ (A : Attributes) (M : List ℕ) (f : ℕ) (row : RowLaid A M f) where
 
   pub row-index : (x : ℕ) → cell-index (domain A f) (x ∷ []) ≡ x
   row-index x = ap (λ ns. cell-index ns (x ∷ [])) (row .one-parameter) ∙ one-index _ x
+
+-- A store that keeps the rows stays laid out.
+pub laid-kept : (A : Attributes) (M M′ : List ℕ) → number-of-functions A ≤ 16 → ((i : ℕ) → 4 ≤ i → i < now-place → stored M′ i ≡ stored M i) → Laid A M → Laid A M′
+laid-kept A M M′ few kept laid f h = record {
+  one-parameter = laid f h .one-parameter ∙ ap (λ n. n ∷ []) (sym (kept (row-place f) (omega arith) (omega arith)));
+  begins = kept (row-place f + 1) (omega arith) (omega arith) ∙ laid f h .begins;
+}
 
 -- ── reading ──
 

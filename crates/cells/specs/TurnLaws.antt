@@ -10,25 +10,24 @@ use native.Mathlib.Numerals.{add-one}
 use native.Mathlib.Omega.{arith}
 use native.Mathlib.Decide.{ℕ-discrete}
 use lib.Dec.{lit<}
-use lib.ListN.{length, getD, set, length-set, length-append, List·getD-append}
+use lib.ListN.{length, getD, set, length-set}
 use lib.Seq.{getD-set-same, getD-set-other}
 use Rattle.eb3.specs.Generic.Lists.{Within}
 use Rattle.eb3.specs.Values.{Value, undefined, number, encode, decode, AtMost}
 use Rattle.eb3.specs.Laws.Values.{decode-encode}
-use Rattle.eb3.specs.Expressions.{Data, Reading, environment, variables, evaluate-data}
+use Rattle.eb3.specs.Expressions.{Reading, environment, variables, evaluate-data}
 use Rattle.eb3.specs.Terms.{VisibleAction}
 use Rattle.eb3.specs.Attributes.{Attributes, domain, function, expression, variables-in-scope, number-of-functions, apply-in-domain, evaluate}
 use Rattle.eb3.specs.Laws.Attributes.{apply-cong}
-use Rattle.eb3.specs.Cells.{cell-count, cell-index, offset, total-cells, cell-at, cells-up-to}
+use Rattle.eb3.specs.Cells.{cell-count, offset, total-cells, cell-at, cells-up-to}
 use Rattle.eb3.specs.Laws.Cells.{renewed}
-use Rattle.eb3.specs.Spelling.{data-words}
 use Rattle.scan.specs.Checking.{last-of}
 use Rattle.expressions.specs.Stores.{stored, row-place, now-place, before-place, cell-in, reading-in, variable-in, environment-in}
 use Rattle.expressions.specs.Answering.{DataAt, Evaluated}
 use Rattle.expressions.specs.Laws.{data-parted, data-at-most}
 use Rattle.cells.specs.Layout.{RowLaid}
 use Rattle.cells.specs.Filling.{arguments-of, Ready, Filling, Filled}
-use Rattle.cells.specs.CellLaws.{cells-below, offset-mono, next-offset, cells-counted, cells-first}
+use Rattle.cells.specs.CellLaws.{cells-below, next-offset, cells-counted, cells-first}
 use Rattle.cells.specs.Agreement.{Agree, data-agrees}
 use Rattle.cells.specs.Reads.{row-cells, row-index, Begun, begun-reads}
 use Rattle.cells.specs.Turns.{Partly, Turn, Reached, FunctionFilled}

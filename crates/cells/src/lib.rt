@@ -1,9 +1,9 @@
-// The cells of a store, computed anew by the functions' expressions (document 01, "Memory and the history machine").
+// The cells of a store: computed anew by the functions' expressions, put there from a memory, and written into one
+// (document 01, "Memory and the history machine").
 ghost use mathlib.Core.Path.{_≡_};
 ghost use mathlib.Core.Option.{Option};
-ghost use Prim.Native.Nat.{ℕ, _+_, _*_, _%_, _≤_, _<_};
-ghost use mathlib.Core.List.{List, [], _∷_, _++_};
-ghost use lib.ListN.{length, take, drop, getD};
+ghost use Prim.Native.Nat.{_+_, _*_, _%_, _≤_, _<_};
+ghost use lib.ListN.{length};
 ghost use Rattle.eb3.specs.Expressions.{Reading};
 ghost use Rattle.eb3.specs.Terms.{VisibleAction};
 ghost use Rattle.eb3.specs.Attributes.{Attributes};
