@@ -1,0 +1,34 @@
+use Rattle.unfold.proofs.ValueCases.{with-more, with-last}
+use mathlib.Core.Path.{refl}
+use native.Mathlib.Omega.{arith}
+use borrow.Author.Needs.{needs}
+use borrow.Author.Needs.{needs}
+use native.Mathlib.Omega.{arith}
+use mathlib.Core.Path.{_≡_}
+use Prim.Native.Nat.{_≤_, _-_}
+use lib.ListN.{length}
+use lib.Seq.{paste}
+use Rattle.unfold.proofs.values.with.Statement.{statement}
+use Rattle.unfold.proofs.values.with.Tie as tie
+
+abbrev Inv-loop : tie.InvT-loop
+Inv-loop vars x more₀ i₀ more i = (i ≤ length vars) × (length more₀ ≡ 8) × (more ≡ paste more₀ 0 vars i)
+
+abbrev μ-loop : tie.MeasureT-loop
+μ-loop vars x more₀ i₀ more i = length vars - i
+
+pub with-spec : {M : Type 1} → statement M
+with-spec =
+    tie.close
+    (tie.spec
+    Inv-loop
+    μ-loop
+    (λ c. (omega arith, refl, refl))
+    (λ c. search needs)
+    (λ c. search needs)
+    (λ c. search needs)
+    (λ c. omega arith)
+    (λ c. search needs)
+    (λ c. search needs)
+    (λ c. (omega arith, search needs, search with-more))
+    (λ c. search with-last))
