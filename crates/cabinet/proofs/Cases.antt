@@ -7,7 +7,11 @@ use Rattle.engine.specs.declared.Admitted.the-variants.{Sizes as Admitted·size
 use Rattle.engine.specs.declared.Limits.{Limits}
 use Rattle.engine.specs.Answering.{admitted}
 use Rattle.cabinet.specs.declared.Sizes.{Sizes as CSizes}
-use Rattle.cabinet.specs.Exported.{sizes}
+use Rattle.engine.specs.declared.starting.Started.{Started}
+use Rattle.engine.specs.declared.starting.Started.the-variants.{Size, Refused}
+use Rattle.engine.specs.Starting.{started-as}
+use Rattle.cabinet.specs.declared.Started.{Started as CStarted}
+use Rattle.cabinet.specs.Exported.{sizes, started}
 
 abbrev given : Limits → CSizes
 given l = record { refusal = 0; cells = l .cells; reach = l .reach; breadth = l .breadth; size = l .size }
@@ -30,3 +34,27 @@ module _ (a : Answer Sizes) (p : Admitted) (e : p ≡ admitted a) where
 
   pub admit-refuses : (k j : ℕ) → p ≡ Admitted·refused k → j ≡ k → only j ≡ sizes a
   admit-refuses k j f g = ap only g ∙ (sym (ap exported f) ∙ (ap exported e ∙ same a))
+
+-- ── Start ──
+
+abbrev begun : ℕ → CStarted
+begun n = record { refusal = 0; size = n }
+
+abbrev unbegun : ℕ → CStarted
+unbegun k = record { refusal = k; size = 0 }
+
+abbrev exported-start : Started → CStarted
+exported-start (Size n) = begun n
+exported-start (Refused k) = unbegun k
+
+same-start : (a : Answer ℕ) → exported-start (started-as a) ≡ started a
+unfolding started-as started
+same-start (refused k) = refl
+same-start (answered n) = refl
+
+module _ (a : Answer ℕ) (p : Started) (e : p ≡ started-as a) where
+  pub start-gives : (n : ℕ) → p ≡ Size n → begun n ≡ started a
+  start-gives n f = sym (ap exported-start f) ∙ (ap exported-start e ∙ same-start a)
+
+  pub start-refuses : (k j : ℕ) → p ≡ Refused k → j ≡ k → unbegun j ≡ started a
+  start-refuses k j f g = ap unbegun g ∙ (sym (ap exported-start f) ∙ (ap exported-start e ∙ same-start a))

@@ -1,9 +1,11 @@
 // The engine as a C host calls it, with numbers and byte slices only (eb3.h).
 ghost use mathlib.Core.Path.{_≡_};
-ghost use Rattle.eb3.specs.Operations.{admit};
-ghost use Rattle.cabinet.specs.Exported.{sizes};
+ghost use Rattle.eb3.specs.Operations.{admit, start};
+ghost use Rattle.cabinet.specs.Exported.{sizes, started};
 use engine::Admitted;
 use engine::admit;
+use engine::starting::Started as Begun;
+use engine::starting::start;
 
 #[repr(C)]
 pub struct Sizes {
@@ -11,6 +13,12 @@ pub struct Sizes {
     pub cells: u32,
     pub reach: u32,
     pub breadth: u32,
+    pub size: u32,
+}
+
+#[repr(C)]
+pub struct Started {
+    pub refusal: u32,
     pub size: u32,
 }
 
@@ -37,6 +45,22 @@ pub extern "C" fn eb3_admit(rules: &[u8]) -> Sizes
             cells: 0,
             reach: 0,
             breadth: 0,
+            size: 0,
+        },
+    }
+}
+
+#[no_mangle]
+pub extern "C" fn eb3_start(rules: &[u8], term: &mut [u8], memory: &mut [u8]) -> Started
+    ensures { λ r. ⌜ (r ≡ started (start (now (rules .entry)) (now (term .entry)) (now (memory .entry)) .answer)) × (now (term .exit) ≡ start (now (rules .entry)) (now (term .entry)) (now (memory .entry)) .term) × (now (memory .exit) ≡ start (now (rules .entry)) (now (term .entry)) (now (memory .entry)) .memory) ⌝ }
+{
+    match start(rules, term, memory) {
+        Begun::Size(n) => Started {
+            refusal: 0,
+            size: n,
+        },
+        Begun::Refused(k) => Started {
+            refusal: number(k),
             size: 0,
         },
     }

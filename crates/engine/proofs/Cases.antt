@@ -35,6 +35,7 @@ use Rattle.engine.specs.declared.Admitted.the-variants.{Sizes as Admitte
 use Rattle.engine.specs.declared.Limits.{Limits}
 use Rattle.engine.specs.Answering.{admitted, reported, read-whole}
 use Rattle.engine.specs.Admitting.{Described, WordsAdmitted, FileAdmitted}
+use Rattle.engine.specs.Knowing.{Opens}
 
 -- ── judging ──
 
@@ -148,6 +149,9 @@ module _ (s : List ℕ) (p : Opened) (e : p ≡ opening s (open-blocks edition-1
   unfolding admitted and-then
   admit-refused k f = sym (ap admitted (admit-by-parts s ∙ ap (λ a. and-then a (λ words. whole-of (read-rules edition-1 words))) (unopened s _ k (sym f ∙ e))))
 
+  pub open-refused : (k : ℕ) → p ≡ Opened·refused k → open-blocks edition-1 s ≡ refused k
+  open-refused k f = unopened s _ k (sym f ∙ e)
+
   module _ (n : ℕ) (f : p ≡ Blocks n) where
     pub admit-blocks : (length s ≡ 512 * n) × (1 ≤ n) × (n ≤ 64)
     admit-blocks =
@@ -159,6 +163,9 @@ module _ (s : List ℕ) (p : Opened) (e : p ≡ opening s (open-blocks edition-1
         let b : 1 ≤ block-count s = leb→le 1 (block-count s) (T-fst (leb 1 (block-count s)) _ u) in
         let d : block-count s ≤ 64 = leb→le (block-count s) 64 (T-snd (leb 1 (block-count s)) _ u) in
         (omega arith, omega arith, omega arith)
+
+    pub admit-opens : Opens s
+    admit-opens = let o = opened s _ n (sym f ∙ e) in o .2 ∙ ap answered (whole-is s (o .1) (o .2) .1)
 
     pub admit-read : (r : Admitted) → r ≡ read-whole (drop 2 (stream s)) → r ≡ admitted (admit s)
     unfolding and-then

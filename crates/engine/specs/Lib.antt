@@ -1,3 +1,8 @@
 -- What the operations answer: document 01's number or values for each case.
 pub mod Answering
 pub mod Admitting
+pub mod AdmissionLaws
+pub mod Memories
+pub mod Starting
+pub mod StartLaws
+pub mod Knowing

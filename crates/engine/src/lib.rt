@@ -15,6 +15,9 @@ ghost use Rattle.weights.specs.Weighing.{measure};
 ghost use Rattle.eb3.specs.Laws.Judging.{judged};
 ghost use Rattle.engine.specs.Answering.{admitted, reported, read-whole};
 ghost use Rattle.engine.specs.Admitting.{WordsAdmitted, FileAdmitted};
+
+pub mod starting;
+
 use blocks::Opened;
 use blocks::join;
 use blocks::open;
