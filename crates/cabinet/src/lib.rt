@@ -7,6 +7,9 @@ use engine::admit;
 use engine::starting::Started as Begun;
 use engine::starting::start;
 
+// In place of a refusal's number, where the operation was done.
+const DONE: u32 = 0;
+
 #[repr(C)]
 pub struct Sizes {
     pub refusal: u32,
@@ -34,7 +37,7 @@ pub extern "C" fn eb3_admit(rules: &[u8]) -> Sizes
 {
     match admit(rules) {
         Admitted::Sizes(l) => Sizes {
-            refusal: 0,
+            refusal: DONE,
             cells: l.cells,
             reach: l.reach,
             breadth: l.breadth,
@@ -56,7 +59,7 @@ pub extern "C" fn eb3_start(rules: &[u8], term: &mut [u8], memory: &mut [u8]) ->
 {
     match start(rules, term, memory) {
         Begun::Size(n) => Started {
-            refusal: 0,
+            refusal: DONE,
             size: n,
         },
         Begun::Refused(k) => Started {
