@@ -31,7 +31,48 @@ pub struct Sizes {
 /// The sizes, or the number of a refusal.
 pub type Answer = Result<Sizes, u8>;
 
-/// The refusals that Admit can give, by the words of document 01's table.
+/// The words of the start term, or the number of a refusal.
+pub type Started = Result<u32, u8>;
+
+/// The number of moves, or the number of a refusal.
+pub type Counted = Result<u32, u8>;
+
+/// The action of a move.
+#[derive(Clone, Copy, Debug, PartialEq, Eq)]
+pub enum Action {
+    Internal,
+    /// A label and so many arguments; the others are 0.
+    Visible {
+        label: u16,
+        count: u8,
+        arguments: [u16; 2],
+    },
+}
+
+/// What Move and Present answer: the words of the successor, and the action.
+#[derive(Clone, Copy, Debug, PartialEq, Eq)]
+pub struct Made {
+    pub size: u32,
+    pub action: Action,
+}
+
+/// What a move made, or the number of a refusal.
+pub type Moved = Result<Made, u8>;
+
+/// What Run answers: the words of the last term, and how many numbers were visible moves, internal ones
+/// and refused.
+#[derive(Clone, Copy, Debug, Default, PartialEq, Eq)]
+pub struct Tally {
+    pub size: u32,
+    pub visible: u64,
+    pub internal: u64,
+    pub refused: u64,
+}
+
+/// A run's size and counts, or the number of a refusal.
+pub type Ran = Result<Tally, u8>;
+
+/// The refusals, by the words of document 01's table.
 pub mod refusal {
     pub const LENGTH: u8 = 1;
     pub const BLOCK: u8 = 2;
@@ -41,6 +82,10 @@ pub mod refusal {
     pub const KIND: u8 = 6;
     pub const SIZE: u8 = 7;
     pub const BREADTH: u8 = 8;
+    pub const SPACE: u8 = 9;
+    pub const TERM: u8 = 10;
+    pub const STRANGER: u8 = 11;
+    pub const NOT_OFFERED: u8 = 12;
 }
 
 /// Main's reach G may be so much, and no more.
