@@ -6,10 +6,12 @@
 //! module names the paragraph that it renders.
 
 pub mod blocks;
+pub mod calls;
 #[cfg(cabinet)]
 pub mod engine;
 pub mod examples;
 pub mod generate;
+pub mod guarded;
 pub mod listing;
 pub mod plain;
 pub mod rules;
@@ -93,6 +95,16 @@ pub const MOST_REACH: u32 = 8192;
 
 /// Main's breadth W may be so much, and no more.
 pub const MOST_BREADTH: u32 = 65535;
+
+/// Words as bytes, little-endian.
+pub fn bytes_of(words: &[u16]) -> Vec<u8> {
+    words.iter().flat_map(|word| word.to_le_bytes()).collect()
+}
+
+/// Bytes as words; an odd last byte is none.
+pub fn words_of(bytes: &[u8]) -> Vec<u16> {
+    bytes.chunks_exact(2).map(|pair| u16::from_le_bytes([pair[0], pair[1]])).collect()
+}
 
 /// Does the work on a stack of 256 MiB. A stream can nest 16,250 deep, and the trees here are built,
 /// spelled and dropped by recursion; the 2 MiB of a test's thread are not enough for that.

@@ -1,19 +1,25 @@
 //! Cases for Admit: right rule sets, sets with one fault or two, sets at the limits, damaged and random
-//! bytes.
+//! bytes. And calls of the other operations: running terms, events, memories and buffers, right and
+//! wrong.
 //!
 //! All are made from seeds and made the same every time. Where the generator knows what document 01
 //! asks for, the case says so, and the plain reader is tested as well as the engine.
 
+pub mod calls;
 pub mod clauses;
 pub mod damage;
 pub mod ends;
+pub mod events;
 pub mod faults;
 pub mod full;
+pub mod lent;
 pub mod limits;
 pub mod nesting;
 pub mod random;
 pub mod roles;
+pub mod running;
 pub mod well_formed;
+pub mod wrong_terms;
 
 use crate::rules::{Condition, Data, RuleSet, Term};
 use crate::Answer;

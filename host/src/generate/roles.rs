@@ -98,7 +98,7 @@ impl Role {
 }
 
 /// Every code that is none here, 30 among them: done stands in no rule set.
-fn codes_but(allowed: impl Fn(u16) -> bool) -> Vec<(u16, u8)> {
+pub(super) fn codes_but(allowed: impl Fn(u16) -> bool) -> Vec<(u16, u8)> {
     (0..=30).chain(NO_CODES).filter(|&code| !allowed(code)).map(|code| (code, FORM)).collect()
 }
 

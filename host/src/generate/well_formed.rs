@@ -145,6 +145,11 @@ fn data(random: &mut Random, names: Names, depth: u32) -> Data {
     }
 }
 
+/// A guard's condition in a running term, where no variable is left.
+pub fn running_condition(random: &mut Random, rules: &RuleSet, depth: u32) -> Condition {
+    condition(random, Names { variables: 0, now: rules.functions.len() as u16, before: 0 }, depth)
+}
+
 fn condition(random: &mut Random, names: Names, depth: u32) -> Condition {
     let shallow = |random: &mut Random| data(random, names, depth.saturating_sub(1));
     let inner = |random: &mut Random| condition(random, names, depth - 1);
