@@ -122,6 +122,13 @@ impl<'a> Machine<'a> {
         }
     }
 
+    /// The machine as it was before the last move, with that term and so many events. The counts stay.
+    pub fn undo(&mut self, (term, events): (Rc<Tree>, usize)) {
+        self.term = term;
+        self.history.truncate(events);
+        self.known.borrow_mut().truncate(1 + events);
+    }
+
     /// Its moves: those of its term, with guards reading values over T.
     pub fn moves(&self) -> Vec<Move> {
         self.moves_of(&self.term)
