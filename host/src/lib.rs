@@ -10,6 +10,7 @@ pub mod calls;
 #[cfg(cabinet)]
 pub mod engine;
 pub mod examples;
+pub mod explore;
 pub mod generate;
 pub mod guarded;
 pub mod listing;
