@@ -1,8 +1,14 @@
-//! The engine behind its C interface (`eb3.h`), as a safe Rust function. Only there with the static
-//! library (cfg `cabinet`).
+//! The engine behind its C interface (`eb3.h`), as safe Rust functions. Only there with the static
+//! library (cfg `cabinet`); the operations besides Admit only with the feature `operations`.
 //!
-//! Document 01, "Operations" (Admit) and "A C host on the controller calls every operation with numbers
-//! and byte slices". Nothing checks these declarations against the engine's source but the tests.
+//! Document 01, "Operations" and "A C host on the controller calls every operation with numbers and byte
+//! slices". Nothing checks these declarations against the engine's source but the tests.
+
+#[cfg(feature = "operations")]
+mod operations;
+
+#[cfg(feature = "operations")]
+pub use operations::Cabinet;
 
 use crate::{Answer, Sizes};
 
