@@ -158,6 +158,8 @@ pub fn limits(rules: &RuleSet) -> Vec<(&'static str, bool, Vec<u16>)> {
     );
     // 2^16 - 1 moves: an action beside itself, synchronised.
     let broad = (1..16).fold(action.clone(), |inner, _| parallel(1, [&action, &inner]));
+    // Two labels at least: the mask is of the other one.
+    let apart = (0..600).fold(broad.clone(), |inner, _| parallel(2, [&[30], &inner]));
     let dones = (0..600).fold(broad.clone(), |inner, _| parallel(1, [&[30], &inner]));
     vec![
         ("8,192 words", true, long(8192)),
@@ -172,6 +174,7 @@ pub fn limits(rules: &RuleSet) -> Vec<(&'static str, bool, Vec<u16>)> {
         ("4,200 stars around done", false, [vec![24; 4200], vec![30]].concat()),
         ("W 65,535", true, broad.clone()),
         ("W 65,535 beside 600 times done", true, dones),
+        ("W 65,535 beside 600 times done, another mask", true, apart),
         ("W 65,535 in sequence", true, sequence(&broad, &broad)),
         ("W 65,536 by a star", false, star(&broad)),
         ("W 65,536 by a choice", false, choice(&broad, &[20])),

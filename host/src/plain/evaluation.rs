@@ -44,11 +44,25 @@ impl Evaluation<'_> {
         word
     }
 
+    /// A data expression. A constant or a variable, which most operands are, takes no call.
+    #[inline(always)]
     fn data(&mut self) -> u16 {
+        match self.words[self.place] {
+            1 => {
+                self.place += 2;
+                self.words[self.place - 1]
+            }
+            2 => {
+                self.place += 2;
+                self.variables[usize::from(self.words[self.place - 1])]
+            }
+            _ => self.compound(),
+        }
+    }
+
+    fn compound(&mut self) -> u16 {
         match self.word() {
             0 => UNDEFINED,
-            1 => self.word(),
-            2 => self.variables[usize::from(self.word())],
             3 => {
                 let (left, right) = (self.data(), self.data());
                 sum(left, right)

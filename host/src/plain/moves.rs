@@ -36,10 +36,14 @@ impl Packed {
         (self.0 >> 16 & 255) as u16
     }
 
-    /// An internal move counts as outside every mask.
+    /// The label as a mask would have it. An internal move counts as outside every mask.
     #[inline]
-    fn inside(self, mask: u64) -> bool {
-        self != Packed::INTERNAL && mask >> self.label() & 1 == 1
+    fn bit(self) -> u64 {
+        if self == Packed::INTERNAL {
+            0
+        } else {
+            1 << self.label()
+        }
     }
 
     pub fn action(self) -> Action {
@@ -54,17 +58,23 @@ impl Packed {
 /// In a pair of moves: this side does not move. No count passes 65,535, so no number is this large.
 const STAYS: u16 = 65535;
 
+/// In a mark of a parallel with a mask: no move is in the mask, so that its moves are those that it would
+/// have without. No count and no number of pairs comes near it.
+const APART: u32 = 1 << 31;
+
 /// What a visit leaves behind for building a successor; kept from one step of a run to the next for its
 /// room alone.
 #[derive(Default)]
 pub(super) struct Notes {
     /// Where a choice or a parallel without a mask begins: how many moves its left side has. Where a
-    /// parallel with a mask begins: where its pairs begin.
+    /// parallel with a mask begins: the same and `APART`, or where its pairs begin.
     marks: Vec<u32>,
     /// Of each move of a parallel with a mask, the move of its left side and that of its right.
     pairs: Vec<(u16, u16)>,
     /// Actions in order.
-    pub actions: Vec<Packed>,
+    actions: Vec<Packed>,
+    /// The labels of the actions listed, for the parallel that asks for them; perhaps some more.
+    labels: u64,
 }
 
 /// A term and the cells that its guards read.
@@ -91,6 +101,7 @@ impl Moves<'_> {
     fn begin(&mut self) {
         self.notes.pairs.clear();
         self.notes.actions.clear();
+        self.notes.labels = 0;
         if self.notes.marks.len() < self.term.words.len() {
             self.notes.marks.resize(self.term.words.len(), 0);
         }
@@ -100,12 +111,8 @@ impl Moves<'_> {
     fn visit<const LIST: bool>(&mut self, at: usize) -> usize {
         match self.term.words[at] {
             INTERNAL => self.one::<LIST>(Packed::INTERNAL),
-            ACTION => {
-                if LIST {
-                    self.notes.actions.push(action_at(self.term, at));
-                }
-                1
-            }
+            ACTION if LIST => self.one::<LIST>(action_at(self.term, at)),
+            ACTION => 1,
             22 if self.term.words[at + 1] == DONE => self.visit::<LIST>(at + 2),
             22 => self.visit::<LIST>(at + 1),
             23 => self.both::<LIST>(at, at + 1),
@@ -124,6 +131,7 @@ impl Moves<'_> {
     fn one<const LIST: bool>(&mut self, action: Packed) -> usize {
         if LIST {
             self.notes.actions.push(action);
+            self.notes.labels |= action.bit();
         }
         1
     }
@@ -137,27 +145,44 @@ impl Moves<'_> {
     }
 
     /// Left's moves with label outside the mask, right's likewise, then pairs of equal actions with label
-    /// in the mask, ordered by left, then right. The sides' lists make room for the whole's.
+    /// in the mask, ordered by left, then right.
     fn synchronised<const LIST: bool>(&mut self, at: usize) -> usize {
-        let from = self.notes.actions.len();
+        let (from, mask) = (self.notes.actions.len(), self.term.mask(at));
+        let around = std::mem::take(&mut self.notes.labels);
         let left = self.visit::<true>(at + 5);
-        self.visit::<true>(self.term.after(at + 5));
-        let Notes { marks, pairs, actions } = &mut *self.notes;
+        let right = self.visit::<true>(self.term.after(at + 5));
+        let apart = self.notes.labels & mask == 0;
+        let count = if apart { left + right } else { self.paired(at, from, left) };
+        if apart {
+            self.notes.marks[at] = left as u32 | APART;
+        }
+        if LIST {
+            self.notes.labels |= around;
+        } else {
+            self.notes.actions.truncate(from);
+            self.notes.labels = around;
+        }
+        count
+    }
+
+    /// Notes the pairs of a parallel whose sides' actions are listed from there on, left's being so many,
+    /// and puts the whole's actions in their place.
+    fn paired(&mut self, at: usize, from: usize, left: usize) -> usize {
+        let Notes { marks, pairs, actions, labels } = &mut *self.notes;
         let begin = pairs.len();
         marks[at] = begin as u32;
         pair_up(&actions[from..], left, self.term.mask(at), pairs);
-        let count = pairs.len() - begin;
-        if LIST {
-            let sides = actions.len();
-            for &(first, second) in &pairs[begin..] {
-                let place = if first == STAYS { left + usize::from(second) } else { usize::from(first) };
-                actions.push(actions[from + place]);
-            }
-            actions.copy_within(sides.., from);
-            actions.truncate(from + count);
-        } else {
-            actions.truncate(from);
+        let sides = actions.len();
+        *labels = 0;
+        for &(first, second) in &pairs[begin..] {
+            let place = if first == STAYS { left + usize::from(second) } else { usize::from(first) };
+            let action = actions[from + place];
+            *labels |= action.bit();
+            actions.push(action);
         }
+        actions.copy_within(sides.., from);
+        let count = pairs.len() - begin;
+        actions.truncate(from + count);
         count
     }
 
@@ -199,13 +224,14 @@ impl Moves<'_> {
 
     /// The sides of a parallel, those that move and those that stay.
     fn beside(&self, at: usize, number: usize, output: &mut impl Output) -> Packed {
-        let mark = self.notes.marks[at] as usize;
-        let (left, right) = if self.term.mask(at) != 0 {
-            self.notes.pairs[mark + number]
-        } else if number < mark {
+        let mark = self.notes.marks[at];
+        let first = (mark & !APART) as usize;
+        let (left, right) = if self.term.mask(at) != 0 && mark & APART == 0 {
+            self.notes.pairs[first + number]
+        } else if number < first {
             (number as u16, STAYS)
         } else {
-            (STAYS, (number - mark) as u16)
+            (STAYS, (number - first) as u16)
         };
         let from = output.open(&self.term.words[at..at + 5]);
         let second = self.term.after(at + 5);
@@ -228,10 +254,10 @@ impl Moves<'_> {
 /// right's.
 fn pair_up(actions: &[Packed], left: usize, mask: u64, pairs: &mut Vec<(u16, u16)>) {
     let (left, right) = actions.split_at(left);
-    let outside = |&(_, action): &(u16, &Packed)| !action.inside(mask);
+    let outside = |&(_, action): &(u16, &Packed)| action.bit() & mask == 0;
     pairs.extend((0..).zip(left).filter(outside).map(|(number, _)| (number, STAYS)));
     pairs.extend((0..).zip(right).filter(outside).map(|(number, _)| (STAYS, number)));
-    for (first, action) in (0..).zip(left).filter(|(_, action)| action.inside(mask)) {
+    for (first, action) in (0..).zip(left).filter(|(_, action)| action.bit() & mask != 0) {
         let equal = (0..).zip(right).filter(|(_, other)| *other == action);
         pairs.extend(equal.map(|(second, _)| (first, second)));
     }
@@ -261,21 +287,21 @@ pub(super) trait Output {
     fn close(&mut self, from: usize);
 }
 
-/// The term of the next step.
+/// The term of the next step, with room for it.
 impl Output for Term {
     fn open(&mut self, head: &[u16]) -> usize {
         let from = self.words.len();
         self.words.extend_from_slice(head);
-        self.sizes.resize(self.words.len(), 0);
         from
     }
 
     fn copy(&mut self, term: &Term, at: usize) {
+        let from = self.words.len();
         self.words.extend_from_slice(&term.words[at..term.after(at)]);
-        self.sizes.extend_from_slice(&term.sizes[at..term.after(at)]);
+        self.sizes[from..self.words.len()].copy_from_slice(&term.sizes[at..term.after(at)]);
     }
 
     fn close(&mut self, from: usize) {
-        self.sizes[from] = (self.words.len() - from) as u16;
+        Term::close(self, from);
     }
 }

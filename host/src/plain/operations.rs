@@ -86,7 +86,7 @@ pub fn run(
     let reach = rules.sizes.reach as usize;
     space(&rules, &[term, spare_term], reach, &[memory, spare_memory])?;
     let mut state = State { term: unfolding::main_of(&rules), cells: memory::at_start(&rules) };
-    let mut next = State { term: Term::with_capacity(reach), cells: Vec::with_capacity(rules.cells()) };
+    let mut next = State { term: Term::with_room(reach), cells: Vec::with_capacity(rules.cells()) };
     let (mut notes, mut ran) = (Notes::default(), Tally::default());
     for number in numbers.chunks_exact(2).map(|pair| usize::from(u16::from_le_bytes([pair[0], pair[1]]))) {
         let mut moves = moves(&rules, &state.term, &state.cells, &mut notes);
@@ -95,7 +95,6 @@ pub fn run(
             continue;
         }
         next.term.words.clear();
-        next.term.sizes.clear();
         let action = moves.build(0, number, &mut next.term);
         if action == Packed::INTERNAL {
             ran.internal += 1;

@@ -16,16 +16,21 @@ pub(super) const ACTION: u16 = 21;
 pub(super) const DONE: u16 = 30;
 
 /// The words of a running term. Where a part begins, a term or a guard's condition, `sizes` has its
-/// words; what it has elsewhere means nothing.
-#[derive(Default)]
+/// words; what it has elsewhere, or behind the last word, means nothing.
 pub(super) struct Term {
     pub words: Vec<u16>,
     pub sizes: Vec<u16>,
 }
 
 impl Term {
-    pub fn with_capacity(words: usize) -> Term {
-        Term { words: Vec::with_capacity(words), sizes: Vec::with_capacity(words) }
+    /// No words yet, and room for so many.
+    pub fn with_room(words: usize) -> Term {
+        Term { words: Vec::with_capacity(words), sizes: vec![0; words] }
+    }
+
+    /// The part that began there ends here.
+    pub fn close(&mut self, from: usize) {
+        self.sizes[from] = (self.words.len() - from) as u16;
     }
 
     /// The words of the part that begins here.
@@ -65,13 +70,13 @@ pub(super) fn given(rules: &Rules, bytes: &[u8]) -> Result<Given, u8> {
         return Err(TERM);
     }
     let words = words_of(bytes);
-    let mut checking = Checking { rules, scan: Scan::new(&words), sizes: vec![0; words.len()] };
-    let measure = checking.term().map_err(|_| TERM)?;
-    let (rest, sizes) = (checking.scan.rest().len(), checking.sizes);
-    if rest > 0 || measure.reach > MOST_REACH || measure.breadth > MOST_BREADTH {
+    let mut term = Term { sizes: vec![0; words.len()], words };
+    let parts = formed(rules, &mut term).map_err(|_| TERM)?;
+    let measure = measured(&mut term, &parts);
+    if measure.reach > MOST_REACH || measure.breadth > MOST_BREADTH {
         return Err(TERM);
     }
-    Ok(Given { term: Term { words, sizes }, reach: measure.reach as usize })
+    Ok(Given { term, reach: measure.reach as usize })
 }
 
 /// Refusal 11.
@@ -83,9 +88,9 @@ pub(super) fn event(rules: &Rules, bytes: &[u8]) -> Result<Packed, u8> {
     match words[..] {
         [INTERNAL] => Ok(Packed::INTERNAL),
         [ACTION, ..] => {
-            let mut checking = Checking { rules, scan: Scan::new(&words), sizes: vec![0; words.len()] };
-            match checking.term() {
-                Ok(_) if checking.scan.rest().is_empty() => Ok(Packed::of(&words)),
+            let mut scan = Scan::new(&words[1..]);
+            match action(rules, &mut scan) {
+                Ok(()) if scan.rest().is_empty() => Ok(Packed::of(&words)),
                 _ => Err(STRANGER),
             }
         }
@@ -93,50 +98,84 @@ pub(super) fn event(rules: &Rules, bytes: &[u8]) -> Result<Packed, u8> {
     }
 }
 
-/// A given term under check. Which refusal a part would have in a stream does not matter here.
-struct Checking<'a> {
-    rules: &'a Rules,
-    scan: Scan<'a>,
-    sizes: Vec<u16>,
-}
-
-impl Checking<'_> {
-    fn term(&mut self) -> Result<Measure, u8> {
-        let place = self.scan.place();
-        let measure = match self.scan.word()? {
-            INTERNAL => Measure::leaf(1),
-            ACTION => self.action()?,
-            22 => self.term()?.sequence(self.term()?),
-            23 => self.term()?.choice(self.term()?),
-            24 => self.term()?.star(),
+/// Reads a given term to its end, exactly one, and answers where each part of it begins. Operands are
+/// counted, not called; which refusal a fault would have in a stream does not matter here.
+fn formed(rules: &Rules, term: &mut Term) -> Result<Vec<u16>, u8> {
+    let names = Names { variables: 0, now: rules.tables.function_count, before: 0 };
+    let mut parts = Vec::with_capacity(term.words.len());
+    let mut scan = Scan::new(&term.words);
+    let mut to_come = 1usize;
+    while to_come > 0 {
+        to_come -= 1;
+        let place = scan.place();
+        parts.push(place as u16);
+        match scan.word()? {
+            INTERNAL | DONE => {}
+            ACTION => action(rules, &mut scan)?,
+            22 | 23 => to_come += 2,
+            24 => to_come += 1,
             25 => {
-                let masked = self.scan.mask(&self.rules.tables.label_bits)?;
-                self.term()?.parallel(self.term()?, masked)
+                scan.mask(&rules.tables.label_bits)?;
+                to_come += 2;
             }
             26 => {
-                let functions = self.rules.tables.function_count;
-                self.scan.condition(Names { variables: 0, now: functions, before: 0 })?;
-                let condition = self.scan.place() - place - 1;
-                self.sizes[place + 1] = condition as u16;
-                self.term()?.guard(condition as u32)
+                scan.condition(names)?;
+                term.sizes[place + 1] = (scan.place() - place - 1) as u16;
+                to_come += 1;
             }
-            DONE => Measure { breadth: 0, ..Measure::leaf(1) },
             _ => return Err(FORM),
-        };
-        self.sizes[place] = (self.scan.place() - place) as u16;
-        Ok(measure)
-    }
-
-    /// Arguments are constants of the parameter's domain: there is no variable left.
-    fn action(&mut self) -> Result<Measure, u8> {
-        let tables = &self.rules.tables;
-        let label = self.scan.reference(tables.label_count)?;
-        let parameters = tables.labels[usize::from(label)];
-        for &domain in parameters.as_slice() {
-            if self.scan.word()? != 1 || self.scan.word()? >= tables.elements(u16::from(domain)) {
-                return Err(KIND);
-            }
         }
-        Ok(Measure::leaf(2 + 2 * u32::from(parameters.count)))
     }
+    if scan.rest().is_empty() {
+        Ok(parts)
+    } else {
+        Err(FORM)
+    }
+}
+
+/// An action's label and arguments, which are constants of the parameter's domain: there is no variable
+/// left.
+fn action(rules: &Rules, scan: &mut Scan) -> Result<(), u8> {
+    let label = scan.reference(rules.tables.label_count)?;
+    for &domain in rules.tables.labels[usize::from(label)].as_slice() {
+        if scan.word()? != 1 || scan.word()? >= rules.tables.elements(u16::from(domain)) {
+            return Err(KIND);
+        }
+    }
+    Ok(())
+}
+
+/// Measures a term's parts from the last to the first, so that operands are measured before what they
+/// stand in, the left one last; notes the sizes on the way. Answers the measures of the whole.
+fn measured(term: &mut Term, parts: &[u16]) -> Measure {
+    let mut open: Vec<Measure> = Vec::with_capacity(64);
+    let mut end = term.words.len();
+    for &part in parts.iter().rev() {
+        let place = usize::from(part);
+        let code = term.words[place];
+        let measure = match code {
+            INTERNAL => Measure::leaf(1),
+            DONE => Measure { breadth: 0, ..Measure::leaf(1) },
+            ACTION => Measure::leaf((end - place) as u32),
+            _ => {
+                let left = open.pop().expect("the first operand");
+                match code {
+                    24 => left.star(),
+                    26 => left.guard(u32::from(term.sizes[place + 1])),
+                    _ => {
+                        let right = open.pop().expect("the second operand");
+                        match code {
+                            22 => left.sequence(right),
+                            23 => left.choice(right),
+                            _ => left.parallel(right, term.mask(place) != 0),
+                        }
+                    }
+                }
+            }
+        };
+        term.sizes[place] = measure.size as u16;
+        open.push(measure);
+        end = place;
+    }
+    open.pop().expect("the whole term")
 }

@@ -9,7 +9,7 @@ use super::evaluation::shape;
 use super::term::{Term, ACTION, INTERNAL};
 
 pub(super) fn main_of(rules: &Rules) -> Term {
-    let term = Term::with_capacity(rules.sizes.reach as usize);
+    let term = Term::with_room(rules.sizes.reach as usize);
     let mut unfolding = Unfolding { rules, stream: rules.words(), term };
     unfolding.term(rules.main(), Scope::default());
     unfolding.term
@@ -48,16 +48,10 @@ struct Unfolding<'a> {
 impl Unfolding<'_> {
     fn push(&mut self, word: u16) {
         self.term.words.push(word);
-        self.term.sizes.push(0);
     }
 
     fn here(&self) -> usize {
         self.term.words.len()
-    }
-
-    /// Notes the size of the part that began there and ends here.
-    fn close(&mut self, from: usize) {
-        self.term.sizes[from] = (self.here() - from) as u16;
     }
 
     /// The rule term at a place of the stream, unfolded. Answers the place behind it.
@@ -96,14 +90,12 @@ impl Unfolding<'_> {
             }
             _ => return self.call(at, scope),
         };
-        self.close(from);
+        self.term.close(from);
         end
     }
 
     fn copy(&mut self, at: usize, count: usize) {
-        for place in at..at + count {
-            self.push(self.stream[place]);
-        }
+        self.term.words.extend_from_slice(&self.stream[at..at + count]);
     }
 
     fn action(&mut self, at: usize, scope: Scope) -> usize {
@@ -133,7 +125,7 @@ impl Unfolding<'_> {
             to_come += operands;
             to_come -= 1;
         }
-        self.close(from);
+        self.term.close(from);
         place
     }
 
@@ -145,13 +137,13 @@ impl Unfolding<'_> {
         for element in 0..elements {
             if element + 1 < elements {
                 heads[usize::from(element)] = self.here();
-                head.iter().for_each(|&word| self.push(word));
+                self.term.words.extend_from_slice(head);
             }
             end = self.term(at + quantifier, scope.with(element));
         }
         // Nested to the right, all of them end here.
         for &from in &heads[..usize::from(elements) - 1] {
-            self.close(from);
+            self.term.close(from);
         }
         end
     }
