@@ -9,7 +9,7 @@ use host::generate::random::Random;
 use host::generate::running::{self, State};
 use host::generate::well_formed::SHAPES;
 use host::plain::histories::{self, Machine};
-use host::rules::{mask_of, Condition, Data, RuleSet, Term};
+use host::rules::{mask_of, Argument, Condition, Data, Function, Process, RuleSet, Term};
 use host::{bytes_of, examples, on_large_stack, plain, words_of, Action, Made, Sizes, Tally};
 
 fn rounds() -> usize {
@@ -164,6 +164,53 @@ fn masks_of_many_labels() {
             assert_eq!(if masked == label { 1 } else { 2 }, moves(&subject, &start).len());
         }
     }
+}
+
+/// Before reads old cells, now new ones; what is outside a domain is undefined; any word may stand in a
+/// memory.
+#[test]
+fn cells_are_renewed_in_order() {
+    let (before, now) = (|function| Data::before(function, Data::Variable(0)), Data::now);
+    let function = |at_start, at_a, at_b| Function { domain: 0, at_start, at_label: vec![at_a, at_b] };
+    let one = || Data::Constant(1);
+    let shifted = Data::before(0, Data::minus(Data::Variable(0), one()));
+    let rules = RuleSet {
+        domains: vec![3],
+        labels: vec![vec![], vec![0, 0]],
+        functions: vec![
+            function(Data::Variable(0), before(1), shifted),
+            function(Data::plus(now(0, Data::Variable(0)), Data::Constant(10)), before(0), before(1)),
+            function(
+                Data::Undefined,
+                Data::plus(now(1, Data::Variable(0)), one()),
+                Data::plus(Data::Variable(1), Data::plus(Data::Variable(1), Data::Variable(2))),
+            ),
+        ],
+        processes: vec![Process {
+            parameters: vec![],
+            term: Term::choice(
+                Term::action(0, &[]),
+                Term::action(1, &[Argument::Constant(2), Argument::Constant(1)]),
+            ),
+        }],
+    };
+    let subject = subject(rules);
+    let start = running::start(&subject.file, subject.sizes);
+    let undefined = 65535;
+    let cells = |first: [u16; 3], second: [u16; 3], third: [u16; 3]| [first, second, third].concat();
+    let after = |memory: Vec<u16>| {
+        let state = State { term: start.term.clone(), memory: bytes_of(&memory) };
+        moves(&subject, &state).iter().map(|(_, next)| words_of(&next.memory)).collect::<Vec<_>>()
+    };
+    let at_start = cells([0, 1, 2], [10, 11, 12], [undefined; 3]);
+    assert_eq!(at_start, words_of(&start.memory));
+    let by_a = cells([10, 11, 12], [0, 1, 2], [1, 2, 3]);
+    let by_b = cells([undefined, 0, 1], [10, 11, 12], [5; 3]);
+    assert_eq!(vec![by_a, by_b], after(at_start));
+    let any = cells([65534, undefined, 7], [65534, undefined, 65533], [1, 2, 3]);
+    let by_a = cells([65534, undefined, 65533], [65534, undefined, 7], [undefined, undefined, 8]);
+    let by_b = cells([undefined, 65534, undefined], [65534, undefined, 65533], [5; 3]);
+    assert_eq!(vec![by_a, by_b], after(any));
 }
 
 /// What a term offers, at any memory: at most W moves, none of which enlarges reach or breadth; the new
