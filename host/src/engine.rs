@@ -8,7 +8,7 @@
 mod operations;
 
 #[cfg(feature = "operations")]
-pub use operations::Cabinet;
+pub use operations::{nothing, Cabinet};
 
 use crate::{Answer, Sizes};
 

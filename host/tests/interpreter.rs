@@ -352,6 +352,30 @@ fn cells_and_histories_agree() {
     assert!(tally.visible > 1000 && tally.internal > 1000 && tally.refused > 1000, "{tally:?}");
 }
 
+/// The same for terms that the rule set need not reach, done anywhere, over histories that it does.
+#[test]
+fn any_terms_move_alike() {
+    on_large_stack(|| {
+        let mut random = Random::new(29);
+        let mut subjects = known_subjects();
+        for shape in SHAPES {
+            subjects.extend(random_subjects(&mut random, shape, 40 * rounds()));
+        }
+        for subject in &subjects {
+            let mut machine = Machine::new(&subject.rules);
+            for _ in 0..12 {
+                machine.feed(random.between(0, 3));
+                let depth = random.below(7) as u32;
+                let words = running::arbitrary(&mut random, &subject.rules, depth);
+                let (before, end) = (machine.term.clone(), bytes_of(&machine.values()));
+                machine.put(&words);
+                check_end(subject, &mut machine, &State { term: bytes_of(&words), memory: end });
+                machine.term = before;
+            }
+        }
+    });
+}
+
 /// Some thousand events, in systems that never end: their first moves would end a star, so each number is
 /// chosen by a walk.
 #[test]

@@ -2,13 +2,14 @@
 //! states of whole systems; long runs, against cells and against histories.
 //!
 //! Only with the feature `operations` and where the engine is linked (cfg `cabinet`). `ROUNDS=20` makes
-//! twenty times as many random cases.
+//! twenty times as many random cases. A touch of a forbidden page ends the process without a word: with
+//! `TRACE=1` each call is named before it is made.
 #![cfg(cabinet)]
 
 use std::io::Write;
 
 use host::calls::{Operations, Plain};
-use host::engine::Cabinet;
+use host::engine::{nothing, Cabinet};
 use host::explore::explore;
 use host::generate::calls::{every_call, known_subjects, numbers, random_subjects, Subject};
 use host::generate::random::Random;
@@ -31,7 +32,11 @@ fn every_call_is_answered_alike() {
     let calls = on_large_stack(|| {
         let mut rooms = Rooms::new(65536);
         let mut calls = 0usize;
+        let trace = std::env::var_os("TRACE").is_some();
         every_call(rounds(), &mut |call| {
+            if trace {
+                say(&format!("{:?}: {}", call.operation, call.name));
+            }
             let expected = call.outcome(&Plain);
             for edge in [Edge::Front, Edge::Back] {
                 let found = rooms.outcome(&Cabinet, &call, edge);
@@ -50,6 +55,12 @@ fn every_call_is_answered_alike() {
         calls
     });
     say(&format!("{calls} calls to the engine and the plain interpreter"));
+}
+
+/// A length of 0 may come with any pointer; then the rule set is refused 1 before anything else counts.
+#[test]
+fn no_bytes_and_no_pointers() {
+    assert_eq!([1; 5], nothing());
 }
 
 /// Every state of the library system of source document 002, and of key cabinets.

@@ -138,6 +138,21 @@ impl MoveReply {
 /// The engine.
 pub struct Cabinet;
 
+/// Every operation given no bytes and no pointers, which eb3.h allows with length 0: the refusals.
+pub fn nothing() -> [u32; 5] {
+    let (given, lent) = (std::ptr::null(), std::ptr::null_mut());
+    // SAFETY: no byte is read or written through a pointer that comes with length 0.
+    unsafe {
+        [
+            eb3_start(given, 0, lent, 0, lent, 0).refusal,
+            eb3_count(given, 0, given, 0, given, 0).refusal,
+            eb3_move(given, 0, given, 0, given, 0, 0, lent, 0, lent, 0).refusal,
+            eb3_present(given, 0, given, 0, given, 0, given, 0, lent, 0, lent, 0).refusal,
+            eb3_run(given, 0, given, 0, lent, 0, lent, 0, lent, 0, lent, 0).refusal,
+        ]
+    }
+}
+
 // SAFETY of all calls: eb3.h's slices are these, the lent ones borrowed alone; the engine keeps nothing.
 impl Operations for Cabinet {
     fn start(&self, rules: &[u8], term: &mut [u8], memory: &mut [u8]) -> Started {

@@ -101,6 +101,11 @@ impl<'a> Machine<'a> {
         Machine { rules, term: shared(&main), history: Vec::new(), tally: Tally::default(), known }
     }
 
+    /// Puts a running term of the rule set, any one, in the place of the machine's; T and the counts stay.
+    pub fn put(&mut self, words: &[u16]) {
+        self.term = trees::running(self.rules, words);
+    }
+
     /// Takes the move of this number if there is one.
     pub fn feed(&mut self, number: u16) {
         match self.moves().into_iter().nth(usize::from(number)) {

@@ -1,7 +1,12 @@
-//! An admitted stream read into a tree (`rules::RuleSet`), for the interpreter over histories.
+//! An admitted stream read into a tree (`rules::RuleSet`), and a running term likewise, for the interpreter
+//! over histories.
 //!
-//! Document 01, "Blocks and the rule stream", items 2 to 5. The words have been admitted, so each is
-//! taken for what it must be.
+//! Document 01, "Blocks and the rule stream", items 2 to 5, and "Unfolding, size and breadth". The words
+//! have been admitted, so each is taken for what it must be.
+
+use std::rc::Rc;
+
+use super::histories::{Event, Tree};
 
 use crate::rules::{Argument, Condition, Data, Function, Mask, Process, RuleSet, Term};
 
@@ -23,6 +28,11 @@ pub(super) fn rule_set(words: &[u16]) -> RuleSet {
         rules.processes.push(Process { parameters, term });
     }
     rules
+}
+
+/// A running term of the rule set, as a tree.
+pub(super) fn running(rules: &RuleSet, words: &[u16]) -> Rc<Tree> {
+    Reading { rest: words.iter() }.running(rules)
 }
 
 struct Reading<'a> {
@@ -98,5 +108,25 @@ impl Reading<'_> {
             }
             code => panic!("{code} is no code of a rule term"),
         }
+    }
+
+    fn running(&mut self, rules: &RuleSet) -> Rc<Tree> {
+        Rc::new(match self.word() {
+            20 => Tree::Internal,
+            21 => {
+                let label = self.word();
+                // The arguments' values, each behind its code.
+                let value = |_: &u16| [self.word(), self.word()][1];
+                let arguments = rules.labels[usize::from(label)].iter().map(value).collect();
+                Tree::Action(Event { label, arguments })
+            }
+            22 => Tree::Sequence(self.running(rules), self.running(rules)),
+            23 => Tree::Choice(self.running(rules), self.running(rules)),
+            24 => Tree::Star(self.running(rules)),
+            25 => Tree::Parallel(self.mask(), self.running(rules), self.running(rules)),
+            26 => Tree::Guard(Rc::new(self.condition()), self.running(rules)),
+            30 => Tree::Done,
+            code => panic!("{code} is no code of a running term"),
+        })
     }
 }
