@@ -52,6 +52,19 @@ pub enum Action {
     },
 }
 
+impl Action {
+    /// The action as the words of a running leaf, code 20 or 21.
+    pub fn words(self) -> Vec<u16> {
+        match self {
+            Action::Internal => vec![20],
+            Action::Visible { label, count, arguments } => {
+                let arguments = arguments[..usize::from(count)].iter().flat_map(|&value| [1, value]);
+                [21, label].into_iter().chain(arguments).collect()
+            }
+        }
+    }
+}
+
 /// What Move and Present answer: the words of the successor, and the action.
 #[derive(Clone, Copy, Debug, PartialEq, Eq)]
 pub struct Made {

@@ -14,7 +14,7 @@ use host::generate::calls::Subject;
 use host::generate::random::Random;
 use host::generate::running::{self, State};
 use host::rules::RuleSet;
-use host::{bytes_of, examples, on_large_stack, plain, words_of, Action};
+use host::{bytes_of, examples, on_large_stack, plain, words_of};
 
 const SAMPLES: usize = 101;
 /// A batch takes about this long, so that the clock's own time does not count.
@@ -126,19 +126,9 @@ fn state_rows(subject: &Subject, state: &State) {
         &mut term,
         &mut memory,
     );
-    let event = event_of(made.expect("the last move").action);
+    let event = made.expect("the last move").action.words();
     let given = [given, vec![bytes_of(&event)]].concat();
     row(call("present, the last's action", Operation::Present, given, lent));
-}
-
-fn event_of(action: Action) -> Vec<u16> {
-    match action {
-        Action::Internal => vec![20],
-        Action::Visible { label, count, arguments } => {
-            let arguments = arguments[..usize::from(count)].iter().flat_map(|&value| [1, value]);
-            [21, label].into_iter().chain(arguments).collect()
-        }
-    }
 }
 
 /// A run of visible moves as far as there are any.

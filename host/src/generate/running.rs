@@ -7,7 +7,7 @@
 use super::random::Random;
 use super::well_formed::running_condition;
 use crate::rules::RuleSet;
-use crate::{plain, Sizes};
+use crate::{plain, words_of, Action, Made, Sizes};
 
 /// A term and a memory, as words.
 #[derive(Clone, Debug)]
@@ -32,6 +32,20 @@ pub fn after(file: &[u8], sizes: Sizes, state: &State, number: u64) -> State {
     let made = plain::make_move(file, &state.term, &state.memory, number, &mut term, &mut memory);
     term.truncate(2 * made.expect("a move below the count").size as usize);
     State { term, memory }
+}
+
+/// All moves of a right term, in buffers as large as its reach asks for: actions and states after them.
+pub fn moves(rules: &RuleSet, file: &[u8], state: &State) -> Vec<(Action, State)> {
+    let (_, reach, _) = measures(rules, &words_of(&state.term));
+    let count = plain::count(file, &state.term, &state.memory).expect("a right term");
+    let next = |number| {
+        let (mut term, mut memory) = (vec![0; 2 * reach as usize], vec![0; state.memory.len()]);
+        let made = plain::make_move(file, &state.term, &state.memory, number, &mut term, &mut memory);
+        let Made { size, action } = made.expect("a number below the count");
+        term.truncate(2 * size as usize);
+        (action, State { term, memory })
+    };
+    (0..u64::from(count)).map(next).collect()
 }
 
 /// The states of a walk of at most so many random moves, the start among them. Where there is a choice,
