@@ -92,7 +92,8 @@ fn every_call_of(random: &mut Random, subject: &Subject, states: usize, take: Ta
     for _ in 0..states {
         let state = random.pick(&reached).clone();
         calls_at(random, subject, &state, take);
-        let term = bytes_of(&running::arbitrary(random, &subject.rules, 5));
+        let depth = random.below(8) as u32;
+        let term = bytes_of(&running::arbitrary(random, &subject.rules, depth));
         let memory = memory(random, subject.cells(), Fit::Exact);
         calls_at(random, subject, &State { term, memory }, take);
     }
@@ -177,6 +178,15 @@ impl Asking<'_> {
         }
         Call { name: format!("{}: {name}", self.subject.name), operation, given, lent, expected: Some(0) }
     }
+
+    /// The action of a move that there is, as an event.
+    fn event(&self, number: u64) -> Vec<u8> {
+        let State { term, memory } = self.state;
+        let (mut next_term, mut next_memory) = (vec![0; 2 * self.reach], vec![0; 2 * self.subject.cells()]);
+        let made =
+            plain::make_move(&self.subject.file, term, memory, number, &mut next_term, &mut next_memory);
+        bytes_of(&made.expect("a number below the count").action.words())
+    }
 }
 
 /// Count, moves and events at a state, with room enough and without.
@@ -185,19 +195,24 @@ fn calls_at(random: &mut Random, subject: &Subject, state: &State, take: Taker) 
     let asking = Asking { subject, state, reach: reach as usize };
     let count = plain::count(&subject.file, &state.term, &state.memory).expect("a right term");
     take(asking.call(random, "count", Operation::Count, None));
-    let below = random.below(count.max(1) as usize) as u64;
     let count = u64::from(count);
-    for number in [0, below, count.saturating_sub(1), count, count + 1, 65535, 65536, 1 << 32, u64::MAX] {
+    let mut below: Vec<u64> = (0..count.min(6)).chain([count.saturating_sub(1)]).collect();
+    below.extend((0..2).map(|_| random.number() % count.max(1)));
+    for number in below.iter().copied().chain([count, count + 1, 65535, 65536, 1 << 32, u64::MAX]) {
         let mut call = asking.call(random, &format!("move {number}"), Operation::Move(number), None);
         call.expected = Some(if number < count { 0 } else { NOT_OFFERED });
         take(call);
     }
-    for _ in 0..4 {
-        let event = events::right(random, &subject.rules);
+    // Events that are offered, by the moves just made, and such as may be.
+    let offered = below.into_iter().filter(|&number| number < count).step_by(2);
+    let mut events: Vec<(Vec<u8>, Option<u8>)> =
+        offered.map(|number| (asking.event(number), Some(0))).collect();
+    events.extend((0..4).map(|_| (events::right(random, &subject.rules), None)));
+    events.push((bytes_of(&[20]), None));
+    for (event, expected) in events {
         let call = asking.call(random, &format!("event {event:?}"), Operation::Present, Some(&event));
-        take(Call { expected: None, ..call });
+        take(Call { expected, ..call });
     }
-    take(Call { expected: None, ..asking.call(random, "internal", Operation::Present, Some(&[20, 0])) });
     // 9 before 12, and each buffer alone.
     let event = events::right(random, &subject.rules);
     for (operation, event) in
