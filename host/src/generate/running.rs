@@ -9,7 +9,7 @@ use super::well_formed::running_condition;
 use crate::rules::RuleSet;
 use crate::{plain, words_of, Action, Made, Sizes};
 
-/// A term and a memory, as words.
+/// A term and a memory, as bytes.
 #[derive(Clone, Debug)]
 pub struct State {
     pub term: Vec<u8>,

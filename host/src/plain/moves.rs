@@ -65,7 +65,7 @@ const APART: u32 = 1 << 31;
 /// What a visit leaves behind for building a successor; kept from one step of a run to the next for its
 /// room alone.
 #[derive(Default)]
-pub(super) struct Notes {
+pub(super) struct Findings {
     /// Where a choice or a parallel without a mask begins: how many moves its left side has. Where a
     /// parallel with a mask begins: the same and `APART`, or where its pairs begin.
     marks: Vec<u32>,
@@ -81,7 +81,7 @@ pub(super) struct Notes {
 pub(super) struct Moves<'a> {
     pub term: &'a Term,
     pub cells: Cells<'a>,
-    pub notes: &'a mut Notes,
+    pub findings: &'a mut Findings,
 }
 
 impl Moves<'_> {
@@ -95,15 +95,15 @@ impl Moves<'_> {
     pub fn list(&mut self) -> &[Packed] {
         self.begin();
         self.visit::<true>(0);
-        &self.notes.actions
+        &self.findings.actions
     }
 
     fn begin(&mut self) {
-        self.notes.pairs.clear();
-        self.notes.actions.clear();
-        self.notes.labels = 0;
-        if self.notes.marks.len() < self.term.words.len() {
-            self.notes.marks.resize(self.term.words.len(), 0);
+        self.findings.pairs.clear();
+        self.findings.actions.clear();
+        self.findings.labels = 0;
+        if self.findings.marks.len() < self.term.words.len() {
+            self.findings.marks.resize(self.term.words.len(), 0);
         }
     }
 
@@ -130,8 +130,8 @@ impl Moves<'_> {
     #[inline]
     fn one<const LIST: bool>(&mut self, action: Packed) -> usize {
         if LIST {
-            self.notes.actions.push(action);
-            self.notes.labels |= action.bit();
+            self.findings.actions.push(action);
+            self.findings.labels |= action.bit();
         }
         1
     }
@@ -140,27 +140,27 @@ impl Moves<'_> {
     #[inline]
     fn both<const LIST: bool>(&mut self, at: usize, left: usize) -> usize {
         let first = self.visit::<LIST>(left);
-        self.notes.marks[at] = first as u32;
+        self.findings.marks[at] = first as u32;
         first + self.visit::<LIST>(self.term.after(left))
     }
 
     /// Left's moves with label outside the mask, right's likewise, then pairs of equal actions with label
     /// in the mask, ordered by left, then right.
     fn synchronised<const LIST: bool>(&mut self, at: usize) -> usize {
-        let (from, mask) = (self.notes.actions.len(), self.term.mask(at));
-        let around = std::mem::take(&mut self.notes.labels);
+        let (from, mask) = (self.findings.actions.len(), self.term.mask(at));
+        let around = std::mem::take(&mut self.findings.labels);
         let left = self.visit::<true>(at + 5);
         let right = self.visit::<true>(self.term.after(at + 5));
-        let apart = self.notes.labels & mask == 0;
+        let apart = self.findings.labels & mask == 0;
         let count = if apart { left + right } else { self.paired(at, from, left) };
         if apart {
-            self.notes.marks[at] = left as u32 | APART;
+            self.findings.marks[at] = left as u32 | APART;
         }
         if LIST {
-            self.notes.labels |= around;
+            self.findings.labels |= around;
         } else {
-            self.notes.actions.truncate(from);
-            self.notes.labels = around;
+            self.findings.actions.truncate(from);
+            self.findings.labels = around;
         }
         count
     }
@@ -168,7 +168,7 @@ impl Moves<'_> {
     /// Notes the pairs of a parallel whose sides' actions are listed from there on, left's being so many,
     /// and puts the whole's actions in their place.
     fn paired(&mut self, at: usize, from: usize, left: usize) -> usize {
-        let Notes { marks, pairs, actions, labels } = &mut *self.notes;
+        let Findings { marks, pairs, actions, labels } = &mut *self.findings;
         let begin = pairs.len();
         marks[at] = begin as u32;
         pair_up(&actions[from..], left, self.term.mask(at), pairs);
@@ -199,7 +199,7 @@ impl Moves<'_> {
             22 if term.words[at + 1] == DONE => self.build(at + 2, number, output),
             22 => self.followed(at + 1, number, term.after(at + 1), output),
             23 => {
-                let first = self.notes.marks[at] as usize;
+                let first = self.findings.marks[at] as usize;
                 match number.checked_sub(first) {
                     None => self.build(at + 1, number, output),
                     Some(number) => self.build(term.after(at + 1), number, output),
@@ -224,10 +224,10 @@ impl Moves<'_> {
 
     /// The sides of a parallel, those that move and those that stay.
     fn beside(&self, at: usize, number: usize, output: &mut impl Output) -> Packed {
-        let mark = self.notes.marks[at];
+        let mark = self.findings.marks[at];
         let first = (mark & !APART) as usize;
         let (left, right) = if self.term.mask(at) != 0 && mark & APART == 0 {
-            self.notes.pairs[first + number]
+            self.findings.pairs[first + number]
         } else if number < first {
             (number as u16, STAYS)
         } else {

@@ -7,7 +7,7 @@
 use super::decoded::Rules;
 use super::evaluation::Cells;
 use super::memory;
-use super::moves::{Moves, Notes, Output, Packed};
+use super::moves::{Findings, Moves, Output, Packed};
 use super::term::{self, words_of, Given, Term};
 use super::unfolding;
 use crate::refusal::{NOT_OFFERED, SPACE};
@@ -28,8 +28,8 @@ pub fn count(rules: &[u8], term: &[u8], memory: &[u8]) -> Counted {
     let given = term::given(&rules, term)?;
     space(&rules, &[], 0, &[memory])?;
     let cells = cells_of(&rules, memory);
-    let mut notes = Notes::default();
-    Ok(moves(&rules, &given.term, &cells, &mut notes).count() as u32)
+    let mut findings = Findings::default();
+    Ok(moves(&rules, &given.term, &cells, &mut findings).count() as u32)
 }
 
 /// Writes the successor of a move, by its number, and the new memory.
@@ -45,8 +45,8 @@ pub fn make_move(
     let given = term::given(&rules, term)?;
     space(&rules, &[next_term], given.reach, &[memory, next_memory])?;
     let cells = cells_of(&rules, memory);
-    let mut notes = Notes::default();
-    let mut moves = moves(&rules, &given.term, &cells, &mut notes);
+    let mut findings = Findings::default();
+    let mut moves = moves(&rules, &given.term, &cells, &mut findings);
     if number >= moves.count() as u64 {
         return Err(NOT_OFFERED);
     }
@@ -67,8 +67,8 @@ pub fn present(
     let event = term::event(&rules, event)?;
     space(&rules, &[next_term], reach, &[memory, next_memory])?;
     let cells = cells_of(&rules, memory);
-    let mut notes = Notes::default();
-    let mut moves = moves(&rules, &term, &cells, &mut notes);
+    let mut findings = Findings::default();
+    let mut moves = moves(&rules, &term, &cells, &mut findings);
     let number = moves.list().iter().position(|&action| action == event).ok_or(NOT_OFFERED)?;
     Ok(made(&rules, &moves, number, next_term, next_memory))
 }
@@ -87,9 +87,9 @@ pub fn run(
     space(&rules, &[term, spare_term], reach, &[memory, spare_memory])?;
     let mut state = State { term: unfolding::main_of(&rules), cells: memory::at_start(&rules) };
     let mut next = State { term: Term::with_room(reach), cells: Vec::with_capacity(rules.cells()) };
-    let (mut notes, mut ran) = (Notes::default(), Tally::default());
+    let (mut findings, mut ran) = (Findings::default(), Tally::default());
     for number in numbers.chunks_exact(2).map(|pair| usize::from(u16::from_le_bytes([pair[0], pair[1]]))) {
-        let mut moves = moves(&rules, &state.term, &state.cells, &mut notes);
+        let mut moves = moves(&rules, &state.term, &state.cells, &mut findings);
         if number >= moves.count() {
             ran.refused += 1;
             continue;
@@ -134,8 +134,8 @@ fn cells_of(rules: &Rules, memory: &[u8]) -> Vec<u16> {
 }
 
 /// Guards read the cells as they are before the move.
-fn moves<'a>(rules: &'a Rules, term: &'a Term, cells: &'a [u16], notes: &'a mut Notes) -> Moves<'a> {
-    Moves { term, cells: Cells { layout: rules.layout(), now: cells, before: cells }, notes }
+fn moves<'a>(rules: &'a Rules, term: &'a Term, cells: &'a [u16], findings: &'a mut Findings) -> Moves<'a> {
+    Moves { term, cells: Cells { layout: rules.layout(), now: cells, before: cells }, findings }
 }
 
 fn write(words: &[u16], buffer: &mut [u8]) {
