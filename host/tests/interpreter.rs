@@ -189,3 +189,93 @@ fn cells_are_renewed_in_order() {
     let by_b = cells([undefined, 65534, undefined], [65534, undefined, 65533], [5; 3]);
     assert_eq!(vec![by_a, by_b], after(any));
 }
+
+/// Refusals 9 to 12, each condition alone, and their order where several hold, on the key cabinet: G 77, so
+/// 154 bytes for a term; two cells, so 4 for a memory.
+#[test]
+fn each_condition_of_9_to_12() {
+    let cabinet = subject(examples::key_cabinet(2));
+    let (file, State { term, memory }) = (&cabinet.file, running::start(&cabinet.file, cabinet.sizes));
+    let start =
+        |term: usize, memory: usize| plain::start(file, &mut vec![0; term], &mut vec![0; memory]).err();
+    let run = |sizes: [usize; 4]| {
+        let [mut a, mut b, mut c, mut d] = sizes.map(|size| vec![0; size]);
+        plain::run(file, &[], &mut a, &mut b, &mut c, &mut d).err()
+    };
+    assert_eq!([None, Some(9), Some(9)], [start(154, 4), start(153, 4), start(154, 3)]);
+    assert_eq!(None, run([154, 4, 154, 4]));
+    for short in [[153, 4, 154, 4], [154, 3, 154, 4], [154, 4, 153, 4], [154, 4, 154, 3]] {
+        assert_eq!(Some(9), run(short));
+    }
+    let count = |term: &[u8], memory: &[u8]| plain::count(file, term, memory).err();
+    let made = |term: &[u8], memory: &[u8], number: u64, sizes: [usize; 2]| {
+        let [mut next_term, mut next_memory] = sizes.map(|size| vec![0; size]);
+        plain::make_move(file, term, memory, number, &mut next_term, &mut next_memory).err()
+    };
+    let presented = |term: &[u8], memory: &[u8], event: &[u16], sizes: [usize; 2]| {
+        let [mut next_term, mut next_memory] = sizes.map(|size| vec![0; size]);
+        plain::present(file, term, memory, &bytes_of(event), &mut next_term, &mut next_memory).err()
+    };
+    let (right, take_0) = ([154, 4], [21, 0, 1, 0]);
+    assert_eq!([None; 2], [count(&term, &memory), made(&term, &memory, 3, right)]);
+    assert_eq!(None, presented(&term, &memory, &take_0, right));
+    assert_eq!([Some(9); 2], [count(&term, &memory[..3]), made(&term, &memory[..3], 0, right)]);
+    assert_eq!(Some(9), presented(&term, &memory[..3], &take_0, right));
+    for short in [[153, 4], [154, 3]] {
+        assert_eq!(Some(9), made(&term, &memory, 0, short));
+        assert_eq!(Some(9), presented(&term, &memory, &take_0, short));
+    }
+    // A smaller term asks for its own reach only.
+    assert_eq!([None, Some(9)], [[8, 4], [7, 4]].map(|sizes| made(&bytes_of(&take_0), &memory, 0, sizes)));
+    // 12: no such number, no such event; but 9 before it, 11 before 9, and 10 before 11.
+    assert_eq!([Some(12); 2], [4, u64::MAX].map(|number| made(&term, &memory, number, right)));
+    assert_eq!(Some(12), presented(&term, &memory, &[21, 1, 1, 0], right));
+    assert_eq!(Some(9), made(&term, &memory, 4, [0, 0]));
+    assert_eq!(Some(9), presented(&term, &memory, &[21, 1, 1, 0], [0, 0]));
+    let strangers: [&[u16]; 9] = [
+        &[],
+        &[30],
+        &[22],
+        &[20, 20],
+        &[21],
+        &[21, 2, 1, 0],
+        &[21, 0, 2, 0],
+        &[21, 0, 1, 2],
+        &[21, 0, 1, 0, 0],
+    ];
+    for stranger in strangers {
+        assert_eq!(Some(11), presented(&term, &memory, stranger, [0, 0]), "{stranger:?}");
+        assert_eq!(Some(10), presented(&[], &memory, stranger, [0, 0]), "{stranger:?}");
+    }
+    let stars = [vec![24; 130], vec![20]].concat();
+    let broad = (1..17).fold(take_0.to_vec(), |inner, _| beside(&[0], &take_0, &inner));
+    let wrong: [&[u16]; 17] = [
+        &[],
+        &[0],
+        &[27, 0, 20],
+        &[29, 0],
+        &[31],
+        &[20, 20],
+        &[22, 20],
+        &[21, 2, 1, 0],
+        &[21, 0, 2, 0],
+        &[21, 0, 1, 2],
+        &[25, 4, 0, 0, 0, 20, 20],
+        &[26, 8, 2, 0, 0, 20],
+        &[26, 8, 7, 0, 0, 0, 20],
+        &[26, 8, 6, 1, 0, 0, 20],
+        &[26, 8, 1, 65535, 0, 20],
+        &stars,
+        &broad,
+    ];
+    for words in wrong {
+        let term = bytes_of(words);
+        assert_eq!([Some(10); 2], [count(&term, &[]), made(&term, &[], 9, [0, 0])], "{words:?}");
+    }
+    let odd = [&term[..], &[0]].concat();
+    assert_eq!([Some(10); 2], [count(&odd, &memory), made(&odd, &memory, 0, right)]);
+    assert_eq!(Some(11), {
+        let mut buffers = (vec![0; 154], vec![0; 4]);
+        plain::present(file, &term, &memory, &[20, 0, 0], &mut buffers.0, &mut buffers.1).err()
+    });
+}
