@@ -4,15 +4,9 @@
 //! document 01's table; then every other field is 0". A reply that is neither is a fault of the engine,
 //! and ends the test here.
 
+use super::starting;
 use crate::calls::Operations;
 use crate::{Action, Counted, Made, Moved, Ran, Started, Tally};
-
-/// `eb3_started` of eb3.h.
-#[repr(C)]
-struct StartReply {
-    refusal: u32,
-    size: u32,
-}
 
 /// `eb3_counted`.
 #[repr(C)]
@@ -44,15 +38,6 @@ struct RunReply {
 }
 
 extern "C" {
-    fn eb3_start(
-        rules: *const u8,
-        rules_len: usize,
-        term: *mut u8,
-        term_len: usize,
-        memory: *mut u8,
-        memory_len: usize,
-    ) -> StartReply;
-
     fn eb3_count(
         rules: *const u8,
         rules_len: usize,
@@ -144,7 +129,7 @@ pub fn nothing() -> [u32; 5] {
     // SAFETY: no byte is read or written through a pointer that comes with length 0.
     unsafe {
         [
-            eb3_start(given, 0, lent, 0, lent, 0).refusal,
+            starting::eb3_start(given, 0, lent, 0, lent, 0).refusal,
             eb3_count(given, 0, given, 0, given, 0).refusal,
             eb3_move(given, 0, given, 0, given, 0, 0, lent, 0, lent, 0).refusal,
             eb3_present(given, 0, given, 0, given, 0, given, 0, lent, 0, lent, 0).refusal,
@@ -156,18 +141,7 @@ pub fn nothing() -> [u32; 5] {
 // SAFETY of all calls: eb3.h's slices are these, the lent ones borrowed alone; the engine keeps nothing.
 impl Operations for Cabinet {
     fn start(&self, rules: &[u8], term: &mut [u8], memory: &mut [u8]) -> Started {
-        let reply = unsafe {
-            eb3_start(
-                rules.as_ptr(),
-                rules.len(),
-                term.as_mut_ptr(),
-                term.len(),
-                memory.as_mut_ptr(),
-                memory.len(),
-            )
-        };
-        refusal(reply.refusal, &[u64::from(reply.size)])?;
-        Ok(reply.size)
+        starting::start(rules, term, memory)
     }
 
     fn count(&self, rules: &[u8], term: &[u8], memory: &[u8]) -> Counted {
