@@ -1,0 +1,10 @@
+mod Searches
+mod Operands
+mod Places
+mod Locating
+mod Answers
+mod Counts
+mod Arms
+mod Sides
+mod Masked
+mod Parallels
