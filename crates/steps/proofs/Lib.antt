@@ -1,0 +1,6 @@
+-- What the proofs of several functions use.
+mod Tallying
+mod Finding
+mod TakeCases
+mod Keeps
+mod Stores
