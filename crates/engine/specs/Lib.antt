@@ -6,3 +6,6 @@ pub mod Memories
 pub mod Starting
 pub mod StartLaws
 pub mod Knowing
+pub mod Giving
+pub mod GivingLaws
+pub mod Counting

@@ -16,6 +16,8 @@ ghost use Rattle.eb3.specs.Laws.Judging.{judged};
 ghost use Rattle.engine.specs.Answering.{admitted, reported, read-whole};
 ghost use Rattle.engine.specs.Admitting.{WordsAdmitted, FileAdmitted};
 
+pub mod counting;
+pub mod giving;
 pub mod starting;
 
 use blocks::Opened;
