@@ -12,12 +12,12 @@ ghost use Rattle.engine.specs.Knowing.{Opens};
 ghost use Rattle.engine.specs.Giving.{Described};
 ghost use Rattle.engine.specs.Counting.{counted-as};
 use super::giving::Given;
-use super::giving::front;
 use super::giving::given_in;
 use arguments::entry;
 use arguments::wide32;
 use blocks::Opened;
 use blocks::open;
+use scan::front;
 use steps::counting::count_moves;
 use steps::storing::load_store;
 

@@ -2,7 +2,7 @@
 // refusals 1 to 8, then 10).
 ghost use mathlib.Core.Path.{_≡_};
 ghost use Prim.Native.Nat.{ℕ, _*_, _/_, _≤_};
-ghost use lib.ListN.{length, take};
+ghost use lib.ListN.{length};
 ghost use Rattle.eb3.specs.Limits.{edition-1};
 ghost use Rattle.eb3.specs.RuleSets.{RuleSet};
 ghost use Rattle.eb3.specs.WellFormedness.{Form};
@@ -39,16 +39,6 @@ fn check_term(tb: &[u32], c: usize, term: &[u8], ws: &mut [u16]) -> Given
         terms::Given::Running(reach, breadth) => Given::Term(c, wide32(reach)),
         terms::Given::Wrong => Given::Refused(10),
     }
-}
-
-// The first n words.
-pub fn front(s: &[u16], n: usize) -> &[u16]
-    ensures { λ r. ⌜ now r ≡ take n (now (s .entry)) ⌝ }
-{
-    if n <= s.len() {
-        return &s[0..n];
-    }
-    s
 }
 
 // n opened blocks, decoded into lent words, and a term.

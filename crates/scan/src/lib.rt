@@ -3,7 +3,7 @@
 ghost use mathlib.Core.Path.{_≡_};
 ghost use Prim.Native.Nat.{ℕ, _<_, _≤_};
 ghost use mathlib.Core.List.{List};
-ghost use lib.ListN.{drop, getD, length};
+ghost use lib.ListN.{drop, getD, length, take};
 ghost use Rattle.eb3.specs.Reading.{number-of, count-of};
 ghost use Rattle.scan.specs.Checking.{checked, last-of};
 
@@ -37,6 +37,16 @@ pub fn last(s: &[u16], n: usize) -> &[u16]
         return &s[k..];
     }
     &s[0..]
+}
+
+// The first n words.
+pub fn front(s: &[u16], n: usize) -> &[u16]
+    ensures { λ r. ⌜ now r ≡ take n (now (s .entry)) ⌝ }
+{
+    if n <= s.len() {
+        return &s[0..n];
+    }
+    s
 }
 
 // The words behind the first.

@@ -6,7 +6,7 @@ use Rattle.engine.proofs.counting.count_in.Tie as tie
 use Rattle.engine.proofs.counting.count_in.Reads as reads
 use Rattle.engine.proofs.counting.count_in.Lts as lts
 use Rattle.engine.proofs.counting.count_at.Reads as count-at-reads
-use Rattle.engine.proofs.giving.front.Reads as front-reads
+use Rattle.scan.proofs.front.Reads as front-reads
 use Rattle.engine.proofs.giving.given_in.Reads as given-in-reads
 
 -- src/counting.rt:61:37

@@ -5,10 +5,10 @@ use lib.ListN.{take}
 use lib.Seq.{take-all}
 use native.Mathlib.Omega.{arith}
 use borrow.Author.Needs.{needs}
-use Rattle.engine.proofs.giving.front.Statement.{statement}
-use Rattle.engine.proofs.giving.front.Tie as tie
-use Rattle.engine.proofs.giving.front.Reads as reads
-use Rattle.engine.proofs.giving.front.Lts as lts
+use Rattle.scan.proofs.front.Statement.{statement}
+use Rattle.scan.proofs.front.Tie as tie
+use Rattle.scan.proofs.front.Reads as reads
+use Rattle.scan.proofs.front.Lts as lts
 
 -- src/giving.rt:49:16
 sub-result : tie.Need-sub-result
