@@ -1,13 +1,11 @@
 -- Each form of a term but a parallel: from its operands' answers to its own.
 use mathlib.Core.Path.{_≡_, refl, sym, ap, _∙_, subst}
-use mathlib.Core.Bool.{Bool, true, false}
-use mathlib.Core.List.{List, [], _∷_, _++_}
-use Prim.Native.Nat.{ℕ, _+_, _-_, _*_, _/_, _%_, _≤_, _<_}
+use mathlib.Core.List.{List, _∷_, _++_}
+use Prim.Native.Nat.{ℕ, _+_, _-_, _/_, _%_, _≤_, _<_}
 use native.Mathlib.Omega.{arith}
-use lib.ListN.{length, drop, getD, length-append, length-drop}
-use Rattle.eb3.specs.Expressions.{Cond}
+use lib.ListN.{length, drop, getD, length-drop}
 use Rattle.eb3.specs.Scopes.{Scope}
-use Rattle.eb3.specs.Terms.{Term, Done, Internal, Perform, Sequence, Choice, Star, Guard, VisibleAction}
+use Rattle.eb3.specs.Terms.{Term, Done, Sequence, Guard, VisibleAction}
 use Rattle.eb3.specs.Sizes.{size}
 use Rattle.eb3.specs.Spelling.{words}
 use Rattle.scan.specs.Checking.{last-of}

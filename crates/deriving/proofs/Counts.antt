@@ -4,7 +4,7 @@ use mathlib.Core.Bool.{Bool, true, false, _&&_, cond}
 use mathlib.Core.List.{List, [], _∷_, _++_}
 use Prim.Native.Nat.{ℕ, _+_, _-_, _≤_, _<_}
 use native.Mathlib.Omega.{arith}
-use lib.Dec.{T, eqb, ltb}
+use lib.Dec.{T, ltb}
 use lib.ListN.{length, length-append, length-map}
 use borrow.Author.Tests.{lt-ltb, le-ltb, eq-eqb, ne-eqb}
 use Rattle.eb3.specs.Expressions.{Cond}
@@ -17,7 +17,7 @@ use Rattle.actions.specs.CodesLaws.{masked-code}
 use Rattle.listing.specs.Listing.{Fits, code-of, codes, holding}
 use Rattle.listing.specs.Combining.{combined}
 use Rattle.listing.specs.CodeLaws.{codes-done, codes-internal, codes-perform, codes-after-done, codes-sequence, codes-choice, codes-star, codes-both-done, codes-parallel, codes-guard, codes-shut, combined-zero}
-use Rattle.paths.specs.Paths.{path, path-by, locate, left-alone, right-alone}
+use Rattle.paths.specs.Paths.{path, path-by, locate}
 use Rattle.paths.specs.PathLaws.{locate-zero-left, locate-zero-right}
 use Rattle.deriving.specs.Derived.{move-count}
 use Rattle.deriving.proofs.Answers.{by-order}

@@ -2,7 +2,7 @@
 use mathlib.Core.Path.{_≡_, refl, sym, ap, _∙_, subst}
 use mathlib.Core.Bool.{Bool, true, false, not, cond}
 use mathlib.Core.List.{List, [], _∷_, _++_}
-use Prim.Native.Nat.{ℕ, suc, _+_, _-_, _*_, _/_, _%_, _≤_, _<_}
+use Prim.Native.Nat.{ℕ, suc, _+_, _-_, _/_, _%_, _≤_, _<_}
 use native.Mathlib.Omega.{arith}
 use lib.Dec.{eqb, ltb}
 use lib.ListN.{length, length-append}
@@ -13,7 +13,7 @@ use Rattle.eb3.specs.Reading.{pick}
 use Rattle.eb3.specs.Terms.{Mask, bit}
 use Rattle.actions.specs.CodesLaws.{label-in, masked-code}
 use Rattle.listing.specs.Combining.{outside, pairs, combined}
-use Rattle.paths.specs.Paths.{Sought, at, beyond, seek, Sides, left-alone, right-alone, together, nowhere, code-in-mask, or-right, or-left, seek-pair, locate}
+use Rattle.paths.specs.Paths.{seek, left-alone, right-alone, together, code-in-mask, or-right, or-left, seek-pair, locate}
 use Rattle.deriving.specs.Derived.{passed}
 use Rattle.deriving.specs.Searching.{nth-place, nth-pair, sides-of, Within, LocatedBy}
 use Rattle.deriving.proofs.Places.{Placed, here, past, placed, PairPlaced, pair-here, pair-past, pair-placed}

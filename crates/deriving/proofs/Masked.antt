@@ -1,8 +1,8 @@
 -- A parallel with a mask: both sides' lists, the sides of move k among them, and the answer of the walk into the sides.
 use mathlib.Core.Path.{_≡_, refl, sym, ap, _∙_, subst}
-use mathlib.Core.Bool.{Bool, not}
+use mathlib.Core.Bool.{not}
 use mathlib.Core.List.{List, [], _∷_, _++_, append-nil}
-use Prim.Native.Nat.{ℕ, suc, _+_, _-_, _*_, _/_, _%_, _≤_, _<_}
+use Prim.Native.Nat.{ℕ, suc, _+_, _-_, _/_, _%_, _≤_, _<_}
 use native.Mathlib.Omega.{arith}
 use lib.Dec.{eqb}
 use lib.ListN.{length, take, drop, length-append, length-drop}
@@ -18,10 +18,10 @@ use Rattle.actions.specs.CodesLaws.{masked-code, masked-front}
 use Rattle.listing.specs.Listing.{TermAt, holding, codes, Right, Listed}
 use Rattle.listing.specs.Positions.{TwoAt, MaskedAt, second-at, behind-shorter, behind-term}
 use Rattle.listing.specs.Combining.{combined}
-use Rattle.paths.specs.Paths.{Sought, at, beyond, seek, Sides, code-in-mask, pair-from, or-right, or-left, seek-pair, locate, path, path-by}
+use Rattle.paths.specs.Paths.{Sought, at, beyond, seek, code-in-mask, pair-from, or-right, or-left, seek-pair, locate, path, path-by}
 use Rattle.deriving.specs.Derived.{passed, full, move-count}
 use Rattle.deriving.specs.Searching.{sides-of, Within, LocatedBy}
-use Rattle.deriving.specs.Arms.{Outcome, SidesDerived, MaskedDerived}
+use Rattle.deriving.specs.Arms.{SidesDerived, MaskedDerived}
 use Rattle.deriving.proofs.Operands.{answer-is, answered-left, answered-count, mask-len}
 use Rattle.deriving.proofs.Answers.{never-full, sound-lost, sound-passed}
 use Rattle.deriving.proofs.Counts.{count-codes}

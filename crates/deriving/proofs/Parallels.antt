@@ -1,21 +1,21 @@
 -- A parallel: both sides done, a mask that is zero, any other mask.
 use mathlib.Core.Path.{_≡_, refl, sym, ap, _∙_, subst}
 use mathlib.Core.Bool.{Bool, true, false, _&&_}
-use mathlib.Core.List.{List, [], _∷_}
+use mathlib.Core.List.{List, _∷_}
 use Prim.Native.Nat.{ℕ, _+_, _-_, _≤_, _<_}
 use native.Mathlib.Omega.{arith}
 use lib.ListN.{length, take, drop, length-drop}
 use Rattle.eb3.specs.Scopes.{Scope}
-use Rattle.eb3.specs.Terms.{Term, Parallel, done?}
+use Rattle.eb3.specs.Terms.{Term, done?}
 use Rattle.eb3.specs.Sizes.{size, zero-mask}
 use Rattle.expressions.specs.Answering.{answer}
 use Rattle.listing.specs.Listing.{holding, room}
 use Rattle.listing.specs.Positions.{TwoAt, MaskedAt}
 use Rattle.listing.specs.CasesByCode.{parallel-cases}
-use Rattle.listing.specs.RoomLaws.{room-both-done, room-zero, room-masked}
+use Rattle.listing.specs.RoomLaws.{room-zero, room-masked}
 use Rattle.paths.specs.Paths.{path}
 use Rattle.deriving.specs.Derived.{passed, full, move-count, Derived}
-use Rattle.deriving.specs.Arms.{Sound, Outcome, Decided, TwoDerived, MaskedDerived}
+use Rattle.deriving.specs.Arms.{Outcome, Decided, TwoDerived, MaskedDerived}
 use Rattle.deriving.proofs.Operands.{answer-is, BothDone, behind-both, mask-len}
 use Rattle.deriving.proofs.Answers.{by-order, sound-more, derived-of, outcome-as, outcome-single, sound-single, decided-sound, decided-room, decided-outcome}
 use Rattle.deriving.proofs.Counts.{count-both-done, count-masked, count-zero, path-both-done, path-masked, path-zero}

@@ -1,6 +1,6 @@
 -- What the searches find, said of `seek` and `seek-pair` and of the numbers that a parallel combines.
 use mathlib.Core.Path.{_≡_, refl, sym, ap, _∙_, subst}
-use mathlib.Core.Bool.{Bool, true, false, not, cond}
+use mathlib.Core.Bool.{Bool, true, false, cond}
 use mathlib.Core.List.{List, [], _∷_, _++_}
 use Prim.Native.Nat.{ℕ, suc, _+_, _-_, _*_, _≤_, _<_}
 use native.Mathlib.Omega.{arith}
@@ -9,8 +9,7 @@ use lib.ListN.{length, length-append}
 use borrow.Author.Tests.{eqb-true, eqb-false, lt-ltb, le-ltb}
 use Rattle.eb3.specs.Generic.Lists.{filter}
 use Rattle.eb3.specs.Reading.{pick}
-use Rattle.eb3.specs.Terms.{Mask, bit}
-use Rattle.actions.specs.CodesLaws.{label-in, masked-code}
+use Rattle.eb3.specs.Terms.{Mask}
 use Rattle.listing.specs.Combining.{equal-to, pairs}
 use Rattle.paths.specs.Paths.{Sought, at, beyond, one-on, seek, Sides, together, code-in-mask, pair-from, seek-pair}
 use Rattle.deriving.specs.Derived.{passed}

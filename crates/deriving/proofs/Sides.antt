@@ -1,6 +1,6 @@
 -- Sides of a parallel: from the answers of one side or of both to that of the move they make.
-use mathlib.Core.Path.{_≡_, refl, sym, ap, _∙_, subst}
-use mathlib.Core.List.{List, [], _∷_, _++_}
+use mathlib.Core.Path.{_≡_, sym, ap, _∙_, subst}
+use mathlib.Core.List.{List, _∷_, _++_}
 use Prim.Native.Nat.{ℕ, _+_, _-_, _/_, _%_, _≤_, _<_}
 use native.Mathlib.Nat.{le-refl}
 use native.Mathlib.Omega.{arith}
@@ -10,12 +10,12 @@ use Rattle.eb3.specs.Scopes.{Scope}
 use Rattle.eb3.specs.Terms.{Term}
 use Rattle.eb3.specs.Sizes.{size}
 use Rattle.listing.specs.Listing.{TermAt, holding}
-use Rattle.paths.specs.Paths.{path, path-by, left-alone, right-alone, together}
+use Rattle.paths.specs.Paths.{path, path-by}
 use Rattle.paths.specs.PathLaws.{path-length}
 use Rattle.deriving.specs.Derived.{passed, full, move-count, Derived}
 use Rattle.deriving.specs.Searching.{sides-of, Within}
 use Rattle.deriving.specs.Arms.{Decided, SidesDerived, BothDerived}
-use Rattle.deriving.proofs.Answers.{by-order, never-full, decided-room, derived-room, place-room}
+use Rattle.deriving.proofs.Answers.{never-full, decided-room, derived-room}
 use Rattle.deriving.proofs.Locating.{sides-left, sides-right, sides-both}
 
 -- ── both ──

@@ -1,3 +1,5 @@
+-- The search for a path and its parts, which call one another, meet their contracts. The measure is five times the words of the term at hand, with a part
+-- above what it calls on the same words. Where a part returns, a case of proofs/ says what it answers.
 use Rattle.deriving.proofs.Sides.{both-none-right, place-in, front-few, both-none-left, both-made, sides-none-left, sides-left-made, sides-none-right, sides-right-made, sides-together}
 use lib.ListN.{length, drop, length-append}
 use lib.Seq.{length-take-le}
@@ -187,33 +189,6 @@ walk-at t = and 4 walk-kinds.ps (is 4 walk-kinds.ps μ-walk t) walk.Pre
 abbrev walk-below : ℕ → In 4 walk-kinds.ps
 walk-below t = and 4 walk-kinds.ps (falls 4 walk-kinds.ps _<_ μ-walk t) walk.Pre
 
-abbrev derive-both-with : ℕ → derive-both-lts.Claims
-derive-both-with t = (walk-below t, walk.Post, decide-reads.Asked, decide-reads.Learnt)
-
-abbrev derive-guard-with : ℕ → derive-guard-lts.Claims
-derive-guard-with t = (eval-cond-reads.Asked, eval-cond-reads.Learnt, last-reads.Asked, last-reads.Learnt, skip-reads.Asked, skip-reads.Learnt, passing-reads.Asked, passing-reads.Learnt, walk-below t, walk.Post)
-
-abbrev derive-masked-with : ℕ → derive-masked-lts.Claims
-derive-masked-with t = (behind-mask-reads.Asked, behind-mask-reads.Learnt, list-reads.Asked, list-reads.Learnt, last-reads.Asked, last-reads.Learnt, locate-reads.Asked, locate-reads.Learnt, passing-reads.Asked, passing-reads.Learnt, derive-sides-below t, derive-sides.Post)
-
-abbrev derive-parallel-with : ℕ → derive-parallel-lts.Claims
-derive-parallel-with t = (behind-mask-reads.Asked, behind-mask-reads.Learnt, both-done-reads.Asked, both-done-reads.Learnt, behind-reads.Asked, behind-reads.Learnt, single-reads.Asked, single-reads.Learnt, decide-reads.Asked, decide-reads.Learnt, mask-zero-reads.Asked, mask-zero-reads.Learnt, derive-two-below t, derive-two.Post, derive-masked-below t, derive-masked.Post)
-
-abbrev derive-sequence-with : ℕ → derive-sequence-lts.Claims
-derive-sequence-with t = (first-reads.Asked, first-reads.Learnt, behind-reads.Asked, behind-reads.Learnt, walk-below t, walk.Post, last-reads.Asked, last-reads.Learnt, skip-reads.Asked, skip-reads.Learnt, passing-reads.Asked, passing-reads.Learnt)
-
-abbrev derive-sides-with : ℕ → derive-sides-lts.Claims
-derive-sides-with t = (walk-below t, walk.Post, decide-reads.Asked, decide-reads.Learnt, derive-both-below t, derive-both.Post)
-
-abbrev derive-star-with : ℕ → derive-star-lts.Claims
-derive-star-with t = (decide-reads.Asked, decide-reads.Learnt, walk-below t, walk.Post)
-
-abbrev derive-two-with : ℕ → derive-two-lts.Claims
-derive-two-with t = (walk-below t, walk.Post, decide-reads.Asked, decide-reads.Learnt, last-reads.Asked, last-reads.Learnt)
-
-abbrev walk-with : ℕ → walk-lts.Claims
-walk-with t = (first-reads.Asked, first-reads.Learnt, behind-reads.Asked, behind-reads.Learnt, single-reads.Asked, single-reads.Learnt, behind-action-reads.Asked, behind-action-reads.Learnt, derive-sequence-below t, derive-sequence.Post, derive-two-below t, derive-two.Post, derive-star-below t, derive-star.Post, derive-parallel-below t, derive-parallel.Post, derive-guard-below t, derive-guard.Post, passing-reads.Asked, passing-reads.Learnt)
-
 pub +derive-both+derive-guard+derive-masked+derive-parallel+derive-sequence+derive-sides+derive-star+derive-two+walk-spec :
     {M : Type 1} → statement M
 +derive-both+derive-guard+derive-masked+derive-parallel+derive-sequence+derive-sides+derive-star+derive-two+walk-spec =
@@ -227,8 +202,7 @@ pub +derive-both+derive-guard+derive-masked+derive-parallel+derive-sequence+deri
     μ-derive-star
     μ-derive-two
     μ-walk
-    (λ t. derive-both-lts.spec
-    (derive-both-with t)
+    (λ t. derive-both-lts.spec (walk-below t, walk.Post, decide-reads.Asked, decide-reads.Learnt)
     (derive-both-at t)
     derive-both.Post
     (λ c κs. (omega arith, omega arith))
@@ -245,7 +219,7 @@ pub +derive-both+derive-guard+derive-masked+derive-parallel+derive-sequence+deri
     (λ c. search needs)
     (λ c. search needs)
     (λ c. both-made _ _ _ _ _ _ _ _ _ (c .before .before .before .before .before .before .before .before .before .before .before .before .before .before .before .before .before .walk .ensures) (c .before .before .before .before .before .before .before .before .before .before .before .before .before .before .before .before .before .walk .kept .1 .1 .1 .0) (c .before .before .before .before .before .before .before .before .before .before .before .before .if1 .left) _ _ _ (c .before .before .before .before .before .before .before .before .before .before .before .before .before .before .before .before .before .walk .kept .1 .1 .1 .1 .0) (c .before .before .before .before .before .before .before .before .before .walk2 .ensures) (c .before .before .before .before .before .before .before .before .before .walk2 .kept .1 .1 .1 .0) (c .before .before .before .before .if2 .left) _ _ _ refl (c .before .before .decide .ensures)))
-    (λ t. derive-guard-lts.spec (derive-guard-with t)
+    (λ t. derive-guard-lts.spec (eval-cond-reads.Asked, eval-cond-reads.Learnt, last-reads.Asked, last-reads.Learnt, skip-reads.Asked, skip-reads.Learnt, passing-reads.Asked, passing-reads.Learnt, walk-below t, walk.Post)
     (derive-guard-at t)
     derive-guard.Post
     (λ c κs. search needs)
@@ -257,7 +231,7 @@ pub +derive-both+derive-guard+derive-masked+derive-parallel+derive-sequence+deri
     (λ c. search needs)
     (λ c. search needs)
     (λ c. guard-open _ _ _ _ (c .before .before .before .before .before .before .before .before .before .eval-cond .ensures .0) (c .before .before .before .before .before .before .before .before .last .ensures) _ (c .before .before .before .before .before .before .before .before .before .before .before .before .before .before .pre .1 .0) (c .before .before .before .before .before .before .before .before .before .before .before .before .before .before .pre .1 .1) _ _ _ _ (c .before .before .before .before .before .before .before .if1 .left) (c .before .before .before .before .walk .ensures)))
-    (λ t. derive-masked-lts.spec (derive-masked-with t)
+    (λ t. derive-masked-lts.spec (behind-mask-reads.Asked, behind-mask-reads.Learnt, list-reads.Asked, list-reads.Learnt, last-reads.Asked, last-reads.Learnt, locate-reads.Asked, locate-reads.Learnt, passing-reads.Asked, passing-reads.Learnt, derive-sides-below t, derive-sides.Post)
     (derive-masked-at t)
     derive-masked.Post
     (λ c κs. search needs)
@@ -282,7 +256,7 @@ pub +derive-both+derive-guard+derive-masked+derive-parallel+derive-sequence+deri
     (λ c. search needs)
     (λ c. search needs)
     (λ c. masked-sides _ _ _ _ _ _ (c .before .before .before .before .before .before .before .before .before .before .before .before .before .before .before .before .before .before .before .before .before .behind-mask .ensures) (c .before .before .before .before .before .before .before .before .before .before .before .before .before .before .before .before .before .before .before .list .ensures) (c .before .before .before .before .before .before .before .before .before .before .before .before .before .before .before .before .before .before .before .before .before .before .before .before .before .before .pre .1 .0) (c .before .before .before .before .before .before .before .before .before .before .before .before .before .before .before .before .before .before .before .before .before .before .before .before .before .before .pre .1 .3) _ _ (c .before .before .before .before .before .before .before .before .before .before .before .before .before .before .before .before .if1 .left) _ _ _ (c .before .before .before .before .before .before .before .before .before .before .before .before .before .before .before .last .ensures) (c .before .before .before .before .before .before .before .before .before .before .before .before .before .list2 .ensures) (c .before .before .before .before .before .before .before .before .before .before .if2 .left) _ (c .before .before .before .before .before .before .before .before .locate .ensures) (c .before .before .before .before .before .before .before .before .before .before .before .before .before .before .before .before .before .before .before .before .before .before .before .before .before .before .pre .1 .1) (c .before .before .before .before .before .before .before .if3 .left) (c .before .before .before .before .before .before .before .before .before .before .before .before .before .before .before .before .before .before .before .before .before .before .before .before .before .before .pre .1 .2) _ _ _ (whole-length (c .before .before .before .before .before .before .before .before .before .before .before .before .before .before .before .before .before .before .before .before .before .before .before .before .before .before .args .d .now) _ _ _ _ _ (c .before .before .before .before .before .before .before .before .before .before .before .before .before .before .before .before .before .before .before .before .before .behind-mask .ensures) (c .before .before .before .before .before .before .before .before .before .before .before .before .before .before .before .before .before .before .before .list .ensures) (c .before .before .before .before .before .before .before .before .before .before .before .before .before .before .before .before .before .before .before .before .before .before .before .before .before .before .pre .1 .0) (c .before .before .before .before .before .before .before .before .before .before .before .before .before .before .before .before .before .before .before .before .before .before .before .before .before .before .pre .1 .3) (c .before .before .before .before .before .before .before .before .before .before .before .before .before .before .before .before .before .before .before .before .before .before .before .before .before .before .args .k) (c .before .before .before .before .before .before .before .before .before .before .before .before .before .before .before .before .before .before .before .before .before .before .before .before .before .before .args .path .now) (c .before .before .before .before .before .before .before .before .before .before .before .before .before .before .before .before .if1 .left) _ _ _ (c .before .before .before .before .before .before .before .before .before .before .before .before .before .before .before .last .ensures) (c .before .before .before .before .before .before .before .before .before .before .before .before .before .list2 .ensures)) (c .before .before .before .before .derive-sides .ensures)))
-    (λ t. derive-parallel-lts.spec (derive-parallel-with t)
+    (λ t. derive-parallel-lts.spec (behind-mask-reads.Asked, behind-mask-reads.Learnt, both-done-reads.Asked, both-done-reads.Learnt, behind-reads.Asked, behind-reads.Learnt, single-reads.Asked, single-reads.Learnt, decide-reads.Asked, decide-reads.Learnt, mask-zero-reads.Asked, mask-zero-reads.Learnt, derive-two-below t, derive-two.Post, derive-masked-below t, derive-masked.Post)
     (derive-parallel-at t)
     derive-parallel.Post
     (λ c κs. search needs)
@@ -302,7 +276,7 @@ pub +derive-both+derive-guard+derive-masked+derive-parallel+derive-sequence+deri
     (λ c. search needs)
     (λ c. search needs)
     (λ c. parallel-masked _ _ _ _ _ _ _ (c .before .before .before .before .before .before .before .before .before .before .before .behind-mask .ensures) _ (c .before .before .before .before .before .before .before .before .before .before .both-done .ensures) _ (c .before .before .before .before .before .before .before .before .before .if1 .left) _ (c .before .before .before .before .before .before .before .before .mask-zero .ensures) (c .before .before .before .before .before .before .before .if2 .left) (c .before .before .before .before .derive-masked .ensures)))
-    (λ t. derive-sequence-lts.spec (derive-sequence-with t)
+    (λ t. derive-sequence-lts.spec (first-reads.Asked, first-reads.Learnt, behind-reads.Asked, behind-reads.Learnt, walk-below t, walk.Post, last-reads.Asked, last-reads.Learnt, skip-reads.Asked, skip-reads.Learnt, passing-reads.Asked, passing-reads.Learnt)
     (derive-sequence-at t)
     derive-sequence.Post
     (λ c κs. search needs)
@@ -324,7 +298,7 @@ pub +derive-both+derive-guard+derive-masked+derive-parallel+derive-sequence+deri
     (λ c. search needs)
     (λ c. search needs)
     (λ c. sequence-passed _ _ _ _ _ _ _ (c .before .before .before .before .before .before .before .before .before .walk2 .ensures) (λ e. c .before .before .before .before .before .before .before .before .before .before .before .before .if1 .left (c .before .before .before .before .before .before .before .before .before .before .before .before .before .first .ensures .0 ∙ e)) _ _ _ (c .before .before .before .before .if2 .left) (c .before .before .before .if3 .left) (c .before .before .before .before .before .before .before .before .before .before .before .before .before .before .before .before .before .before .pre .1 .0) (c .before .before .before .before .before .before .before .before .before .before .before .before .before .before .before .before .before .before .pre .1 .1) (c .before .before .last .ensures) (c .before .skip .ensures .0) (c .before .skip .ensures .1) (c .passing .ensures .0)))
-    (λ t. derive-sides-lts.spec (derive-sides-with t)
+    (λ t. derive-sides-lts.spec (walk-below t, walk.Post, decide-reads.Asked, decide-reads.Learnt, derive-both-below t, derive-both.Post)
     (derive-sides-at t)
     derive-sides.Post
     (λ c κs. (omega arith, omega arith))
@@ -347,8 +321,7 @@ pub +derive-both+derive-guard+derive-masked+derive-parallel+derive-sequence+deri
     (λ c. search needs)
     (λ c. search needs)
     (λ c. sides-together _ _ _ _ _ _ _ _ (c .before .before .before .before .before .before .before .if3 .left) (c .before .before .before .before .derive-both .ensures)))
-    (λ t. derive-star-lts.spec
-    (derive-star-with t)
+    (λ t. derive-star-lts.spec (decide-reads.Asked, decide-reads.Learnt, walk-below t, walk.Post)
     (derive-star-at t)
     derive-star.Post
     (λ c κs. (omega arith, λ z. omega arith))
@@ -360,7 +333,7 @@ pub +derive-both+derive-guard+derive-masked+derive-parallel+derive-sequence+deri
     (λ c. search needs)
     (λ c. search needs)
     (λ c. star-round _ _ _ _ _ _ _ (c .before .before .before .before .before .before .before .before .before .before .before .before .before .before .before .before .pre .1 .0) (c .before .before .before .before .before .before .before .before .before .before .before .before .before .before .before .before .pre .1 .2) _ _ (c .before .before .before .before .before .before .before .before .before .before .before .if1 .left) (c .before .before .before .before .before .before .before .before .walk .ensures) (c .before .before .before .before .before .before .before .before .walk .kept .1 .1 .1 .0) (c .before .before .decide2 .ensures)))
-    (λ t. derive-two-lts.spec (derive-two-with t)
+    (λ t. derive-two-lts.spec (walk-below t, walk.Post, decide-reads.Asked, decide-reads.Learnt, last-reads.Asked, last-reads.Learnt)
     (derive-two-at t)
     derive-two.Post
     (λ c κs. (omega arith, omega arith))
@@ -378,7 +351,7 @@ pub +derive-both+derive-guard+derive-masked+derive-parallel+derive-sequence+deri
     (λ c. search needs)
     (λ c. search needs)
     (λ c. two-right _ _ _ _ _ _ _ _ (c .before .before .before .before .before .before .before .before .before .before .before .before .before .before .before .before .before .before .walk .ensures) (c .before .before .before .before .before .before .before .before .before .before .before .before .before .before .before .before .before .before .walk .kept .1 .1 .1 .0) (c .before .before .before .before .before .before .before .before .before .before .before .before .before .before .before .before .before .before .before .before .before .before .before .before .before .pre .1 .0) (c .before .before .before .before .before .before .before .before .before .before .before .before .before .before .before .before .before .before .before .before .before .before .before .before .before .pre .1 .1) (c .before .before .before .before .before .before .before .before .before .before .before .before .before .if1 .left) (c .before .before .before .before .before .before .before .before .before .before .before .before .if2 .left) _ _ _ _ _ _ (c .before .before .before .before .before .before .before .before .before .before .before .last .ensures) (c .before .before .before .before .before .before .before .before .before .before .before .before .before .before .before .before .before .before .walk .kept .1 .1 .1 .1 .0) (c .before .before .before .before .before .before .before .before .walk2 .ensures) (c .before .before .before .before .before .before .before .before .walk2 .kept .1 .1 .1 .0) (c .before .before .decide2 .ensures)))
-    λ t. walk-lts.spec (walk-with t)
+    λ t. walk-lts.spec (first-reads.Asked, first-reads.Learnt, behind-reads.Asked, behind-reads.Learnt, single-reads.Asked, single-reads.Learnt, behind-action-reads.Asked, behind-action-reads.Learnt, derive-sequence-below t, derive-sequence.Post, derive-two-below t, derive-two.Post, derive-star-below t, derive-star.Post, derive-parallel-below t, derive-parallel.Post, derive-guard-below t, derive-guard.Post, passing-reads.Asked, passing-reads.Learnt)
     (walk-at t)
     walk.Post
     (λ c κs. search needs)

@@ -1,3 +1,4 @@
+-- Four words are passed, or all where there are fewer.
 use mathlib.Core.Path.{_∙_}
 use lib.ListN.{length}
 use Rattle.scan.specs.Laws.{part}
@@ -5,8 +6,6 @@ use Rattle.deriving.proofs.Operands.{mask-short-drop}
 use borrow.Author.Needs.{needs}
 use Rattle.deriving.proofs.behind_mask.Statement.{statement}
 use Rattle.deriving.proofs.behind_mask.Tie as tie
-use Rattle.deriving.proofs.behind_mask.Reads as reads
-use Rattle.deriving.proofs.behind_mask.Lts as lts
 
 pub behind-mask-spec : {M : Type 1} → statement M
 behind-mask-spec =

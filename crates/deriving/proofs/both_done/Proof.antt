@@ -1,11 +1,8 @@
+-- A term is done if its first word is 30, and so the one behind it.
 use Rattle.deriving.proofs.Operands.{both-second, both-first}
 use borrow.Author.Needs.{needs}
 use Rattle.deriving.proofs.both_done.Statement.{statement}
 use Rattle.deriving.proofs.both_done.Tie as tie
-use Rattle.deriving.proofs.both_done.Reads as reads
-use Rattle.deriving.proofs.both_done.Lts as lts
-use Rattle.scan.proofs.behind.Reads as behind-reads
-use Rattle.scan.proofs.first.Reads as first-reads
 
 pub both-done-spec : {M : Type 1} → statement M
 both-done-spec =

@@ -1,10 +1,9 @@
+-- A decision is written in front of a path, where there is room; any other answer is passed on.
 use native.Mathlib.Omega.{arith}
 use Rattle.deriving.proofs.Answers.{decided-kept, decided-lost, decided-made}
 use borrow.Author.Needs.{needs}
 use Rattle.deriving.proofs.decide.Statement.{statement}
 use Rattle.deriving.proofs.decide.Tie as tie
-use Rattle.deriving.proofs.decide.Reads as reads
-use Rattle.deriving.proofs.decide.Lts as lts
 
 -- src/lib.rt:153:9
 returns : tie.Need-returns

@@ -1,7 +1,7 @@
+-- The left moves outside the mask, then the right ones, then the pairs: where the search ends is a case of Locating.
 use mathlib.Core.Bool.{not}
-use lib.ListN.{length}
-use lib.Seq.{slice, length-slice}
-use Prim.Native.Nat.{_+_, _-_, _≤_}
+use lib.Seq.{slice}
+use Prim.Native.Nat.{_-_}
 use Rattle.actions.specs.CodesLaws.{masked-code}
 use Rattle.deriving.specs.Derived.{passed}
 use Rattle.deriving.proofs.Places.{place-limit}
@@ -10,10 +10,6 @@ use native.Mathlib.Omega.{arith}
 use borrow.Author.Needs.{needs}
 use Rattle.deriving.proofs.locate.Statement.{statement}
 use Rattle.deriving.proofs.locate.Tie as tie
-use Rattle.deriving.proofs.locate.Reads as reads
-use Rattle.deriving.proofs.locate.Lts as lts
-use Rattle.deriving.proofs.seek_outside.Reads as seek-outside-reads
-use Rattle.deriving.proofs.seek_pair.Reads as seek-pair-reads
 
 -- src/lib.rt:108:9
 seek-outside-requires : tie.Need-seek-outside-requires

@@ -1,9 +1,8 @@
+-- The answer for a term without move k is one number, below the one that says that there was no room.
 use Rattle.expressions.specs.Answering.{answer}
 use borrow.Author.Needs.{needs}
 use Rattle.deriving.proofs.passing.Statement.{statement}
 use Rattle.deriving.proofs.passing.Tie as tie
-use Rattle.deriving.proofs.passing.Reads as reads
-use Rattle.deriving.proofs.passing.Lts as lts
 
 -- src/lib.rt:133:14
 mul-result : tie.Need-mul-result

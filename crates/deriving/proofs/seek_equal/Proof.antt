@@ -1,17 +1,16 @@
+-- The loop that looks for the k-th equal number answers what `nth-place` says of the numbers between the two places.
 use Rattle.deriving.proofs.Searches.{search-end, search-skip, search-here, search-pass, next-place}
 use borrow.Author.Tests.{eq-eqb, ne-eqb}
 use borrow.Author.Needs.{needs}
 use native.Mathlib.Omega.{arith}
 use Prim.Native.Nat.{_+_, _-_, _≤_}
-use mathlib.Core.Path.{_≡_, refl, sym, ap, _∙_}
-use lib.ListN.{length, getD}
+use mathlib.Core.Path.{_≡_, sym, ap, _∙_}
+use lib.ListN.{getD}
 use lib.Seq.{slice}
 use lib.Dec.{eqb}
 use Rattle.deriving.specs.Searching.{nth-place}
 use Rattle.deriving.proofs.seek_equal.Statement.{statement}
 use Rattle.deriving.proofs.seek_equal.Tie as tie
-use Rattle.deriving.proofs.seek_equal.Reads as reads
-use Rattle.deriving.proofs.seek_equal.Lts as lts
 
 abbrev Inv-loop : tie.InvT-loop
 Inv-loop a from to k acts i₀ due₀ i due = (from ≤ i) × (i ≤ to) × (due ≤ k) × (nth-place (eqb a) 0 (slice from to acts) k ≡ nth-place (eqb a) (i - from) (slice i to acts) due)

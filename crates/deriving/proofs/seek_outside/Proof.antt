@@ -1,18 +1,15 @@
+-- The loop that looks for the k-th number outside the mask answers what `nth-place` says of the numbers between the two places.
 use Rattle.deriving.proofs.Searches.{search-end, search-skip, search-here, search-pass, next-place}
 use borrow.Author.Needs.{needs}
 use native.Mathlib.Omega.{arith}
 use Prim.Native.Nat.{_+_, _-_, _≤_}
-use mathlib.Core.Path.{_≡_, refl, sym, ap, _∙_}
+use mathlib.Core.Path.{_≡_, sym, ap, _∙_}
 use mathlib.Core.Bool.{not}
-use lib.ListN.{length, getD}
 use lib.Seq.{slice}
 use Rattle.actions.specs.CodesLaws.{masked-code}
 use Rattle.deriving.specs.Searching.{nth-place}
 use Rattle.deriving.proofs.seek_outside.Statement.{statement}
 use Rattle.deriving.proofs.seek_outside.Tie as tie
-use Rattle.deriving.proofs.seek_outside.Reads as reads
-use Rattle.deriving.proofs.seek_outside.Lts as lts
-use Rattle.actions.proofs.masked.Reads as masked-reads
 
 abbrev Inv-loop : tie.InvT-loop
 Inv-loop d from to k acts i₀ due₀ i due = (from ≤ i) × (i ≤ to) × (due ≤ k) × (nth-place (λ x. not (masked-code d x)) 0 (slice from to acts) k ≡ nth-place (λ x. not (masked-code d x)) (i - from) (slice i to acts) due)

@@ -1,20 +1,17 @@
-use Prim.Native.Nat.{_+_, _-_, _≤_}
-use mathlib.Core.Path.{_≡_, refl, sym, ap, _∙_}
-use lib.ListN.{length, getD}
+-- The loop over the left moves, with a search of the right moves for each that is in the mask, answers what `nth-pair` says.
+use Prim.Native.Nat.{_-_, _≤_}
+use mathlib.Core.Path.{_≡_, refl, sym, _∙_}
+use lib.ListN.{getD}
 use lib.Seq.{slice, length-slice}
 use lib.Dec.{eqb}
 use Rattle.actions.specs.CodesLaws.{masked-code}
 use Rattle.deriving.specs.Searching.{nth-pair}
 use Rattle.deriving.proofs.Searches.{pairs-end, pairs-skip, pairs-here, pairs-pass}
-use Rattle.deriving.proofs.Places.{place-limit, place-below}
+use Rattle.deriving.proofs.Places.{place-limit}
 use native.Mathlib.Omega.{arith}
 use borrow.Author.Needs.{needs}
 use Rattle.deriving.proofs.seek_pair.Statement.{statement}
 use Rattle.deriving.proofs.seek_pair.Tie as tie
-use Rattle.deriving.proofs.seek_pair.Reads as reads
-use Rattle.deriving.proofs.seek_pair.Lts as lts
-use Rattle.actions.proofs.masked.Reads as masked-reads
-use Rattle.deriving.proofs.seek_equal.Reads as seek-equal-reads
 
 abbrev Inv-loop : tie.InvT-loop
 Inv-loop d n b k acts i₀ due₀ i due = (i ≤ n) × (due ≤ k) × (nth-pair (masked-code d) 0 (slice 0 n acts) (slice n b acts) k ≡ nth-pair (masked-code d) i (slice i n acts) (slice n b acts) due)
