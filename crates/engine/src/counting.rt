@@ -1,6 +1,6 @@
 // Count: how many moves a given term has at a given memory (document 01, "Operations").
 ghost use mathlib.Core.Path.{_≡_};
-ghost use Prim.Native.Nat.{ℕ, _*_, _/_, _%_, _≤_};
+ghost use Prim.Native.Nat.{ℕ, _*_, _/_, _≤_};
 ghost use mathlib.Core.List.{List};
 ghost use lib.ListN.{length, getD};
 ghost use Rattle.eb3.specs.Limits.{edition-1};
@@ -13,6 +13,7 @@ ghost use Rattle.engine.specs.Giving.{Described};
 ghost use Rattle.engine.specs.Counting.{counted-as};
 use super::giving::Given;
 use super::giving::given_in;
+use super::low32;
 use arguments::entry;
 use arguments::wide32;
 use blocks::Opened;
@@ -25,12 +26,6 @@ use steps::storing::load_store;
 pub enum Counted {
     Moves(u32),
     Refused(u8),
-}
-
-fn low32(x: usize) -> u32
-    ensures { λ r. ⌜ r ≡ x % 4294967296 ⌝ }
-{
-    (x % 4294967296) as u32
 }
 
 // The moves of the term s at the cells of a memory that has enough.
