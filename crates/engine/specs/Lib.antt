@@ -9,3 +9,6 @@ pub mod Knowing
 pub mod Giving
 pub mod GivingLaws
 pub mod Counting
+pub mod Asking
+pub mod Stepping
+pub mod StepLaws

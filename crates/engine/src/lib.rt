@@ -16,9 +16,11 @@ ghost use Rattle.eb3.specs.Laws.Judging.{judged};
 ghost use Rattle.engine.specs.Answering.{admitted, reported, read-whole};
 ghost use Rattle.engine.specs.Admitting.{WordsAdmitted, FileAdmitted};
 
+pub mod asking;
 pub mod counting;
 pub mod giving;
 pub mod starting;
+pub mod stepping;
 
 use blocks::Opened;
 use blocks::join;
