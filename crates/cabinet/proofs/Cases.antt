@@ -1,7 +1,9 @@
 -- From the engine's answer to the numbers that C gets.
 use mathlib.Core.Path.{_≡_, refl, ap, sym, _∙_}
 use Prim.Native.Nat.{ℕ}
-use Rattle.eb3.specs.Answers.{Answer, refused, answered, Sizes}
+use mathlib.Core.List.{List}
+use Rattle.eb3.specs.Terms.{Action, internal, visible}
+use Rattle.eb3.specs.Answers.{Answer, refused, answered, Sizes, Moved, Written}
 use Rattle.engine.specs.declared.Admitted.{Admitted}
 use Rattle.engine.specs.declared.Admitted.the-variants.{Sizes as Admitted·sizes, Refused as Admitted·refused}
 use Rattle.engine.specs.declared.Limits.{Limits}
@@ -11,7 +13,16 @@ use Rattle.engine.specs.declared.starting.Started.{Started}
 use Rattle.engine.specs.declared.starting.Started.the-variants.{Size, Refused}
 use Rattle.engine.specs.Starting.{started-as}
 use Rattle.cabinet.specs.declared.Started.{Started as CStarted}
-use Rattle.cabinet.specs.Exported.{sizes, started}
+use Rattle.engine.specs.declared.counting.Counted.{Counted}
+use Rattle.engine.specs.declared.counting.Counted.the-variants.{Moves, Refused as Counted·refused}
+use Rattle.engine.specs.Counting.{counted-as}
+use Rattle.cabinet.specs.declared.Counted.{Counted as CCounted}
+use Rattle.engine.specs.declared.stepping.Step.{Step}
+use Rattle.engine.specs.declared.stepping.Moved.{Moved as Stepped}
+use Rattle.engine.specs.declared.stepping.Moved.the-variants.{Made, Refused as Stepped·refused}
+use Rattle.engine.specs.Stepping.{told, moved-as, Done}
+use Rattle.cabinet.specs.declared.Moved.{Moved as CMoved}
+use Rattle.cabinet.specs.Exported.{sizes, started, counted, moved-by, moved, exported-step}
 
 abbrev given : Limits → CSizes
 given l = record { refusal = 0; cells = l .cells; reach = l .reach; breadth = l .breadth; size = l .size }
@@ -58,3 +69,52 @@ module _ (a : Answer ℕ) (p : Started) (e : p ≡ started-as a) where
 
   pub start-refuses : (k j : ℕ) → p ≡ Refused k → j ≡ k → unbegun j ≡ started a
   start-refuses k j f g = ap unbegun g ∙ (sym (ap exported-start f) ∙ (ap exported-start e ∙ same-start a))
+
+-- ── Count ──
+
+abbrev listed : ℕ → CCounted
+listed n = record { refusal = 0; moves = n }
+
+abbrev unlisted : ℕ → CCounted
+unlisted k = record { refusal = k; moves = 0 }
+
+abbrev exported-count : Counted → CCounted
+exported-count (Moves n) = listed n
+exported-count (Counted·refused k) = unlisted k
+
+same-count : (a : Answer ℕ) → exported-count (counted-as a) ≡ counted a
+unfolding counted-as counted
+same-count (refused k) = refl
+same-count (answered n) = refl
+
+module _ (a : Answer ℕ) (p : Counted) (e : p ≡ counted-as a) where
+  pub count-gives : (n : ℕ) → p ≡ Moves n → listed n ≡ counted a
+  count-gives n f = sym (ap exported-count f) ∙ (ap exported-count e ∙ same-count a)
+
+  pub count-refuses : (k j : ℕ) → p ≡ Counted·refused k → j ≡ k → unlisted j ≡ counted a
+  count-refuses k j f g = ap unlisted g ∙ (sym (ap exported-count f) ∙ (ap exported-count e ∙ same-count a))
+
+-- ── Move, Present ──
+
+same-step : (a : Answer Moved) → exported-step (moved-as a) ≡ moved a
+unfolding moved-as exported-step moved moved-by told
+same-step (refused k) = refl
+same-step (answered m) = go (m .action)
+  where
+    go : (ρ : Action) → exported-step (Made (told ρ (m .size))) ≡ moved-by ρ (m .size)
+    go internal = refl
+    go (visible a) = refl
+
+pub step-told : (w : Written Moved) (r : Stepped) (term′ memory′ : List ℕ) (m : CMoved) → Done w r term′ memory′ → m ≡ exported-step r
+    → (m ≡ moved (w .answer)) × (term′ ≡ w .term) × (memory′ ≡ w .memory)
+step-told w r term′ memory′ m d e = (e ∙ ap exported-step (d .answer) ∙ same-step (w .answer), d .term-after, d .memory-after)
+
+-- What an answer gives, by its case.
+pub step-gives : (r : Stepped) (s : Step) → r ≡ Made s
+    → record { refusal = 0; size = s .size; visible = s .visible; label = s .label; arguments = s .arguments; first = s .first; second = s .second } ≡ exported-step r
+unfolding exported-step
+step-gives r s f = sym (ap exported-step f)
+
+pub step-refuses : (r : Stepped) (k j : ℕ) → r ≡ Stepped·refused k → j ≡ k → record { refusal = j; size = 0; visible = 0; label = 0; arguments = 0; first = 0; second = 0 } ≡ exported-step r
+unfolding exported-step
+step-refuses r k j f g = (λ i. record { refusal = g i; size = 0; visible = 0; label = 0; arguments = 0; first = 0; second = 0 }) ∙ sym (ap exported-step f)

@@ -1,11 +1,16 @@
 // The engine as a C host calls it, with numbers and byte slices only (eb3.h).
 ghost use mathlib.Core.Path.{_≡_};
-ghost use Rattle.eb3.specs.Operations.{admit, start};
-ghost use Rattle.cabinet.specs.Exported.{sizes, started};
+ghost use Rattle.eb3.specs.Operations.{admit, start, count, move, present};
+ghost use Rattle.cabinet.specs.Exported.{sizes, started, counted, exported-step, moved};
 use engine::Admitted;
 use engine::admit;
+use engine::counting::Counted as Listed;
+use engine::counting::count;
 use engine::starting::Started as Begun;
 use engine::starting::start;
+use engine::stepping::Moved as Stepped;
+use engine::stepping::make_move;
+use engine::stepping::present;
 
 // In place of a refusal's number, where the operation was done.
 const DONE: u32 = 0;
@@ -23,6 +28,23 @@ pub struct Sizes {
 pub struct Started {
     pub refusal: u32,
     pub size: u32,
+}
+
+#[repr(C)]
+pub struct Counted {
+    pub refusal: u32,
+    pub moves: u32,
+}
+
+#[repr(C)]
+pub struct Moved {
+    pub refusal: u32,
+    pub size: u32,
+    pub visible: u32,
+    pub label: u32,
+    pub arguments: u32,
+    pub first: u32,
+    pub second: u32,
 }
 
 fn number(k: u8) -> u32
@@ -67,4 +89,80 @@ pub extern "C" fn eb3_start(rules: &[u8], term: &mut [u8], memory: &mut [u8]) ->
             size: 0,
         },
     }
+}
+
+#[no_mangle]
+pub extern "C" fn eb3_count(rules: &[u8], term: &[u8], memory: &[u8]) -> Counted
+    ensures { λ r. ⌜ r ≡ counted (count (now (rules .entry)) (now (term .entry)) (now (memory .entry))) ⌝ }
+{
+    match count(rules, term, memory) {
+        Listed::Moves(n) => Counted {
+            refusal: DONE,
+            moves: n,
+        },
+        Listed::Refused(k) => Counted {
+            refusal: number(k),
+            moves: 0,
+        },
+    }
+}
+
+fn wide64(k: u64) -> usize
+    ensures { λ r. ⌜ r ≡ k ⌝ }
+{
+    k as usize
+}
+
+// What Move and Present give.
+fn told(r: Stepped) -> Moved
+    ensures { λ m. ⌜ m ≡ exported-step r ⌝ }
+{
+    match r {
+        Stepped::Made(s) => Moved {
+            refusal: DONE,
+            size: s.size,
+            visible: s.visible,
+            label: s.label,
+            arguments: s.arguments,
+            first: s.first,
+            second: s.second,
+        },
+        Stepped::Refused(k) => Moved {
+            refusal: number(k),
+            size: 0,
+            visible: 0,
+            label: 0,
+            arguments: 0,
+            first: 0,
+            second: 0,
+        },
+    }
+}
+
+#[no_mangle]
+pub extern "C" fn eb3_move(
+    rules: &[u8],
+    term: &[u8],
+    memory: &[u8],
+    k: u64,
+    next_term: &mut [u8],
+    next_memory: &mut [u8],
+) -> Moved
+    ensures { λ r. ⌜ (r ≡ moved (move (now (rules .entry)) (now (term .entry)) (now (memory .entry)) k (now («next_term» .entry)) (now («next_memory» .entry)) .answer)) × (now («next_term» .exit) ≡ move (now (rules .entry)) (now (term .entry)) (now (memory .entry)) k (now («next_term» .entry)) (now («next_memory» .entry)) .term) × (now («next_memory» .exit) ≡ move (now (rules .entry)) (now (term .entry)) (now (memory .entry)) k (now («next_term» .entry)) (now («next_memory» .entry)) .memory) ⌝ }
+{
+    told(make_move(rules, term, memory, wide64(k), next_term, next_memory))
+}
+
+#[no_mangle]
+pub extern "C" fn eb3_present(
+    rules: &[u8],
+    term: &[u8],
+    memory: &[u8],
+    event: &[u8],
+    next_term: &mut [u8],
+    next_memory: &mut [u8],
+) -> Moved
+    ensures { λ r. ⌜ (r ≡ moved (present (now (rules .entry)) (now (term .entry)) (now (memory .entry)) (now (event .entry)) (now («next_term» .entry)) (now («next_memory» .entry)) .answer)) × (now («next_term» .exit) ≡ present (now (rules .entry)) (now (term .entry)) (now (memory .entry)) (now (event .entry)) (now («next_term» .entry)) (now («next_memory» .entry)) .term) × (now («next_memory» .exit) ≡ present (now (rules .entry)) (now (term .entry)) (now (memory .entry)) (now (event .entry)) (now («next_term» .entry)) (now («next_memory» .entry)) .memory) ⌝ }
+{
+    told(present(rules, term, memory, event, next_term, next_memory))
 }
