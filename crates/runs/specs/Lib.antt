@@ -1,2 +1,3 @@
 -- The memory machine run by a list of numbers (document 01, "Memory and the history machine"; "Operations": Run).
 pub mod Running
+pub mod Mains

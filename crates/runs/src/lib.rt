@@ -6,6 +6,9 @@ ghost use Prim.Native.Nat.{_+_, _*_, _≤_, _<_};
 ghost use lib.ListN.{length, getD};
 ghost use Rattle.eb3.specs.Bytes.{words-in};
 ghost use Rattle.runs.specs.Running.{StepsOnce, counted, Runs};
+
+pub mod mains;
+
 use cells::load;
 use scan::front;
 use steps::moving::Taken;

@@ -5,5 +5,6 @@ pub mod CountingLaws
 pub mod Taking
 pub mod Storing
 pub mod StoringLaws
+pub mod RuledLaws
 pub mod Keeping
 pub mod Judging
