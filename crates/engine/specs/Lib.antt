@@ -12,3 +12,5 @@ pub mod Counting
 pub mod Asking
 pub mod Stepping
 pub mod StepLaws
+pub mod Running
+pub mod RunLaws

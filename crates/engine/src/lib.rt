@@ -19,6 +19,7 @@ ghost use Rattle.engine.specs.Admitting.{WordsAdmitted, FileAdmitted};
 pub mod asking;
 pub mod counting;
 pub mod giving;
+pub mod running;
 pub mod starting;
 pub mod stepping;
 
