@@ -3,7 +3,7 @@ use mathlib.Core.Path.{_≡_, refl, ap, sym, _∙_}
 use Prim.Native.Nat.{ℕ}
 use mathlib.Core.List.{List}
 use Rattle.eb3.specs.Terms.{Action, internal, visible}
-use Rattle.eb3.specs.Answers.{Answer, refused, answered, Sizes, Moved, Written}
+use Rattle.eb3.specs.Answers.{Answer, refused, answered, Sizes, Moved, Ran, Written}
 use Rattle.engine.specs.declared.Admitted.{Admitted}
 use Rattle.engine.specs.declared.Admitted.the-variants.{Sizes as Admitted·sizes, Refused as Admitted·refused}
 use Rattle.engine.specs.declared.Limits.{Limits}
@@ -22,7 +22,13 @@ use Rattle.engine.specs.declared.stepping.Moved.{Moved as Stepped}
 use Rattle.engine.specs.declared.stepping.Moved.the-variants.{Made, Refused as Stepped·refused}
 use Rattle.engine.specs.Stepping.{told, moved-as, Done}
 use Rattle.cabinet.specs.declared.Moved.{Moved as CMoved}
-use Rattle.cabinet.specs.Exported.{sizes, started, counted, moved-by, moved, exported-step}
+use Rattle.runs.specs.declared.mains.Totals.{Totals}
+use Rattle.engine.specs.declared.running.Ran.{Ran as Ended}
+use Rattle.engine.specs.declared.running.Ran.the-variants.{Ended as Ended·so, Refused as Ended·refused}
+use Rattle.engine.specs.Running.{ran-as, RunDone}
+use Rattle.eb3.specs.Operations.{run}
+use Rattle.cabinet.specs.declared.Ran.{Ran as CRan}
+use Rattle.cabinet.specs.Exported.{sizes, started, counted, moved-by, moved, exported-step, ran}
 
 abbrev given : Limits → CSizes
 given l = record { refusal = 0; cells = l .cells; reach = l .reach; breadth = l .breadth; size = l .size }
@@ -118,3 +124,33 @@ step-gives r s f = sym (ap exported-step f)
 pub step-refuses : (r : Stepped) (k j : ℕ) → r ≡ Stepped·refused k → j ≡ k → record { refusal = j; size = 0; visible = 0; label = 0; arguments = 0; first = 0; second = 0 } ≡ exported-step r
 unfolding exported-step
 step-refuses r k j f g = (λ i. record { refusal = g i; size = 0; visible = 0; label = 0; arguments = 0; first = 0; second = 0 }) ∙ sym (ap exported-step f)
+
+-- ── Run ──
+
+abbrev ended : Totals → CRan
+ended t = record { refusal = 0; size = t .size; visible = t .visible; internal = t .internal; refused = t .refused }
+
+abbrev unended : ℕ → CRan
+unended k = record { refusal = k; size = 0; visible = 0; internal = 0; refused = 0 }
+
+abbrev exported-run : Ended → CRan
+exported-run (Ended·so t) = ended t
+exported-run (Ended·refused k) = unended k
+
+same-run : (a : Answer Ran) → exported-run (ran-as a) ≡ ran a
+unfolding ran-as ran
+same-run (refused k) = refl
+same-run (answered m) = refl
+
+module _ (rules numbers term memory spare cells : List ℕ) (p : Ended) (term′ memory′ : List ℕ) (d : RunDone rules numbers term memory spare cells p term′ memory′) where
+  abbrev Told : CRan → Type 0
+  Told r =
+      (r ≡ ran (run rules numbers term memory spare cells .answer)) × (term′ ≡ run rules numbers term memory spare cells .term)
+      × (memory′ ≡ run rules numbers term memory spare cells .memory)
+
+  pub run-gives : (t : Totals) → p ≡ Ended·so t → Told (ended t)
+  run-gives t f = (sym (ap exported-run f) ∙ (ap exported-run (d .answer) ∙ same-run (run rules numbers term memory spare cells .answer)), d .term-after, d .memory-after)
+
+  pub run-refuses : (k j : ℕ) → p ≡ Ended·refused k → j ≡ k → Told (unended j)
+  run-refuses k j f g =
+      (ap unended g ∙ (sym (ap exported-run f) ∙ (ap exported-run (d .answer) ∙ same-run (run rules numbers term memory spare cells .answer))), d .term-after, d .memory-after)

@@ -2,13 +2,14 @@
 use Prim.Native.Nat.{ℕ}
 use lib.ListN.{length, getD}
 use Rattle.eb3.specs.Terms.{Action, internal, visible}
-use Rattle.eb3.specs.Answers.{Answer, refused, answered, Sizes, Moved}
+use Rattle.eb3.specs.Answers.{Answer, refused, answered, Sizes, Moved, Ran}
 use Rattle.engine.specs.declared.stepping.Moved.{Moved as Stepped}
 use Rattle.engine.specs.declared.stepping.Moved.the-variants.{Made, Refused}
 use Rattle.cabinet.specs.declared.Sizes.{Sizes as CSizes}
 use Rattle.cabinet.specs.declared.Started.{Started as CStarted}
 use Rattle.cabinet.specs.declared.Counted.{Counted as CCounted}
 use Rattle.cabinet.specs.declared.Moved.{Moved as CMoved}
+use Rattle.cabinet.specs.declared.Ran.{Ran as CRan}
 
 unfoldable pub sizes : Answer Sizes → CSizes
 sizes (refused k) = record { refusal = k; cells = 0; reach = 0; breadth = 0; size = 0 }
@@ -35,3 +36,7 @@ moved (answered m) = moved-by (m .action) (m .size)
 unfoldable pub exported-step : Stepped → CMoved
 exported-step (Made s) = record { refusal = 0; size = s .size; visible = s .visible; label = s .label; arguments = s .arguments; first = s .first; second = s .second }
 exported-step (Refused k) = record { refusal = k; size = 0; visible = 0; label = 0; arguments = 0; first = 0; second = 0 }
+
+unfoldable pub ran : Answer Ran → CRan
+ran (refused k) = record { refusal = k; size = 0; visible = 0; internal = 0; refused = 0 }
+ran (answered m) = record { refusal = 0; size = m .size; visible = m .visible; internal = m .internal; refused = m .refusals }

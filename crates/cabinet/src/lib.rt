@@ -1,11 +1,13 @@
 // The engine as a C host calls it, with numbers and byte slices only (eb3.h).
 ghost use mathlib.Core.Path.{_≡_};
-ghost use Rattle.eb3.specs.Operations.{admit, start, count, move, present};
-ghost use Rattle.cabinet.specs.Exported.{sizes, started, counted, exported-step, moved};
+ghost use Rattle.eb3.specs.Operations.{admit, start, count, move, present, run};
+ghost use Rattle.cabinet.specs.Exported.{sizes, started, counted, exported-step, moved, ran};
 use engine::Admitted;
 use engine::admit;
 use engine::counting::Counted as Listed;
 use engine::counting::count;
+use engine::running::Ran as Ended;
+use engine::running::run;
 use engine::starting::Started as Begun;
 use engine::starting::start;
 use engine::stepping::Moved as Stepped;
@@ -45,6 +47,15 @@ pub struct Moved {
     pub arguments: u32,
     pub first: u32,
     pub second: u32,
+}
+
+#[repr(C)]
+pub struct Ran {
+    pub refusal: u32,
+    pub size: u32,
+    pub visible: u64,
+    pub internal: u64,
+    pub refused: u64,
 }
 
 fn number(k: u8) -> u32
@@ -165,4 +176,34 @@ pub extern "C" fn eb3_present(
     ensures { λ r. ⌜ (r ≡ moved (present (now (rules .entry)) (now (term .entry)) (now (memory .entry)) (now (event .entry)) (now («next_term» .entry)) (now («next_memory» .entry)) .answer)) × (now («next_term» .exit) ≡ present (now (rules .entry)) (now (term .entry)) (now (memory .entry)) (now (event .entry)) (now («next_term» .entry)) (now («next_memory» .entry)) .term) × (now («next_memory» .exit) ≡ present (now (rules .entry)) (now (term .entry)) (now (memory .entry)) (now (event .entry)) (now («next_term» .entry)) (now («next_memory» .entry)) .memory) ⌝ }
 {
     told(present(rules, term, memory, event, next_term, next_memory))
+}
+
+// The spare cells are read by their length only.
+#[no_mangle]
+pub extern "C" fn eb3_run(
+    rules: &[u8],
+    numbers: &[u8],
+    term: &mut [u8],
+    memory: &mut [u8],
+    spare: &mut [u8],
+    cells: &[u8],
+) -> Ran
+    ensures { λ r. ⌜ (r ≡ ran (run (now (rules .entry)) (now (numbers .entry)) (now (term .entry)) (now (memory .entry)) (now (spare .entry)) (now (cells .entry)) .answer)) × (now (term .exit) ≡ run (now (rules .entry)) (now (numbers .entry)) (now (term .entry)) (now (memory .entry)) (now (spare .entry)) (now (cells .entry)) .term) × (now (memory .exit) ≡ run (now (rules .entry)) (now (numbers .entry)) (now (term .entry)) (now (memory .entry)) (now (spare .entry)) (now (cells .entry)) .memory) ⌝ }
+{
+    match run(rules, numbers, term, memory, spare, cells) {
+        Ended::Ended(t) => Ran {
+            refusal: DONE,
+            size: t.size,
+            visible: t.visible,
+            internal: t.internal,
+            refused: t.refused,
+        },
+        Ended::Refused(k) => Ran {
+            refusal: number(k),
+            size: 0,
+            visible: 0,
+            internal: 0,
+            refused: 0,
+        },
+    }
 }
