@@ -2,3 +2,4 @@
 -- Document 01, "Moves, in order": equal actions, label and arguments.
 pub mod Codes
 pub mod CodesLaws
+pub mod ActionLaws

@@ -3,16 +3,12 @@ use mathlib.Core.Path.{_≡_, refl, sym, ap, _∙_, subst, fun-ext}
 use mathlib.Core.List.{List, [], _∷_}
 use Prim.Native.Nat.{ℕ, zero, suc, _+_, _*_, _%_, _≤_, _<_}
 use native.Mathlib.Omega.{arith}
-use native.Mathlib.Decide.{decLt}
-use lib.ListN.{length, getD, take, List·getD-eq-default}
-use Rattle.eb3.specs.Generic.Lists.{Within}
-use Rattle.eb3.specs.Generic.AllLists.{All}
+use lib.ListN.{length, getD, take}
 use Rattle.eb3.specs.Expressions.{Data, Undefined}
 use Rattle.eb3.specs.Attributes.{Attributes, domain, number-of-functions}
-use Rattle.eb3.specs.Laws.Attributes.{no-domain-beyond}
-use Rattle.eb3.specs.Scopes.{arities, start-scope, label-scope, guard-scope}
+use Rattle.eb3.specs.Scopes.{start-scope, label-scope, guard-scope}
 use Rattle.eb3.specs.Cells.{cell-count, offset, total-cells}
-use Rattle.eb3.specs.Laws.CellCounts.{cells-below as cells-at-most}
+use Rattle.eb3.specs.Laws.CellCounts.{one-arity, cells-below as cells-at-most}
 use Rattle.eb3.specs.Limits.{edition-1}
 use Rattle.eb3.specs.RuleSets.{Function, RuleSet, domain-size, sizes-of, no-rule, function-rule, attributes}
 use Rattle.eb3.specs.Laws.RuleSets.{functions-counted, domain-is}
@@ -67,29 +63,9 @@ pub record OneDomain (ns : List ℕ) : Type 0 where
   pub some-cell : 1 ≤ cell-count ns
   pub few-cells : cell-count ns ≤ 64
 
-pub within-length : (ns xs : List ℕ) → Within ns xs → length xs ≡ length ns
-within-length [] [] h = refl
-within-length [] (x ∷ xs) h = absurd h
-within-length (n ∷ ns) [] h = absurd h
-within-length (n ∷ ns) (x ∷ xs) h = ap suc (within-length ns xs (h .1))
-
 module _ (R : RuleSet) (form : Form edition-1 R) where
   abbrev A : Attributes
   A = attributes R
-
-  pub small-domain : (d : ℕ) → domain-size R d ≤ 64
-  small-domain d = go (decLt d (length (R .domains)))
-    where
-      go : Dec (d < length (R .domains)) → domain-size R d ≤ 64
-      go (yes h) = form .domain-sizes d h .1
-      go (no h) = let k : length (R .domains) ≤ d = omega arith in omega (arith, List·getD-eq-default (R .domains) 0 k)
-
-  -- Elements of domains are below 64.
-  pub within-small : (ds xs : List ℕ) → Within (sizes-of R ds) xs → All (λ x. x < 64) xs
-  within-small [] [] h = tt
-  within-small [] (x ∷ xs) h = absurd h
-  within-small (d ∷ ds) [] h = absurd h
-  within-small (d ∷ ds) (x ∷ xs) h = (omega (arith, h .0, small-domain d), within-small ds xs (h .1))
 
   one-domain : (ds : List ℕ) → (1 ≤ length ds) × (length ds ≤ 1) → domains-defined R ds → OneDomain (sizes-of R ds)
   one-domain [] h k = absurd (let z : ⊥ = omega (arith, h .0) in z)
@@ -123,22 +99,14 @@ module _ (R : RuleSet) (form : Form edition-1 R) where
 
   -- ── scopes ──
 
-  -- A function that is not there counts as one of one parameter.
-  pub one-arity : (f : ℕ) → arities A f ≡ 1
-  one-arity f = go (decLt f (length (R .functions)))
-    where
-      go : Dec (f < length (R .functions)) → arities A f ≡ 1
-      go (yes h) = ap length (domain-of f h .one-parameter)
-      go (no h) = ap length (no-domain-beyond A f (omega (arith, functions-counted R)))
-
   pub plain-start : (f : ℕ) → Plain (start-scope A f)
-  plain-start f = record { largest = form .top-is; one-parameter = fun-ext one-arity }
+  plain-start f = record { largest = form .top-is; one-parameter = fun-ext (one-arity R form) }
 
   pub plain-label : (f k : ℕ) → Plain (label-scope A f k)
-  plain-label f k = record { largest = form .top-is; one-parameter = fun-ext one-arity }
+  plain-label f k = record { largest = form .top-is; one-parameter = fun-ext (one-arity R form) }
 
   pub plain-guard : (k : ℕ) → Plain (guard-scope A k)
-  plain-guard k = record { largest = form .top-is; one-parameter = fun-ext one-arity }
+  plain-guard k = record { largest = form .top-is; one-parameter = fun-ext (one-arity R form) }
 
   -- ── rows ──
 

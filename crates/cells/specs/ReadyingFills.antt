@@ -6,7 +6,7 @@ use mathlib.Core.Option.{none, some}
 use Prim.Native.Nat.{ℕ, suc, _+_, _*_, _≤_, _<_}
 use native.Mathlib.Omega.{arith}
 use lib.Dec.{lit<}
-use lib.ListN.{length, getD, length-map}
+use lib.ListN.{length, getD}
 use Rattle.eb3.specs.Generic.AllLists.{all-at}
 use Rattle.eb3.specs.Values.{Value, undefined, number, encode, decode}
 use Rattle.eb3.specs.Laws.Values.{decode-encode}
@@ -16,9 +16,11 @@ use Rattle.eb3.specs.Attributes.{Attributes, AttributeFunction}
 use Rattle.eb3.specs.Scopes.{data-in-scope, start-scope, label-scope}
 use Rattle.eb3.specs.Cells.{total-cells, cell-at}
 use Rattle.eb3.specs.Laws.Cells.{ValuesAtMost}
+use Rattle.eb3.specs.Laws.CellCounts.{one-arity}
 use Rattle.eb3.specs.Limits.{edition-1}
-use Rattle.eb3.specs.RuleSets.{RuleSet, domain-size, sizes-of, label, function-rule, attributes}
+use Rattle.eb3.specs.RuleSets.{RuleSet, label, function-rule, attributes}
 use Rattle.eb3.specs.Laws.RuleSets.{getD-map, functions-counted, function-is}
+use Rattle.eb3.specs.Laws.Elements.{within-small, arguments-counted, arguments-two}
 use Rattle.eb3.specs.Spelling.{data-words}
 use Rattle.eb3.specs.WellFormedness.{well-formed-action, Form}
 use Rattle.declarations.specs.Directory.{Stands, row-width, Directory}
@@ -27,7 +29,7 @@ use Rattle.cells.specs.Layout.{Laid, Holds}
 use Rattle.cells.specs.Filling.{Ready, Filling}
 use Rattle.cells.specs.Preparing.{Prepared}
 use Rattle.cells.specs.Reads.{reads-cells}
-use Rattle.cells.specs.Readying.{standing-at, within-length, within-small, one-arity, plain-start, plain-label, directory-row, rows-laid, rows-small}
+use Rattle.cells.specs.Readying.{standing-at, plain-start, plain-label, directory-row, rows-laid, rows-small}
 
 module _ (R : RuleSet) (form : Form edition-1 R) where
   abbrev A : Attributes
@@ -36,13 +38,6 @@ module _ (R : RuleSet) (form : Form edition-1 R) where
   -- ── an action's arguments ──
 
   module _ (a : VisibleAction) (good : well-formed-action R (visible a)) where
-    -- As many as its label has parameters.
-    pub arguments-counted : length (a .arguments) ≡ length (label R (a .label))
-    arguments-counted = within-length (sizes-of R (label R (a .label))) (a .arguments) (good .1) ∙ length-map (label R (a .label)) (domain-size R)
-
-    pub arguments-two : length (a .arguments) ≤ 2
-    arguments-two = omega (arith, arguments-counted, form .label-forms (a .label) (good .0) .0)
-
     variable-read : (M : List ℕ) (i : ℕ) → i < length (a .arguments) → stored M (suc i) ≡ getD (a .arguments) i 0 → variable-in M (suc i) ≡ variables (a .arguments) i
     unfolding variable-in variables encode
     variable-read M i h e =
@@ -99,7 +94,7 @@ module _ (R : RuleSet) (form : Form edition-1 R) where
         plain = plain-label R form f (length (label R (a .label)));
         names-below = omega arith;
         names-known = omega arith;
-        variables-few = omega (arith, one-arity R form f, arguments-counted a good);
+        variables-few = omega (arith, one-arity R form f, arguments-counted R form a good);
         in-scope = subst (λ (F : AttributeFunction). data-in-scope (getD (F .at-label) (a .label) Undefined) (label-scope A f (length (label R (a .label))))) (sym (function-is R f h)) (form .function-forms f h .at-label (a .label) (good .0));
         stands = subst (λ (F : AttributeFunction). Stands t (getD D (w * f + (3 + a .label)) 0) (data-words 1 (getD (F .at-label) (a .label) Undefined))) (sym (function-is R f h)) (label-stands f h);
         before-reads = λ g l vs. reads-cells A M laid cells all at-most (before-place M) old g l vs;
@@ -115,7 +110,7 @@ module _ (R : RuleSet) (form : Form edition-1 R) where
         small = small;
         room = room;
         apart = apart;
-        arguments-few = arguments-two a good;
+        arguments-few = arguments-two R form a good;
         variables-there = λ i h. variable-read a good M i h (given i h);
         ready = renew-ready;
       }

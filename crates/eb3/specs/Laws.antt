@@ -19,6 +19,7 @@ pub mod Measures
 pub mod Saturation
 -- Rule sets, unfolding, the call rule; what holds along every run.
 pub mod RuleSets
+pub mod Elements
 pub mod CellCounts
 pub mod Unfolding
 pub mod SourceTerms

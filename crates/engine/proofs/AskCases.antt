@@ -3,7 +3,7 @@ use mathlib.Core.Path.{_≡_, refl, ap, sym, _∙_}
 use mathlib.Core.Bool.{Bool, true, false}
 use mathlib.Core.List.{List}
 use mathlib.Core.Option.{Option, none, some}
-use Prim.Native.Nat.{ℕ, zero, suc, _*_, _%_, _≤_, _<_}
+use Prim.Native.Nat.{ℕ, _*_, _%_, _≤_, _<_}
 use native.Mathlib.Omega.{arith}
 use lib.ListN.{length, take}
 use borrow.Author.Tests.{eq-eqb, ne-eqb}
@@ -11,6 +11,8 @@ use Rattle.eb3.specs.Refusal
 use Rattle.eb3.specs.Terms.{Action, Perform, internal, visible}
 use Rattle.eb3.specs.Limits.{edition-1}
 use Rattle.eb3.specs.Sizes.{arguments-size, size}
+use Rattle.eb3.specs.Laws.Sizes.{arguments-double}
+use Rattle.eb3.specs.Laws.Elements.{arguments-two}
 use Rattle.eb3.specs.Spelling.{words}
 use Rattle.eb3.specs.Laws.Spelling.{words-length}
 use Rattle.eb3.specs.Bytes.{words-in, word-count}
@@ -24,7 +26,6 @@ use Rattle.eb3.specs.Answers.{refused}
 use Rattle.eb3.specs.Operations.{or-refused, even, event-in}
 use Rattle.declarations.specs.Declaring.{Declares}
 use Rattle.cells.specs.Preparing.{Loaded}
-use Rattle.cells.specs.ReadyingFills.{arguments-two}
 use Rattle.actions.specs.Codes.{action-code}
 use Rattle.events.specs.Events.{event-as}
 use Rattle.events.specs.declared.Event.{Event}
@@ -35,12 +36,6 @@ use Rattle.engine.specs.Asking.{asked-as}
 use Rattle.engine.proofs.GivingCases.{loaded-words}
 
 -- ── an event is short ──
-
--- Two words an argument.
-arguments-double : (n : ℕ) → arguments-size 1 n ≡ 2 * n
-unfolding arguments-size
-arguments-double zero = refl
-arguments-double (suc n) = omega (arith, arguments-double n)
 
 module _ (R : RuleSet) (form : Form edition-1 R) where
   -- A code, a label, and two arguments at most.

@@ -29,6 +29,7 @@ use Rattle.eb3.specs.Answers.{answered, Moved as Answer·moved, Written}
 use Rattle.eb3.specs.Operations.{cells-needed, cells-given, or-refused, listed, numbered, writing, moved}
 use Rattle.actions.specs.Codes.{arguments-code, action-code, Small}
 use Rattle.actions.specs.CodesLaws.{visible-positive}
+use Rattle.actions.specs.ActionLaws.{action-small}
 use Rattle.listing.specs.Listing.{holding}
 use Rattle.cells.specs.Preparing.{Saved}
 use Rattle.cells.specs.MemoryLaws.{held-words}
@@ -38,7 +39,6 @@ use Rattle.steps.specs.declared.moving.Taken.the-variants.{Made as Taken·made,
 use Rattle.steps.specs.Counting.{Whole, place-of}
 use Rattle.steps.specs.FitLaws.{fits-length}
 use Rattle.steps.specs.Storing.{Ruled, Stored, StoreRenewed}
-use Rattle.steps.specs.StoringLaws.{action-small}
 use Rattle.steps.specs.Judging.{fits, whole, moves-judged}
 use Rattle.steps.specs.Taking.{taken-as, built-over, SuccessorFits, Took}
 use Rattle.engine.specs.declared.stepping.Step.{Step}

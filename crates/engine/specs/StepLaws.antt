@@ -25,7 +25,7 @@ use Rattle.eb3.specs.Memory.{cell-room}
 use Rattle.eb3.specs.Answers.{Answer, refused, answered, and-then, Moved as Answer·moved, Written, unwritten}
 use Rattle.eb3.specs.Operations.{cells-needed, term-fits, memory-fits, or-refused, even, term-in, event-in, listed, at-first, writing, moved, chosen, move, move-in, present, present-in}
 use Rattle.actions.specs.Codes.{action-code, Small}
-use Rattle.steps.specs.StoringLaws.{action-small}
+use Rattle.actions.specs.ActionLaws.{action-small}
 use Rattle.engine.specs.declared.asking.Asked.{Asked}
 use Rattle.engine.specs.declared.asking.Asked.the-variants.{Wanted, Stranger}
 use Rattle.engine.specs.declared.stepping.Moved.{Moved}

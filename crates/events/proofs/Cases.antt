@@ -20,9 +20,9 @@ use Rattle.terms.specs.declared.Given.the-variants.{Running, Wrong}
 use Rattle.terms.specs.Given.{given}
 use Rattle.terms.specs.Alike.{given-term-alike}
 use Rattle.actions.specs.Codes.{action-code, ActionAt}
+use Rattle.actions.specs.ActionLaws.{action-small}
 use Rattle.events.specs.declared.Event.the-variants.{Action as Event·action, Stranger}
 use Rattle.events.specs.Events.{event-as}
-use Rattle.events.proofs.Small.{action-small}
 use Rattle.events.proofs.Leaves.{positive, event-of, event-is-leaf, internal-first, action-first, other-first}
 
 -- Which answers are those of a running term.
@@ -72,7 +72,7 @@ module _ (T s : List ℕ) (R : RuleSet) (form : Form edition-1 R) (d : Declares 
   action-there : (a : VisibleAction) → Spelt (Perform a) → ActionAt (drop 1 s) a []
   unfolding words
   action-there a t = record {
-    small = action-small R form a (t .running .form);
+    small = action-small R form (visible a) (t .running .form);
     spelled = ap (drop 1) (t .spelled) ∙ ap (λ u. a .label ∷ u) (sym (append-nil (arguments-words 1 (a .arguments))));
     closed = λ z. let w : ⊥ = omega arith in w;
   }

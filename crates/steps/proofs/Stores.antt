@@ -19,6 +19,7 @@ use Rattle.declarations.specs.Directory.{row-width}
 use Rattle.expressions.specs.Stores.{stored, now-place, before-place}
 use Rattle.actions.specs.Codes.{action-code, Small}
 use Rattle.actions.specs.CodesLaws.{visible-positive}
+use Rattle.actions.specs.ActionLaws.{action-small}
 use Rattle.cells.specs.Layout.{Laid, Holds}
 use Rattle.cells.specs.Filling.{Filling, Filled}
 use Rattle.cells.specs.Preparing.{Prepared, Loaded}
@@ -27,7 +28,7 @@ use Rattle.cells.specs.Reads.{laid-kept}
 use Rattle.cells.specs.Readying.{rows-laid}
 use Rattle.cells.specs.ReadyingFills.{start-filling, renew-filling}
 use Rattle.steps.specs.Storing.{Stored, Ruled, StoreLoaded, StoreStarted, StoreRenewed}
-use Rattle.steps.specs.StoringLaws.{rows-few, action-small, initial-counted, renewed-counted, initial-at-most, renewed-at-most}
+use Rattle.steps.specs.StoringLaws.{rows-few, initial-counted, renewed-counted, initial-at-most, renewed-at-most}
 use Rattle.steps.specs.Keeping.{Kept, Given}
 
 -- What fill says of its cells.

@@ -15,12 +15,12 @@ use Rattle.eb3.specs.Limits.{edition-1}
 use Rattle.eb3.specs.RuleSets.{RuleSet, attributes}
 use Rattle.eb3.specs.Spelling.{words}
 use Rattle.eb3.specs.WellFormedness.{well-formed, Running, Form}
+use Rattle.actions.specs.ActionLaws.{action-small}
 use Rattle.listing.specs.Listing.{Fits, holding}
 use Rattle.cells.specs.Reads.{guard-judged}
 use Rattle.cells.specs.Readying.{plain-guard}
 use Rattle.steps.specs.Counting.{Whole}
 use Rattle.steps.specs.Storing.{Stored}
-use Rattle.steps.specs.StoringLaws.{action-small}
 
 -- Two tests that agree on the conditions of a scope give a term with guards in that scope the same moves.
 pub moves-agree : (g h : Cond → Bool) (P : Scope) → ((C : Cond) → cond-in-scope C P → g C ≡ h C) → (E : Term) → Fits P E → moves g E ≡ moves h E

@@ -1,4 +1,4 @@
--- What a rule set's form says of the cells in a store and of the numbers of its actions (document 01, "Memory and the history machine").
+-- What a rule set's form says of the cells in a store (document 01, "Memory and the history machine").
 use mathlib.Core.Path.{_≡_, sym, subst}
 use mathlib.Core.List.{List, []}
 use mathlib.Core.Option.{none, some}
@@ -7,7 +7,7 @@ use native.Mathlib.Omega.{arith}
 use lib.ListN.{length}
 use Rattle.eb3.specs.Values.{Value}
 use Rattle.eb3.specs.Expressions.{no-reading}
-use Rattle.eb3.specs.Terms.{VisibleAction, Action, internal, visible}
+use Rattle.eb3.specs.Terms.{VisibleAction, visible}
 use Rattle.eb3.specs.Attributes.{Attributes, number-of-functions}
 use Rattle.eb3.specs.Cells.{total-cells, cell-at, initial-cells, renew}
 use Rattle.eb3.specs.Laws.Cells.{ValuesAtMost, initial-values, values-at-most, renew-at-most}
@@ -17,12 +17,10 @@ use Rattle.eb3.specs.Laws.RuleSets.{functions-counted}
 use Rattle.eb3.specs.Laws.Running.{expressions-in-scope, elements-small, parameters-small}
 use Rattle.eb3.specs.WellFormedness.{well-formed-action, Form}
 use Rattle.expressions.specs.Stores.{stored}
-use Rattle.actions.specs.Codes.{Small}
 use Rattle.cells.specs.Layout.{Laid}
 use Rattle.cells.specs.CellLaws.{cells-counted}
 use Rattle.cells.specs.Reads.{row-cells}
-use Rattle.cells.specs.Readying.{within-small, domain-of}
-use Rattle.cells.specs.ReadyingFills.{arguments-two}
+use Rattle.cells.specs.Readying.{domain-of}
 
 module _ (R : RuleSet) (form : Form edition-1 R) where
   abbrev A : Attributes
@@ -33,11 +31,6 @@ module _ (R : RuleSet) (form : Form edition-1 R) where
   rows-few M laid f h =
       let l : f < number-of-functions A = omega (arith, functions-counted R) in
       subst (λ n. n ≤ 64) (row-cells A M f (laid f l)) (domain-of R form f h .few-cells)
-
-  -- An action of the rule set tells its label and its arguments by its number.
-  pub action-small : (ρ : Action) → well-formed-action R ρ → Small ρ
-  action-small internal h = tt
-  action-small (visible a) h = (omega (arith, h .0, form .label-count .1), arguments-two R form a h, within-small R form (label R (a .label)) (a .arguments) (h .1))
 
   -- ── the cells of the start, and renewed ones: as many as there are, and numbers of the edition ──
 

@@ -1,6 +1,6 @@
 -- A case for each way that the checks of arguments and actions return. The premises have the form of what the code tells there, so that `search`
 -- finds them.
-use Prim.Native.Nat.{ℕ, zero, suc, _+_, _-_, _*_, _≤_, _<_}
+use Prim.Native.Nat.{ℕ, _+_, _-_, _*_, _≤_, _<_}
 use native.Mathlib.Omega.{arith}
 use mathlib.Core.Path.{_≡_, refl, sym, ap, _∙_, subst}
 use mathlib.Core.Bool.{Bool, true, false}
@@ -11,6 +11,8 @@ use borrow.Author.Tests.{eq-eqb, ne-eqb, lt-ltb, le-ltb}
 use Rattle.eb3.specs.Generic.Lists.{Within}
 use Rattle.eb3.specs.Sizes.{arguments-size}
 use Rattle.eb3.specs.Spelling.{arguments-words}
+use Rattle.eb3.specs.Laws.Sizes.{arguments-double}
+use Rattle.eb3.specs.Laws.Elements.{within-length}
 use Rattle.eb3.specs.RuleSets.{domain-size, sizes-of, label}
 use Rattle.eb3.specs.Measures.{sat, leaf, measure-running}
 use Rattle.eb3.specs.Reading.{refused, taken, Reader, pick, giving, then, number-of, number-in}
@@ -91,21 +93,10 @@ module _ (T : List ℕ) (x m : ℕ) (i : m ≡ domain-size (declared T) x) where
 
 pub ruleset some-elements = (elements-none, elements-out, elements-more)
 
-within-length : (ns vs : List ℕ) → Within ns vs → length vs ≡ length ns
-within-length [] [] h = refl
-within-length [] (v ∷ vs) h = absurd h
-within-length (n ∷ ns) [] h = absurd h
-within-length (n ∷ ns) (v ∷ vs) h = ap suc (within-length ns vs (h .1))
-
 elements-count : (ns t vs u : List ℕ) → elements-of 1 ns t ≡ taken vs u → length vs ≡ length ns
 elements-count ns t vs u e =
     let h : (t ≡ arguments-words 1 vs ++ u) × Within ns vs = subst (λ r. Sound (arguments-words 1) (Within ns) t r) e (elements-sound 1 ns t) in
     within-length ns vs (h .1)
-
-arguments-double : (n : ℕ) → arguments-size 1 n ≡ 2 * n
-unfolding arguments-size
-arguments-double zero = refl
-arguments-double (suc n) = omega (arith, arguments-double n)
 
 -- ── an action ──
 

@@ -1,20 +1,16 @@
 -- What the tables say of a rule set that is ready to be unfolded, and what its form says of its terms' variables and expressions.
 use mathlib.Core.Path.{_≡_, refl, sym, ap, _∙_, subst}
-use mathlib.Core.List.{List, [], _∷_, _++_, map}
+use mathlib.Core.List.{List, [], _∷_}
 use Prim.Native.Nat.{ℕ, zero, suc, _+_, _*_, _<_}
 use native.Mathlib.Omega.{arith}
-use native.Mathlib.Decide.{decLt}
 use lib.ListN.{length, getD, length-map, List·getD-map}
-use Rattle.eb3.specs.Generic.Lists.{Within}
 use Rattle.eb3.specs.Expressions.{Data, Undefined, Constant, Variable, Add, Subtract, If, Now, Before, Args, Nil, Cons, Cond, Equal, Less, And, Or, Not, True}
-use Rattle.eb3.specs.Scopes.{Scope, data-in-scope, args-in-scope, cond-in-scope, arities, guard-scope}
+use Rattle.eb3.specs.Scopes.{Scope, data-in-scope, args-in-scope, cond-in-scope, guard-scope}
 use Rattle.eb3.specs.Limits.{edition-1}
-use Rattle.eb3.specs.RuleSets.{Argument, constant-argument, variable-argument, Process, RuleSet, domain-size, sizes-of, label, no-process, process, function-rule, attributes}
+use Rattle.eb3.specs.RuleSets.{Argument, Process, RuleSet, domain-size, label, no-process, process, attributes}
 use Rattle.eb3.specs.RuleSpelling.{rule-words}
-use Rattle.eb3.specs.Unfolding.{argument-value}
-use Rattle.eb3.specs.WellFormedness.{Form, argument-fits, arguments-fit}
-use Rattle.eb3.specs.Laws.RuleSets.{functions-counted, domain-is}
-use Rattle.eb3.specs.Laws.Attributes.{no-domain-beyond}
+use Rattle.eb3.specs.WellFormedness.{Form, arguments-fit}
+use Rattle.eb3.specs.Laws.CellCounts.{one-arity}
 use Rattle.arguments.specs.Tables.{row, declared, process-place}
 use Rattle.arguments.specs.TableLaws.{labels-length, label-at, processes-length, process-at}
 use Rattle.declarations.specs.Directory.{Stands, ProcessRows}
@@ -52,16 +48,6 @@ module _ (t T : List ℕ) (R : RuleSet) (ready : Ready t T R) where
 
 -- ── functions of one argument ──
 
-arity-one : (R : RuleSet) → Form edition-1 R → (f : ℕ) → arities (attributes R) f ≡ 1
-arity-one R form f = go (decLt f (length (R .functions)))
-  where
-    go : Dec (f < length (R .functions)) → arities (attributes R) f ≡ 1
-    go (yes h) =
-        let c = form .function-forms f h .parameter-count in
-        let l : length (function-rule R f .parameters) ≡ 1 = omega arith in
-        ap length (domain-is R f h) ∙ length-map (function-rule R f .parameters) (domain-size R) ∙ l
-    go (no h) = ap length (no-domain-beyond (attributes R) f (omega (arith, functions-counted R)))
-
 module _ (P : Scope) (one : (f : ℕ) → P .arity f ≡ 1) where
   mutual
     data-plain : (a : Data) → data-in-scope a P → plain-data a
@@ -91,41 +77,11 @@ module _ (P : Scope) (one : (f : ℕ) → P .arity f ≡ 1) where
     cond-plain True h = tt
 
 pub guard-plain : (R : RuleSet) → Form edition-1 R → (n : ℕ) (c : Cond) → cond-in-scope c (guard-scope (attributes R) n) → plain-cond c
-guard-plain R form n c h = cond-plain (guard-scope (attributes R) n) (arity-one R form) c h
+guard-plain R form n c h = cond-plain (guard-scope (attributes R) n) (one-arity R form) c h
 
--- ── variables and their values ──
+-- ── arguments ──
 
 module _ (R : RuleSet) where
-  pub within-length : (Γ σ : List ℕ) → Within (sizes-of R Γ) σ → length σ ≡ length Γ
-  within-length [] [] h = refl
-  within-length [] (v ∷ σ) h = absurd h
-  within-length (d ∷ Γ) [] h = absurd h
-  within-length (d ∷ Γ) (v ∷ σ) h = ap suc (within-length Γ σ (h .1))
-
-  pub within-more : (Γ σ : List ℕ) (d x : ℕ) → Within (sizes-of R Γ) σ → x < domain-size R d → Within (sizes-of R (Γ ++ (d ∷ []))) (σ ++ (x ∷ []))
-  within-more [] [] d x w h = (h, tt)
-  within-more [] (v ∷ σ) d x w h = absurd w
-  within-more (c ∷ Γ) [] d x w h = absurd w
-  within-more (c ∷ Γ) (v ∷ σ) d x w h = (w .0, within-more Γ σ d x (w .1) h)
-
-  within-at : (Γ σ : List ℕ) → Within (sizes-of R Γ) σ → (i : ℕ) → i < length Γ → getD σ i 0 < domain-size R (getD Γ i 0)
-  within-at [] σ w i h = let z : ⊥ = omega arith in absurd z
-  within-at (c ∷ Γ) [] w i h = absurd w
-  within-at (c ∷ Γ) (v ∷ σ) w zero h = w .0
-  within-at (c ∷ Γ) (v ∷ σ) w (suc i) h = within-at Γ σ (w .1) i (omega arith)
-
-  module _ (Γ σ : List ℕ) (w : Within (sizes-of R Γ) σ) where
-    argument-within : (d : ℕ) (r : Argument) → argument-fits R Γ d r → argument-value σ r < domain-size R d
-    unfolding argument-value
-    argument-within d (constant-argument v) h = h
-    argument-within d (variable-argument i) h = rw (h .1) at (within-at Γ σ w i (h .0))
-
-    pub arguments-within : (ds : List ℕ) (rs : List Argument) → arguments-fit R Γ ds rs → Within (sizes-of R ds) (map (argument-value σ) rs)
-    arguments-within [] [] h = tt
-    arguments-within [] (r ∷ rs) h = absurd h
-    arguments-within (d ∷ ds) [] h = absurd h
-    arguments-within (d ∷ ds) (r ∷ rs) h = (argument-within d r (h .0), arguments-within ds rs (h .1))
-
   pub arguments-counted : (Γ ds : List ℕ) (rs : List Argument) → arguments-fit R Γ ds rs → length rs ≡ length ds
   arguments-counted Γ [] [] h = refl
   arguments-counted Γ [] (r ∷ rs) h = absurd h

@@ -19,6 +19,7 @@ use Rattle.eb3.specs.Spelling.{number-words, data-words, cond-words, arguments-
 use Rattle.eb3.specs.RuleSpelling.{argument-words, rule-words}
 use Rattle.eb3.specs.Unfolding.{argument-value, instantiate-data, instantiate-cond, right-nest, unfold-term, unfold-in}
 use Rattle.eb3.specs.Laws.Unfolding.{call-unfolds}
+use Rattle.eb3.specs.Laws.Elements.{within-counted, within-more, arguments-within}
 use Rattle.eb3.specs.WellFormedness.{arguments-fit, allowed}
 use Rattle.scan.specs.Checking.{last-of}
 use Rattle.arguments.specs.Tables.{from, row, declared}
@@ -27,7 +28,7 @@ use Rattle.unfold.specs.Puts.{Exactly}
 use Rattle.unfold.specs.Instantiation.{Expression, value, test, expression-words, instantiate, plain}
 use Rattle.unfold.specs.InstantiationLaws.{last-behind}
 use Rattle.unfold.specs.Saying.{Unfolds, Performs, Guards, Stars, Copies, Joins, Overs, argument-at, Enters, Calls}
-use Rattle.unfold.proofs.RuleFacts.{domain-same, label-row, parameters-row, body-stands, guard-plain, within-length, within-more, arguments-within, arguments-counted}
+use Rattle.unfold.proofs.RuleFacts.{domain-same, label-row, parameters-row, body-stands, guard-plain, arguments-counted}
 
 -- ── arguments as expressions, and their values ──
 
@@ -275,7 +276,7 @@ module _ (t T : List ℕ) (n m i : ℕ) (σ : List ℕ) (R : RuleSet) (ready : R
           let left-is : length w ≡ length (last-of m t) - (1 + k) = omega arith in
           let head-is : o ∷ Δ ≡ o ∷ take k (drop 1 (last-of m t)) = ap (λ z. o ∷ z) (sym (ap (λ z. take k (drop 1 z)) here ∙ take-at Δ w k l)) in
           record {
-            holds = (omega arith, omega (arith, within-length R Γ σ values), omega (arith, limits .1));
+            holds = (omega arith, omega (arith, within-counted R Γ σ values), omega (arith, limits .1));
             says = subst (λ v. Copies t T (length (last-of m t) - (1 + k)) i σ (o ∷ take k (drop 1 (last-of m t))) 0 (domain-size (declared T) (getD (last-of m t) 0 0) - 1) v rest) (sym g)
                 (subst (λ N. Copies t T N i σ (o ∷ take k (drop 1 (last-of m t))) 0 (domain-size (declared T) (getD (last-of m t) 0 0) - 1) (words 1 (right-nest Done join (domain-size R d) (λ x. unfold-in R i E (σ ++ (x ∷ []))))) rest) left-is
                 (subst (λ h. Copies t T (length w) i σ h 0 (domain-size (declared T) (getD (last-of m t) 0 0) - 1) (words 1 (right-nest Done join (domain-size R d) (λ x. unfold-in R i E (σ ++ (x ∷ []))))) rest) head-is

@@ -1,30 +1,37 @@
--- A rule set of edition 1 has at most 1,024 cells: at most 16 functions, each with one parameter of at most 64 elements.
+-- A rule set of edition 1 has at most 1,024 cells: at most 16 functions, each with one parameter of at most 64 elements (document 01, "Blocks and the
+-- rule stream", items 2 and 4).
 use mathlib.Core.Path.{_≡_, ap, sym, _∙_, subst}
 use mathlib.Core.List.{List, [], _∷_, map}
 use Prim.Native.Nat.{ℕ, zero, suc, _+_, _*_, _≤_, _<_}
 use native.Mathlib.Omega.{arith}
 use native.Mathlib.Decide.{decLt}
-use lib.ListN.{length, List·getD-eq-default}
+use lib.ListN.{length, length-map}
 use Rattle.eb3.specs.Attributes.{domain, number-of-functions}
 use Rattle.eb3.specs.Laws.Attributes.{no-domain-beyond}
+use Rattle.eb3.specs.Scopes.{arities}
 use Rattle.eb3.specs.Cells.{cell-count, offset, total-cells}
 use Rattle.eb3.specs.Limits.{edition-1}
 use Rattle.eb3.specs.RuleSets.{RuleSet, domain-size, sizes-of, function-rule, attributes}
 use Rattle.eb3.specs.Laws.RuleSets.{functions-counted, domain-is}
+use Rattle.eb3.specs.Laws.Elements.{small-domain}
 use Rattle.eb3.specs.WellFormedness.{Form}
 
 module _ (R : RuleSet) (form : Form edition-1 R) where
-  small-domain : (d : ℕ) → domain-size R d ≤ 64
-  small-domain d = go (decLt d (length (R .domains)))
+  -- A function that is not there counts as one of one parameter.
+  pub one-arity : (f : ℕ) → arities (attributes R) f ≡ 1
+  one-arity f = go (decLt f (length (R .functions)))
     where
-      go : Dec (d < length (R .domains)) → domain-size R d ≤ 64
-      go (yes h) = form .domain-sizes d h .1
-      go (no h) = let k : length (R .domains) ≤ d = omega arith in omega (arith, List·getD-eq-default (R .domains) 0 k)
+      go : Dec (f < length (R .functions)) → arities (attributes R) f ≡ 1
+      go (yes h) =
+          let c = form .function-forms f h .parameter-count in
+          let l : length (function-rule R f .parameters) ≡ 1 = omega arith in
+          ap length (domain-is R f h) ∙ length-map (function-rule R f .parameters) (domain-size R) ∙ l
+      go (no h) = ap length (no-domain-beyond (attributes R) f (omega (arith, functions-counted R)))
 
   few-cells : (ds : List ℕ) → (1 ≤ length ds) × (length ds ≤ 1) → cell-count (sizes-of R ds) ≤ 64
   unfolding cell-count
   few-cells [] h = let z : ⊥ = omega (arith, h .0) in absurd z
-  few-cells (d ∷ []) h = omega (arith, small-domain d)
+  few-cells (d ∷ []) h = omega (arith, small-domain R form d)
   few-cells (d ∷ e ∷ ds) h = let z : ⊥ = omega (arith, h .1) in absurd z
 
   function-cells : (f : ℕ) → cell-count (domain (attributes R) f) ≤ 64

@@ -4,18 +4,19 @@ use mathlib.Core.Bool.{Bool, true, false, cond}
 use mathlib.Core.List.{List, [], _∷_, _++_, map}
 use Prim.Native.Nat.{ℕ, zero, suc, _≤_, _<_}
 use native.Mathlib.Omega.{arith}
-use native.Mathlib.Decide.{decLt, ℕ-discrete}
+use native.Mathlib.Decide.{ℕ-discrete}
 use lib.Dec.{T, eqb, eqb→eq, eqb-refl}
-use lib.ListN.{length, getD, List·getD-eq-default}
+use lib.ListN.{length, getD}
 use Rattle.eb3.specs.Generic.Lists.{Within}
 use Rattle.eb3.specs.Expressions.{Data, Undefined, Constant, Variable, Add, Subtract, If, Now, Before, Args, Nil, Cons, Cond, Equal, Less, And, Or, Not, True}
 use Rattle.eb3.specs.Terms.{Term, Done, Choice, Parallel}
 use Rattle.eb3.specs.Scopes.{Scope, data-in-scope, args-in-scope, cond-in-scope, guard-scope}
 use Rattle.eb3.specs.Limits.{Limits}
-use Rattle.eb3.specs.RuleSets.{Argument, constant-argument, variable-argument, RuleTerm, rule-internal, rule-perform, rule-sequence, rule-choice, rule-star, rule-parallel, rule-guard, choice-over, parallel-over, call, RuleSet, domain-size, sizes-of, label, process, main-process, attributes}
+use Rattle.eb3.specs.RuleSets.{RuleTerm, rule-internal, rule-perform, rule-sequence, rule-choice, rule-star, rule-parallel, rule-guard, choice-over, parallel-over, call, RuleSet, domain-size, sizes-of, label, process, main-process, attributes}
 use Rattle.eb3.specs.Unfolding.{Valuation, argument-value, instantiate-data, instantiate-args, instantiate-cond, unfold-term, unfold-below, unfold-main}
 use Rattle.eb3.specs.Laws.Unfolding.{right-nest-keeps}
-use Rattle.eb3.specs.WellFormedness.{well-formed, Running, argument-fits, arguments-fit, allowed, Form, WellFormed}
+use Rattle.eb3.specs.Laws.Elements.{within-more, within-at, arguments-within, domain-limited}
+use Rattle.eb3.specs.WellFormedness.{well-formed, Running, allowed, Form, WellFormed}
 
 -- With constants for its variables, a guard's condition needs none.
 module _ (P : Scope) (σ : Valuation) (small : (i : ℕ) → i < P .variables → getD σ i 0 ≤ P .top) where
@@ -48,46 +49,23 @@ module _ (P : Scope) (σ : Valuation) (small : (i : ℕ) → i < P .variables �
     cond-instantiated True w = tt
 
 module _ (L : Limits) (R : RuleSet) where
-  within-more : (Γ : List ℕ) (σ : Valuation) (d x : ℕ) → Within (sizes-of R Γ) σ → x < domain-size R d → Within (sizes-of R (Γ ++ (d ∷ []))) (σ ++ (x ∷ []))
-  within-more [] [] d x w h = (h, tt)
-  within-more [] (v ∷ σ) d x w h = absurd w
-  within-more (c ∷ Γ) [] d x w h = absurd w
-  within-more (c ∷ Γ) (v ∷ σ) d x w h = (w .0, within-more Γ σ d x (w .1) h)
-
-  within-at : (Γ : List ℕ) (σ : Valuation) → Within (sizes-of R Γ) σ → (i : ℕ) → i < length Γ → getD σ i 0 < domain-size R (getD Γ i 0)
-  within-at [] σ w i h = let z : ⊥ = omega arith in absurd z
-  within-at (c ∷ Γ) [] w i h = absurd w
-  within-at (c ∷ Γ) (v ∷ σ) w zero h = w .0
-  within-at (c ∷ Γ) (v ∷ σ) w (suc i) h = within-at Γ σ (w .1) i (omega arith)
-
-  argument-within : (Γ : List ℕ) (σ : Valuation) → Within (sizes-of R Γ) σ → (d : ℕ) (r : Argument) → argument-fits R Γ d r → argument-value σ r < domain-size R d
-  unfolding argument-value
-  argument-within Γ σ w d (constant-argument v) h = h
-  argument-within Γ σ w d (variable-argument i) h = rw (h .1) at (within-at Γ σ w i (h .0))
-
-  arguments-within : (Γ : List ℕ) (σ : Valuation) → Within (sizes-of R Γ) σ → (ds : List ℕ) (rs : List Argument) → arguments-fit R Γ ds rs → Within (sizes-of R ds) (map (argument-value σ) rs)
-  arguments-within Γ σ w [] [] h = tt
-  arguments-within Γ σ w [] (r ∷ rs) h = absurd h
-  arguments-within Γ σ w (d ∷ ds) [] h = absurd h
-  arguments-within Γ σ w (d ∷ ds) (r ∷ rs) h = (argument-within Γ σ w d r (h .0), arguments-within Γ σ w ds rs (h .1))
-
   module _ (small : (d : ℕ) → domain-size R d ≤ suc (R .top)) where
     module _ (i : ℕ) (callee : ℕ → Valuation → Term) (callee-well-formed : (p : ℕ) → p < i → (vs : Valuation) → Within (sizes-of R (process R p .parameters)) vs → well-formed R (callee p vs)) where
       pub unfold-well-formed : (E : RuleTerm) (Γ : List ℕ) → allowed L R i Γ E → (σ : Valuation) → Within (sizes-of R Γ) σ → well-formed R (unfold-term R callee E σ)
       unfolding unfold-term
       unfold-well-formed rule-internal Γ h σ w = tt
-      unfold-well-formed (rule-perform l rs) Γ h σ w = (h .0, arguments-within Γ σ w (label R l) rs (h .1))
+      unfold-well-formed (rule-perform l rs) Γ h σ w = (h .0, arguments-within R Γ σ w (label R l) rs (h .1))
       unfold-well-formed (rule-sequence E F) Γ h σ w = (unfold-well-formed E Γ (h .0) σ w, unfold-well-formed F Γ (h .1) σ w)
       unfold-well-formed (rule-choice E F) Γ h σ w = (unfold-well-formed E Γ (h .0) σ w, unfold-well-formed F Γ (h .1) σ w)
       unfold-well-formed (rule-star E) Γ h σ w = unfold-well-formed E Γ h σ w
       unfold-well-formed (rule-parallel Δ E F) Γ h σ w = (h .0, unfold-well-formed E Γ (h .1) σ w, unfold-well-formed F Γ (h .2) σ w)
       unfold-well-formed (rule-guard c E) Γ h σ w =
-          (cond-instantiated (guard-scope (attributes R) (length Γ)) σ (λ j l. omega (arith, within-at Γ σ w j l, small (getD Γ j 0))) c (h .0), unfold-well-formed E Γ (h .1) σ w)
+          (cond-instantiated (guard-scope (attributes R) (length Γ)) σ (λ j l. omega (arith, within-at R Γ σ w j l, small (getD Γ j 0))) c (h .0), unfold-well-formed E Γ (h .1) σ w)
       unfold-well-formed (choice-over d E) Γ h σ w =
-          right-nest-keeps (λ E. well-formed R E) Done Choice tt (λ E F p q. (p, q)) (domain-size R d) _ (λ x l. unfold-well-formed E (Γ ++ (d ∷ [])) (h .2) (σ ++ (x ∷ [])) (within-more Γ σ d x w l))
+          right-nest-keeps (λ E. well-formed R E) Done Choice tt (λ E F p q. (p, q)) (domain-size R d) _ (λ x l. unfold-well-formed E (Γ ++ (d ∷ [])) (h .2) (σ ++ (x ∷ [])) (within-more R Γ σ d x w l))
       unfold-well-formed (parallel-over d Δ E) Γ h σ w =
-          right-nest-keeps (λ E. well-formed R E) Done (Parallel Δ) tt (λ E F p q. (h .2, p, q)) (domain-size R d) _ (λ x l. unfold-well-formed E (Γ ++ (d ∷ [])) (h .3) (σ ++ (x ∷ [])) (within-more Γ σ d x w l))
-      unfold-well-formed (call p rs) Γ h σ w = callee-well-formed p (h .0) (map (argument-value σ) rs) (arguments-within Γ σ w (process R p .parameters) rs (h .1))
+          right-nest-keeps (λ E. well-formed R E) Done (Parallel Δ) tt (λ E F p q. (h .2, p, q)) (domain-size R d) _ (λ x l. unfold-well-formed E (Γ ++ (d ∷ [])) (h .3) (σ ++ (x ∷ [])) (within-more R Γ σ d x w l))
+      unfold-well-formed (call p rs) Γ h σ w = callee-well-formed p (h .0) (map (argument-value σ) rs) (arguments-within R Γ σ w (process R p .parameters) rs (h .1))
 
     either-well-formed : (b : Bool) (E F : Term) → (T b → well-formed R E) → ((T b → ⊥) → well-formed R F) → well-formed R (cond b E F)
     either-well-formed true E F h k = h tt
@@ -109,11 +87,7 @@ module _ (L : Limits) (R : RuleSet) where
 
 -- Elements of domains are numbers.
 pub small-domains : (L : Limits) (R : RuleSet) → L .domain-size ≤ suc (L .top) → Form L R → (d : ℕ) → domain-size R d ≤ suc (R .top)
-small-domains L R fits w d = go (decLt d (length (R .domains)))
-  where
-    go : Dec (d < length (R .domains)) → domain-size R d ≤ suc (R .top)
-    go (yes h) = omega (arith, w .domain-sizes d h .1, w .top-is)
-    go (no h) = let k : length (R .domains) ≤ d = omega arith in omega (arith, List·getD-eq-default (R .domains) 0 k)
+small-domains L R fits w d = omega (arith, domain-limited L R w d, w .top-is)
 
 pub main-running : (L : Limits) (R : RuleSet) → L .domain-size ≤ suc (L .top) → WellFormed L R → Running L R (unfold-main R)
 unfolding unfold-main

@@ -19,7 +19,13 @@ use Rattle.eb3.specs.Semantics.{system}
 use Rattle.eb3.specs.Laws.Semantics.{move-stepped}
 use Rattle.eb3.specs.Machines.{machine}
 use Rattle.eb3.specs.Laws.Machines.{steps-keep}
-use Rattle.eb3.specs.Sizes.{size, reach, breadth, zero-mask, parallel-breadth}
+use Rattle.eb3.specs.Sizes.{arguments-size, size, reach, breadth, zero-mask, parallel-breadth}
+
+-- In edition 1 an argument takes two words.
+pub arguments-double : (n : ℕ) → arguments-size 1 n ≡ 2 * n
+unfolding arguments-size
+arguments-double zero = refl
+arguments-double (suc n) = omega (arith, arguments-double n)
 
 module _ (w : ℕ) where
   pub size-below-reach : (E : Term) → size w E ≤ reach w E
