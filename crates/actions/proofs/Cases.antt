@@ -10,6 +10,8 @@ use borrow.Author.Tests.{eq-eqb, ne-eqb}
 use Rattle.eb3.specs.Generic.AllLists.{All}
 use Rattle.eb3.specs.Terms.{VisibleAction, Action, visible, Mask, bit, in-mask}
 use Rattle.eb3.specs.Spelling.{number-words, arguments-words}
+use Rattle.eb3.specs.Laws.Sizes.{arguments-double}
+use Rattle.eb3.specs.Laws.Spelling.{arguments-length}
 use Rattle.actions.specs.Codes.{arguments-code, action-code, Small, Closed, ActionAt}
 use Rattle.actions.specs.CodesLaws.{label-in, masked-code, label-back, arguments-back, visible-positive, masked-right}
 
@@ -77,13 +79,8 @@ module _ (t : List ℕ) where
   pub count-two : getD t 1 0 ≡ 1 → getD t 3 0 ≡ 1 → (2 ≤ 2) × Counts t 2
   count-two h k = (omega arith, counted t 2 (two h k))
 
-arguments-length : (xs : List ℕ) → length (arguments-words 1 xs) ≡ 2 * length xs
-unfolding arguments-words number-words
-arguments-length [] = refl
-arguments-length (x ∷ xs) = omega (arith, arguments-length xs)
-
 pub action-length : (t : List ℕ) (a : VisibleAction) (rest : List ℕ) → ActionAt t a rest → length t ≡ 1 + 2 * length (a .arguments) + length rest
-action-length t a rest h = omega (arith, ap length (h .spelled), length-append (arguments-words 1 (a .arguments)) rest, arguments-length (a .arguments))
+action-length t a rest h = omega (arith, ap length (h .spelled), length-append (arguments-words 1 (a .arguments)) rest, arguments-length 1 (a .arguments), arguments-double (length (a .arguments)))
 
 module _ (t : List ℕ) (k : ℕ) (counts : Counts t k) where
   pub behind-some : 1 + 2 * k ≤ length t → (length t - (1 + 2 * k) ≤ length t) × ((a : VisibleAction) (rest : List ℕ) → ActionAt t a rest → length t - (1 + 2 * k) ≡ length rest)

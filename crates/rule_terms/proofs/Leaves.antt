@@ -1,11 +1,12 @@
 -- A case for each way that the checks of actions and calls return. The premises have the form of what the code tells there, so that `search` finds them.
-use Prim.Native.Nat.{ℕ, zero, suc, _+_, _*_, _≤_, _<_}
+use Prim.Native.Nat.{ℕ, _+_, _*_, _≤_, _<_}
 use native.Mathlib.Omega.{arith}
 use mathlib.Core.Path.{_≡_, refl, sym, ap, _∙_}
 use mathlib.Core.List.{List}
 use lib.ListN.{length, getD}
 use borrow.Author.Tests.{lt-ltb, le-ltb}
 use Rattle.eb3.specs.Sizes.{arguments-size}
+use Rattle.eb3.specs.Laws.Sizes.{arguments-double}
 use Rattle.eb3.specs.RuleSets.{Argument, RuleTerm, rule-perform, call, label, process}
 use Rattle.eb3.specs.Measures.{sat, Measure, nothing, leaf, measure-term}
 use Rattle.eb3.specs.Reading.{Read, giving, number-of, by-number}
@@ -34,11 +35,6 @@ unfolding callee
 row-out T p n w i h e = e ∙ rw (le-ltb p (getD T 211 0) (omega arith))
 
 -- ── a number, and the arguments that it asks for ──
-
-arguments-words : (n : ℕ) → arguments-size 1 n ≡ 2 * n
-unfolding arguments-size
-arguments-words zero = refl
-arguments-words (suc n) = omega (arith, arguments-words n)
 
 -- k makes the term; the code takes the domains ds for those that the number asks for
 module _ (T Γ t : List ℕ) (k : ℕ → List Argument → RuleTerm) (limit : ℕ) (rows : ℕ → List ℕ) where
@@ -94,7 +90,7 @@ module _ (T Γ t : List ℕ) (b : ℕ) (p : Checked) (e : p ≡ checked (number-
       unfolding rule-action-of measure-term declared
       action-in m c w x i g o u =
           asked-in T Γ t rule-perform (length (declared T .labels)) (label (declared T)) p q n r ds (rw (← labels-limit x) e) h l (i ∙ label-row x) f m w g
-          (λ rs v. u ∙ ap (λ s. leaf (sat cap) (2 + s)) (ap (λ s. 2 * s) (o ∙ sym v) ∙ sym (arguments-words (length rs))))
+          (λ rs v. u ∙ ap (λ s. leaf (sat cap) (2 + s)) (ap (λ s. 2 * s) (o ∙ sym v) ∙ sym (arguments-double (length rs))))
 
       pub call-out : (j : ℕ) → b ≡ getD T 211 0 → ds ≡ row T (212 + 9 * d) → q ≡ Not j → Refused j ≡ weighed (declared T) (callee T) (call-of (declared T) Γ t)
       unfolding call-of

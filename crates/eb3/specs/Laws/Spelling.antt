@@ -49,7 +49,7 @@ module _ (w : ℕ) where
     cond-length (Not c) = omega (arith, cond-length c)
     cond-length True = refl
 
-  arguments-length : (vs : List ℕ) → length (arguments-words w vs) ≡ arguments-size w (length vs)
+  pub arguments-length : (vs : List ℕ) → length (arguments-words w vs) ≡ arguments-size w (length vs)
   unfolding arguments-words arguments-size
   arguments-length [] = refl
   arguments-length (v ∷ vs) = omega (arith, length-append (number-words w v) (arguments-words w vs), number-length w v, arguments-length vs)
