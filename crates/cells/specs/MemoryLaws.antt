@@ -1,5 +1,5 @@
 -- Cells of a memory in a store: put there, they are what the memory gives; written from there, they are what a memory holds (document 01, "Memory and the
--- history machine": undefined is stored as 65,535).
+-- history machine": undefined is stored as 65,535). And words of a buffer, loaded to the front of others.
 use mathlib.Core.Path.{_≡_, refl, sym, ap, subst, _∙_}
 use mathlib.Core.List.{List, [], _∷_, map}
 use Prim.Native.Nat.{ℕ, zero, suc, _+_, _≤_, _<_}
@@ -7,7 +7,7 @@ use native.Mathlib.Omega.{arith}
 use native.Mathlib.Decide.{decLt}
 use lib.Dec.{lit<}
 use lib.ListN.{length, getD, take, drop, length-map, length-drop}
-use lib.Seq.{length-take-le, getD-take, getD-drop, ext-getD}
+use lib.Seq.{take-all, length-take-le, getD-take, getD-drop, ext-getD}
 use Rattle.eb3.specs.Values.{Value, undefined, encode, decode}
 use Rattle.eb3.specs.Laws.Values.{bounded-at-most, encode-decode-number, decode-encode}
 use Rattle.eb3.specs.Laws.Cells.{ValuesAtMost}
@@ -68,13 +68,33 @@ loaded-holds B M M′ at c small enough room loaded k h =
     let l : k < c = omega (arith, given-counted c B enough) in
     loaded .there k l (omega arith) ∙ sym (word-back (getD (words-in B) k 0) (small k)) ∙ ap (encode 65535) (sym (given-cell c B enough k l))
 
--- ── cells written ──
+-- ── words loaded to the front ──
 
-pub stored-is : (M : List ℕ) (i d : ℕ) → i < length M → stored M i ≡ getD M i d
+stored-is : (M : List ℕ) (i d : ℕ) → i < length M → stored M i ≡ getD M i d
 unfolding stored
 stored-is [] i d h = absurd (let z : ⊥ = omega arith in z)
 stored-is (x ∷ M) zero d h = refl
 stored-is (x ∷ M) (suc i) d h = stored-is M i d (omega arith)
+
+module _ (B M M′ : List ℕ) (n : ℕ) where
+  pub loaded-front : n ≤ word-count B → n ≤ length M → Loaded B M M′ 0 n → take n M′ ≡ take n (words-in B)
+  loaded-front enough room l = ext-getD 0 (take n M′) (take n (words-in B)) (len ∙ sym (length-take-le n (words-in B) (omega (arith, words-counted B)))) each
+    where
+      len : length (take n M′) ≡ n
+      len = length-take-le n M′ (omega (arith, l .same-length))
+
+      each : (i : ℕ) → i < length (take n M′) → getD (take n M′) i 0 ≡ getD (take n (words-in B)) i 0
+      each i h =
+          let k : i < n = omega (arith, len) in
+          let y : 0 + i ≡ i = omega arith in
+          getD-take n M′ i 0 k ∙ sym (stored-is M′ i 0 (omega (arith, l .same-length)))
+          ∙ subst (λ j. stored M′ j ≡ getD (words-in B) i 0) y (l .there i k (omega arith)) ∙ sym (getD-take n (words-in B) i 0 k)
+
+  -- all of them
+  pub loaded-words : n ≡ word-count B → n ≤ length M → Loaded B M M′ 0 n → take n M′ ≡ words-in B
+  loaded-words e room l = loaded-front (omega arith) room l ∙ take-all n (words-in B) (omega (arith, words-counted B))
+
+-- ── cells written ──
 
 pub held-words : (M : List ℕ) (cells : List Value) (c : ℕ) → length cells ≡ c → now-place + c ≤ length M → Holds M now-place cells → take c (drop now-place M) ≡ memory-words edition-1 cells
 unfolding memory-words

@@ -26,6 +26,7 @@ use Rattle.eb3.specs.Answers.{refused}
 use Rattle.eb3.specs.Operations.{or-refused, even, event-in}
 use Rattle.declarations.specs.Declaring.{Declares}
 use Rattle.cells.specs.Preparing.{Loaded}
+use Rattle.cells.specs.MemoryLaws.{loaded-words}
 use Rattle.actions.specs.Codes.{action-code}
 use Rattle.events.specs.Events.{event-as}
 use Rattle.events.specs.declared.Event.{Event}
@@ -33,7 +34,6 @@ use Rattle.events.specs.declared.Event.the-variants.{Action as Event·action, S
 use Rattle.engine.specs.declared.asking.Asked.{Asked}
 use Rattle.engine.specs.declared.asking.Asked.the-variants.{Wanted, Stranger}
 use Rattle.engine.specs.Asking.{asked-as}
-use Rattle.engine.proofs.GivingCases.{loaded-words}
 
 -- ── an event is short ──
 

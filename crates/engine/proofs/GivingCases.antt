@@ -8,7 +8,6 @@ use native.Mathlib.Omega.{arith}
 use native.Mathlib.Decide.{decLt}
 use lib.Dec.{eqb}
 use lib.ListN.{length, take, drop, getD}
-use lib.Seq.{length-take-le, getD-take, ext-getD}
 use borrow.Author.Tests.{eq-eqb, ne-eqb}
 use Rattle.eb3.specs.Refusal
 use Rattle.eb3.specs.Terms.{Term}
@@ -30,9 +29,8 @@ use Rattle.eb3.specs.Operations.{or-refused, even, term-in}
 use Rattle.arguments.specs.Tables.{declared}
 use Rattle.declarations.specs.Declaring.{Declares}
 use Rattle.declarations.specs.DeclaringLaws.{declared-alike}
-use Rattle.expressions.specs.Stores.{stored}
 use Rattle.cells.specs.Preparing.{Loaded}
-use Rattle.cells.specs.MemoryLaws.{stored-is}
+use Rattle.cells.specs.MemoryLaws.{loaded-words}
 use Rattle.terms.specs.Given.{given}
 use Rattle.terms.specs.Alike.{given-term-alike}
 use Rattle.terms.specs.declared.Given.{Given as Weighed}
@@ -41,18 +39,7 @@ use Rattle.engine.specs.declared.giving.Given.{Given}
 use Rattle.engine.specs.declared.giving.Given.the-variants.{Term as Given·term, Refused}
 use Rattle.engine.specs.Giving.{checked-as, Spelled, TermChecked}
 
--- Loaded from a buffer's front, all its words.
-pub loaded-words : (B M M′ : List ℕ) (n : ℕ) → n ≡ word-count B → n ≤ length M → Loaded B M M′ 0 n → take n M′ ≡ words-in B
-loaded-words B M M′ n e room l = ext-getD 0 (take n M′) (words-in B) (len ∙ e ∙ sym (words-counted B)) each
-  where
-    len : length (take n M′) ≡ n
-    len = length-take-le n M′ (omega (arith, l .same-length))
-
-    each : (i : ℕ) → i < length (take n M′) → getD (take n M′) i 0 ≡ getD (words-in B) i 0
-    each i h =
-        let k : i < n = omega (arith, len) in
-        getD-take n M′ i 0 k ∙ sym (stored-is M′ i 0 (omega (arith, l .same-length))) ∙ (let z : stored M′ (0 + i) ≡ getD (words-in B) i 0 = l .there i k (omega arith) in let y : 0 + i ≡ i = omega arith in subst (λ j. stored M′ j ≡ getD (words-in B) i 0) y z)
-
+-- Loaded from a buffer's front, all its words: as a part that begins there.
 pub loaded-part : (B M M′ : List ℕ) (n : ℕ) → n ≡ word-count B → n ≤ length M → Loaded B M M′ 0 n → take (n - 0) (drop 0 M′) ≡ words-in B
 loaded-part B M M′ n e room l = let z : n - 0 ≡ n = omega arith in ap (λ k. take k M′) z ∙ loaded-words B M M′ n e room l
 

@@ -1,12 +1,12 @@
 -- A case for each way that one number's step returns: what it does to the term in words and to the cells in the store is what the memory machine does
 -- (document 01, "Memory and the history machine"; "Operations": Run).
 use mathlib.Core.Path.{_≡_, refl, sym, ap, _∙_, subst}
-use mathlib.Core.List.{List, [], _∷_, map}
+use mathlib.Core.List.{List, [], _∷_, _++_, map}
 use mathlib.Core.Option.{Option, none, some, Option·none-ne-some}
 use Prim.Native.Nat.{ℕ, zero, suc, _+_, _*_, _≤_, _<_}
 use native.Mathlib.Omega.{arith}
-use lib.ListN.{length, take, drop, getD, getElem?, List·getD-append}
-use lib.Seq.{length-take-le, getD-take, ext-getD}
+use lib.ListN.{length, take, drop, getElem?, length-append}
+use lib.Seq.{take-at}
 use Rattle.eb3.specs.Scopes.{Scope}
 use Rattle.eb3.specs.Terms.{Term, Action, internal, visible}
 use Rattle.eb3.specs.Moves.{Move, moves}
@@ -19,7 +19,7 @@ use Rattle.eb3.specs.Spelling.{words}
 use Rattle.eb3.specs.Laws.Spelling.{Small, words-length}
 use Rattle.eb3.specs.Laws.Operations.{spelling-small}
 use Rattle.eb3.specs.Bytes.{words-in, written}
-use Rattle.eb3.specs.Laws.Bytes.{written-words}
+use Rattle.eb3.specs.Laws.Bytes.{words-counted, written-words}
 use Rattle.eb3.specs.Laws.Running.{move-running, move-action}
 use Rattle.eb3.specs.Semantics.{Sem-M, Situation, situation, transition, system}
 use Rattle.eb3.specs.TransitionSystems.{Outcome, refused, taken, reply, respond}
@@ -27,9 +27,8 @@ use Rattle.eb3.specs.Laws.TransitionSystems.{getElem?-map}
 use Rattle.eb3.specs.WellFormedness.{well-formed, Running}
 use Rattle.actions.specs.Codes.{action-code}
 use Rattle.listing.specs.Listing.{holding}
-use Rattle.expressions.specs.Stores.{stored}
 use Rattle.cells.specs.Preparing.{Loaded}
-use Rattle.cells.specs.MemoryLaws.{stored-is}
+use Rattle.cells.specs.MemoryLaws.{loaded-front}
 use Rattle.steps.specs.Counting.{Whole}
 use Rattle.steps.specs.Taking.{taken-as, built-over, SuccessorFits, Took}
 use Rattle.steps.specs.Storing.{Ruled, StoreRenewed}
@@ -42,19 +41,11 @@ use Rattle.runs.specs.declared.Done.the-variants.{Visible, Internal, Not
 
 -- ── words written at a buffer's front and loaded from there ──
 
-pub loaded-front : (us B M M′ : List ℕ) (n : ℕ) → n ≡ length us → Small us → n ≤ length M → Loaded (written us B) M M′ 0 n → take n M′ ≡ us
-loaded-front us B M M′ n e small room l = ext-getD 0 (take n M′) us (len ∙ e) each
-  where
-    len : length (take n M′) ≡ n
-    len = length-take-le n M′ (omega (arith, l .same-length))
-
-    each : (i : ℕ) → i < length (take n M′) → getD (take n M′) i 0 ≡ getD us i 0
-    each i h =
-        let k : i < n = omega (arith, len) in
-        let z : stored M′ (0 + i) ≡ getD (words-in (written us B)) i 0 = l .there i k (omega arith) in
-        let y : 0 + i ≡ i = omega arith in
-        getD-take n M′ i 0 k ∙ sym (stored-is M′ i 0 (omega (arith, l .same-length))) ∙ subst (λ j. stored M′ j ≡ getD (words-in (written us B)) i 0) y z
-        ∙ ap (λ (v : List ℕ). getD v i 0) (written-words us B small) ∙ List·getD-append us (words-in (drop (2 * length us) B)) 0 i (omega arith)
+pub written-loaded : (us B M M′ : List ℕ) (n : ℕ) → n ≡ length us → Small us → n ≤ length M → Loaded (written us B) M M′ 0 n → take n M′ ≡ us
+written-loaded us B M M′ n e small room l =
+    let w : words-in (written us B) ≡ us ++ words-in (drop (2 * length us) B) = written-words us B small in
+    loaded-front (written us B) M M′ n (omega (arith, words-counted (written us B), ap length w, length-append us (words-in (drop (2 * length us) B)))) room l
+    ∙ ap (take n) w ∙ take-at us (words-in (drop (2 * length us) B)) n (sym e)
 
 -- ── what the machine replies, by the list of moves ──
 
@@ -160,7 +151,7 @@ module _ (t D : List ℕ) (w functions c n k : ℕ) (ws M out : List ℕ) (R : R
     next = record {
       running = next-running x listed;
       size-is = refl;
-      spelled = loaded-front (words 1 (x .successor)) out ws ws′ (length (words 1 (x .successor))) refl (next-small x listed) (omega (arith, next-size x listed, room .words-room))
+      spelled = written-loaded (words 1 (x .successor)) out ws ws′ (length (words 1 (x .successor))) refl (next-small x listed) (omega (arith, next-size x listed, room .words-room))
           (subst (λ B. Loaded B ws ws′ 0 (length (words 1 (x .successor)))) buffer loaded);
       stored = renewed R T ruled (x .action) (move-action edition-1 R (holding M) (s .term) k x listed (at .running .form)) number (s .state) (at .stored);
     }

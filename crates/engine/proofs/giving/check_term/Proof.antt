@@ -1,7 +1,6 @@
-use mathlib.Core.Path.{sym, _∙_}
-use Rattle.engine.proofs.GivingCases.{loaded-part}
-use mathlib.Core.Path.{refl}
-use Rattle.engine.proofs.GivingCases.{loaded-words, checked-odd, checked-long, checked-wrong, checked-running, over-limit}
+use mathlib.Core.Path.{refl, sym, _∙_}
+use Rattle.cells.specs.MemoryLaws.{loaded-words}
+use Rattle.engine.proofs.GivingCases.{loaded-part, checked-odd, checked-long, checked-wrong, checked-running, over-limit}
 use native.Mathlib.Omega.{arith}
 use borrow.Author.Needs.{needs}
 use Rattle.engine.proofs.giving.check_term.Statement.{statement}
