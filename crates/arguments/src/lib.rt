@@ -3,7 +3,7 @@
 ghost use mathlib.Core.Path.{_≡_};
 ghost use mathlib.Core.Bool.{Bool};
 ghost use mathlib.Core.List.{List, [], _∷_, _++_};
-ghost use Prim.Native.Nat.{ℕ, _+_, _-_, _*_, _^_, _≤_, _<_, min};
+ghost use Prim.Native.Nat.{ℕ, _+_, _-_, _*_, _%_, _^_, _≤_, _<_, min};
 ghost use lib.ListN.{drop, take, getD, length};
 ghost use Rattle.eb3.specs.Sizes.{zero-mask};
 ghost use Rattle.eb3.specs.RuleSets.{RuleSet, domain-size};
@@ -22,6 +22,21 @@ pub fn wide32(x: u32) -> usize
     ensures { λ r. ⌜ (r ≡ x) × (r < 4294967296) ⌝ }
 {
     x as usize
+}
+
+// A number's low 32 bits.
+pub fn low32(x: usize) -> u32
+    ensures { λ r. ⌜ r ≡ x % 4294967296 ⌝ }
+{
+    (x % 4294967296) as u32
+}
+
+// A number that has no others.
+pub fn narrow32(x: usize) -> u32
+    requires { ⌜ x < 4294967296 ⌝ }
+    ensures { λ r. ⌜ r ≡ x ⌝ }
+{
+    x as u32
 }
 
 // The word at a place, or 0 past the end.

@@ -14,6 +14,7 @@ ghost use Rattle.declarations.specs.Entering.{Entered, cells-bound};
 ghost use Rattle.declarations.specs.Directory.{row-width};
 ghost use Rattle.declarations.specs.Noting.{LabelsNoted, ExpressionsNoted, FunctionNoted, FunctionsNoted};
 use arguments::entry;
+use arguments::low32;
 use arguments::row_at;
 use arguments::size_of;
 use arguments::wide32;
@@ -125,12 +126,6 @@ pub fn enter_labels(t: &[u16], tb: &mut [u32], n: usize, at: usize, d: usize) ->
 }
 
 // ── functions ──
-
-fn low32(x: usize) -> u32
-    ensures { λ r. ⌜ r ≡ x % 4294967296 ⌝ }
-{
-    (x % 4294967296) as u32
-}
 
 // The low 32 bits of x, at a place of the directory; nothing where there is no such place, so that a caller with no use
 // for a directory lends none.

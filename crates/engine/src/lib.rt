@@ -3,7 +3,7 @@
 ghost use mathlib.Core.Path.{_≡_};
 ghost use mathlib.Core.Bool.{Bool};
 ghost use mathlib.Core.List.{List, [], _∷_, _++_};
-ghost use Prim.Native.Nat.{ℕ, _+_, _*_, _%_, _≤_, _<_};
+ghost use Prim.Native.Nat.{ℕ, _+_, _*_, _≤_, _<_};
 ghost use lib.ListN.{length, take, drop};
 ghost use Rattle.eb3.specs.Limits.{edition-1};
 ghost use Rattle.eb3.specs.RuleReading.{read-rules};
@@ -23,6 +23,7 @@ pub mod running;
 pub mod starting;
 pub mod stepping;
 
+use arguments::narrow32;
 use blocks::Opened;
 use blocks::join;
 use blocks::open;
@@ -88,20 +89,6 @@ fn zeros(t: &[u16]) -> bool
     true
 }
 
-fn cells_word(n: usize) -> u32
-    requires { ⌜ n < 4294967296 ⌝ }
-    ensures { λ r. ⌜ r ≡ n ⌝ }
-{
-    n as u32
-}
-
-// A number's low 32 bits: all of it where it is below the limits.
-fn low32(x: usize) -> u32
-    ensures { λ r. ⌜ r ≡ x % 4294967296 ⌝ }
-{
-    (x % 4294967296) as u32
-}
-
 // The stream's words behind its first two: sections 2 to 5, the end, and main's measures; with the tables and the directory that
 // later steps go by. An empty directory will do where there are none.
 fn admit_words(t: &[u16], tables: &mut [u32], dir: &mut [u32]) -> Admitted
@@ -116,7 +103,7 @@ fn admit_words(t: &[u16], tables: &mut [u32], dir: &mut [u32]) -> Admitted
             if !zeros(last(t, left)) {
                 return Admitted::Refused(4);
             }
-            judge(cells_word(cells), w)
+            judge(narrow32(cells), w)
         }
         Rules::Refused(k) => Admitted::Refused(k),
     }

@@ -12,6 +12,7 @@ ghost use Rattle.declarations.specs.ProcessLaws.{Bounded};
 ghost use Rattle.rules.specs.Sections.{process-weighed, joined};
 ghost use Rattle.rules.specs.Filling.{ProcessesRead, ProcessSectionRead, FunctionSectionRead, LabelSectionRead, RulesRead};
 use arguments::entry;
+use arguments::narrow32;
 use arguments::wide32;
 use declarations::Counted;
 use declarations::check_domains;
@@ -31,13 +32,6 @@ use weights::Weight;
 pub enum Rules {
     Found(usize, usize, Weight),
     Refused(u8),
-}
-
-fn narrow32(x: usize) -> u32
-    requires { ⌜ x < 4294967296 ⌝ }
-    ensures { λ r. ⌜ r ≡ x ⌝ }
-{
-    x as u32
 }
 
 // ── processes ──

@@ -6,7 +6,7 @@ use Rattle.declarations.proofs.note.Statement.{statement}
 use Rattle.declarations.proofs.note.Tie as tie
 use Rattle.declarations.proofs.note.Reads as reads
 use Rattle.declarations.proofs.note.Lts as lts
-use Rattle.declarations.proofs.low32.Reads as low32-reads
+use Rattle.arguments.proofs.low32.Reads as low32-reads
 
 pub note-spec : {M : Type 1} → statement M
 note-spec =

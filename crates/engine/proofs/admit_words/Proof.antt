@@ -5,7 +5,7 @@ use Rattle.engine.proofs.admit_words.Statement.{statement}
 use Rattle.engine.proofs.admit_words.Tie as tie
 use Rattle.engine.proofs.admit_words.Reads as reads
 use Rattle.engine.proofs.admit_words.Lts as lts
-use Rattle.engine.proofs.cells_word.Reads as cells-word-reads
+use Rattle.arguments.proofs.narrow32.Reads as narrow32-reads
 use Rattle.engine.proofs.judge.Reads as judge-reads
 use Rattle.engine.proofs.zeros.Reads as zeros-reads
 use Rattle.rules.proofs.read.Reads as read-reads
@@ -52,8 +52,8 @@ returns-2 : tie.Need-returns-2
 returns-2 c = record { answer = words-behind (c .before .before .before .before .before .before .before .before .before .before .before .before .before .before .before .before .before .args .t .now) _ (c .before .before .before .before .before .before .before .before .before .before .before .read .ensures .answer) _ _ _ (c .before .before .before .before .before .left .given .1) _ (c .before .before .last .ensures) _ (c .before .zeros .ensures) (c .if2 .taken); described = c .before .before .before .before .before .before .before .before .before .before .before .read .ensures .directory }
 
 -- src/lib.rt:104:19
-cells-word-requires : tie.Need-cells-word-requires
-cells-word-requires c κs = words-few (c .before .before .before .before .before .before .before .before .before .before .before .before .before .before .before .before .before .args .t .now) _ (c .before .before .before .before .before .before .before .before .before .before .before .read .ensures .answer) _ _ _ (c .before .before .before .before .before .left .given .1)
+narrow32-requires : tie.Need-narrow32-requires
+narrow32-requires c κs = words-few (c .before .before .before .before .before .before .before .before .before .before .before .before .before .before .before .before .before .args .t .now) _ (c .before .before .before .before .before .before .before .before .before .before .before .read .ensures .answer) _ _ _ (c .before .before .before .before .before .left .given .1)
 
 -- src/lib.rt:104:13
 judge-requires : tie.Need-judge-requires
@@ -73,7 +73,7 @@ same-length-6 c = search needs
 
 -- src/lib.rt:92:1
 returns-3 : tie.Need-returns-3
-returns-3 c = record { answer = words-judged (c .before .before .before .before .before .before .before .before .before .before .before .before .before .before .before .before .before .before .before .args .t .now) _ (c .before .before .before .before .before .before .before .before .before .before .before .before .before .read .ensures .answer) _ _ _ (c .before .before .before .before .before .before .before .left .given .1) _ (c .before .before .before .before .last .ensures) _ (c .before .before .before .zeros .ensures) _ _ (omega (arith, c .before .before .before .before .before .if1 .left)) (c .before .before .if2 .left) (c .before .cells-word .ensures) (c .judge .ensures); described = c .before .before .before .before .before .before .before .before .before .before .before .before .before .read .ensures .directory }
+returns-3 c = record { answer = words-judged (c .before .before .before .before .before .before .before .before .before .before .before .before .before .before .before .before .before .before .before .args .t .now) _ (c .before .before .before .before .before .before .before .before .before .before .before .before .before .read .ensures .answer) _ _ _ (c .before .before .before .before .before .before .before .left .given .1) _ (c .before .before .before .before .last .ensures) _ (c .before .before .before .zeros .ensures) _ _ (omega (arith, c .before .before .before .before .before .if1 .left)) (c .before .before .if2 .left) (c .before .narrow32 .ensures) (c .judge .ensures); described = c .before .before .before .before .before .before .before .before .before .before .before .before .before .read .ensures .directory }
 
 -- src/lib.rt:92:1
 same-length-7 : tie.Need-same-length-7
@@ -101,7 +101,7 @@ admit-words-spec =
     same-length-3
     same-length-4
     returns-2
-    cells-word-requires
+    narrow32-requires
     judge-requires
     enum-known-k
     same-length-5

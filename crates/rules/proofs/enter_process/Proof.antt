@@ -6,7 +6,7 @@ use Rattle.rules.proofs.enter_process.Tie as tie
 use Rattle.rules.proofs.enter_process.Reads as reads
 use Rattle.rules.proofs.enter_process.Lts as lts
 use Rattle.declarations.proofs.copy.Reads as copy-reads
-use Rattle.rules.proofs.narrow32.Reads as narrow32-reads
+use Rattle.arguments.proofs.narrow32.Reads as narrow32-reads
 use Rattle.scan.proofs.first.Reads as first-reads
 
 pub enter-process-spec : {M : Type 1} → statement M

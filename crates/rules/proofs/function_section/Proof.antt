@@ -8,7 +8,7 @@ use Rattle.rules.proofs.function_section.Tie as tie
 use Rattle.rules.proofs.function_section.Reads as reads
 use Rattle.rules.proofs.function_section.Lts as lts
 use Rattle.declarations.proofs.functions.Reads as functions-reads
-use Rattle.rules.proofs.narrow32.Reads as narrow32-reads
+use Rattle.arguments.proofs.narrow32.Reads as narrow32-reads
 use Rattle.rules.proofs.process_section.Reads as process-section-reads
 use Rattle.rules.proofs.with_cells.Reads as with-cells-reads
 use Rattle.scan.proofs.count.Reads as count-reads

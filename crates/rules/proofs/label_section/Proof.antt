@@ -11,7 +11,7 @@ use Rattle.arguments.proofs.entry.Reads as entry-reads
 use Rattle.arguments.proofs.wide32.Reads as wide32-reads
 use Rattle.declarations.proofs.enter_labels.Reads as enter-labels-reads
 use Rattle.rules.proofs.function_section.Reads as function-section-reads
-use Rattle.rules.proofs.narrow32.Reads as narrow32-reads
+use Rattle.arguments.proofs.narrow32.Reads as narrow32-reads
 use Rattle.scan.proofs.count.Reads as count-reads
 use Rattle.scan.proofs.first.Reads as first-reads
 use Rattle.scan.proofs.last.Reads as last-reads

@@ -10,7 +10,7 @@ use Rattle.engine.proofs.counting.count_at.Reads as reads
 use Rattle.engine.proofs.counting.count_at.Lts as lts
 use Rattle.arguments.proofs.entry.Reads as entry-reads
 use Rattle.arguments.proofs.wide32.Reads as wide32-reads
-use Rattle.engine.proofs.low32.Reads as low32-reads
+use Rattle.arguments.proofs.low32.Reads as low32-reads
 use Rattle.steps.proofs.counting.count_moves.Reads as count-moves-reads
 use Rattle.steps.proofs.storing.load_store.Reads as load-store-reads
 

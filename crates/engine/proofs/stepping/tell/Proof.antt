@@ -7,7 +7,7 @@ use Rattle.engine.proofs.stepping.tell.Lts as lts
 use Rattle.actions.proofs.argument_at.Reads as argument-at-reads
 use Rattle.actions.proofs.argument_count.Reads as argument-count-reads
 use Rattle.actions.proofs.label_of.Reads as label-of-reads
-use Rattle.engine.proofs.low32.Reads as low32-reads
+use Rattle.arguments.proofs.low32.Reads as low32-reads
 
 -- src/stepping.rt:70:19
 low32-requires : tie.Need-low32-requires

@@ -4,7 +4,7 @@ use Rattle.engine.proofs.stepping.wanted.Statement.{statement}
 use Rattle.engine.proofs.stepping.wanted.Tie as tie
 use Rattle.engine.proofs.stepping.wanted.Reads as reads
 use Rattle.engine.proofs.stepping.wanted.Lts as lts
-use Rattle.engine.proofs.low32.Reads as low32-reads
+use Rattle.arguments.proofs.low32.Reads as low32-reads
 use Rattle.steps.proofs.counting.first_move.Reads as first-move-reads
 
 -- src/stepping.rt:121:33
