@@ -1,19 +1,19 @@
 -- A case for each way that these functions return; the premises have the form of what the code tells there, so that `search` finds them.
 use mathlib.Core.Path.{_≡_, refl, sym, ap, _∙_}
-use mathlib.Core.Bool.{Bool, false, cond}
+use mathlib.Core.Bool.{false, cond}
 use mathlib.Core.List.{List, [], _∷_, _++_}
 use Prim.Native.Nat.{ℕ, _+_, _-_, _*_, _/_, _%_, _^_, _≤_, _<_}
 use native.Mathlib.Omega.{arith}
 use lib.Dec.{eqb, lit<}
-use lib.ListN.{length, take, getD, length-append, List·getD-eq-default}
+use lib.ListN.{length, getD, length-append, List·getD-eq-default}
 use borrow.Author.Tests.{eq-eqb, ne-eqb}
 use Rattle.eb3.specs.Generic.AllLists.{All}
-use Rattle.eb3.specs.Terms.{VisibleAction, Action, visible, Mask, bit, in-mask}
+use Rattle.eb3.specs.Terms.{VisibleAction, visible, Mask, bit}
 use Rattle.eb3.specs.Spelling.{number-words, arguments-words}
 use Rattle.eb3.specs.Laws.Sizes.{arguments-double}
 use Rattle.eb3.specs.Laws.Spelling.{arguments-length}
 use Rattle.actions.specs.Codes.{arguments-code, action-code, Small, Closed, ActionAt}
-use Rattle.actions.specs.CodesLaws.{label-in, masked-code, label-back, arguments-back, visible-positive, masked-right}
+use Rattle.actions.specs.CodesLaws.{label-in, masked-code, label-back, arguments-back, visible-positive}
 
 pub word-none : (t : List ℕ) (i : ℕ) → length t ≤ i → _≡_ {A = ℕ} 0 (getD t i 0) × (0 < 65536)
 word-none t i h = (sym (List·getD-eq-default t 0 h), lit< tt)
@@ -159,9 +159,6 @@ pub masked-some : (Δ : Mask) (code w i : ℕ) → (code ≡ 0 → ⊥) → i �
 unfolding masked-code label-in bit
 masked-some Δ code w i h e f = rw (ne-eqb code 0 h, f, e)
 
-pub in-right : (Δ : Mask) (code : ℕ) {r : Bool} → r ≡ masked-code Δ code → (ρ : Action) → Small ρ → code ≡ action-code ρ → 4 ≤ length Δ → r ≡ in-mask (take 4 Δ) ρ
-in-right Δ code e ρ h f l = e ∙ ap (masked-code Δ) f ∙ masked-right Δ ρ h
-
 -- ── a number taken apart ──
 
 module _ (code : ℕ) where
@@ -236,4 +233,4 @@ module _ (code q : ℕ) (number : Number code q) where
 pub found-none : (code i : ℕ) → (i ≡ 0 → ⊥) → (i ≡ 1 → ⊥) → (a : VisibleAction) → Small (visible a) → code ≡ action-code (visible a) → 0 ≡ getD (a .arguments) i 0
 found-none code i z o a h e = sym (List·getD-eq-default (a .arguments) 0 (omega (arith, h .1)))
 
-pub ruleset cases = (word-none, count-none-short, count-none, count-one-short, count-one, count-two, behind-some, behind-none, code-none, code-one, code-two, masked-none, masked-some, in-right, label-none, label-some, arguments-none, arguments-some, counted-none, counted-one, counted-two, found-first, found-second, found-none)
+pub ruleset cases = (word-none, count-none-short, count-none, count-one-short, count-one, count-two, behind-some, behind-none, code-none, code-one, code-two, masked-none, masked-some, label-none, label-some, arguments-none, arguments-some, counted-none, counted-one, counted-two, found-first, found-second, found-none)

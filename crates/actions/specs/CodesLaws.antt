@@ -1,6 +1,6 @@
 -- Laws of actions' numbers: equal numbers are equal actions, and a number tells the label and the arguments.
 -- Document 01, "Moves, in order": equal actions, label and arguments.
-use mathlib.Core.Path.{_≡_, refl, sym, ap, _∙_, subst}
+use mathlib.Core.Path.{_≡_, refl, ap, _∙_, subst}
 use mathlib.Core.Bool.{Bool, true, false, cond}
 use mathlib.Core.List.{List, [], _∷_}
 use Prim.Native.Nat.{ℕ, _-_, _/_, _%_, _^_, _<_}
@@ -87,6 +87,3 @@ unfolding masked-code action-code in-mask
 masked-is Δ internal h = refl
 masked-is Δ (visible a) h =
     ap (λ b. cond b false (bit Δ (label-in (action-code (visible a))))) (ne-eqb (action-code (visible a)) 0 (visible-positive a)) ∙ ap (bit Δ) (label-back a h)
-
-pub masked-right : (Δ : Mask) (ρ : Action) → Small ρ → masked-code Δ (action-code ρ) ≡ in-mask (take 4 Δ) ρ
-masked-right Δ ρ h = sym (masked-front Δ (action-code ρ)) ∙ masked-is (take 4 Δ) ρ h

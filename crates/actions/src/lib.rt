@@ -3,8 +3,8 @@ ghost use mathlib.Core.Path.{_≡_};
 ghost use mathlib.Core.Bool.{Bool};
 ghost use mathlib.Core.List.{List, [], _∷_, _++_};
 ghost use Prim.Native.Nat.{ℕ, _+_, _*_, _-_, _≤_, _<_};
-ghost use lib.ListN.{length, take, drop, getD};
-ghost use Rattle.eb3.specs.Terms.{VisibleAction, Action, visible, in-mask};
+ghost use lib.ListN.{length, getD};
+ghost use Rattle.eb3.specs.Terms.{VisibleAction, visible};
 ghost use Rattle.actions.specs.Codes.{arguments-code, action-code, Small, ActionAt};
 ghost use Rattle.actions.specs.CodesLaws.{masked-code};
 
@@ -88,13 +88,6 @@ pub fn masked(mask: &[u16], code: u32) -> bool
     let label = (code - 1) % 64;
     let w = word(mask, place(label / 16));
     (w >> (label % 16)) % 2 == 1
-}
-
-// Whether the action of a number is in the mask whose four words stand in front.
-pub fn in_mask(mask: &[u16], code: u32) -> bool
-    ensures { λ r. ⌜ ((ρ : Action) → Small ρ → code ≡ action-code ρ → 4 ≤ length (now (mask .entry)) → r ≡ in-mask (take 4 (now (mask .entry))) ρ) ⌝ }
-{
-    masked(mask, code)
 }
 
 // ── a number taken apart ──

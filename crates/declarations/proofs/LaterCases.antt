@@ -15,6 +15,7 @@ use Rattle.eb3.specs.Reading.{Read, refused, taken, Reader, giving, then, both,
 use Rattle.eb3.specs.ExpressionReading.{read-data}
 use Rattle.scan.specs.Checking.{checked, last-of}
 use Rattle.scan.specs.Laws.{Tail, tail-on, last-all, tail-at, tail-short, got}
+use Rattle.scan.specs.ReadingLaws.{checked-refused, not-taken}
 use Rattle.scan.specs.RowLaws.{last-tail, passed}
 use Rattle.grammar.specs.Laws.{data-ends}
 use Rattle.arguments.specs.Tables.{from, row}
@@ -99,11 +100,6 @@ taken-on ds b bs f t d u e = rw e (go (for-each bs f u))
     go (refused k) = refl
     go (taken es v) = ap (λ l. taken l v) (sym (append-assoc ds (d ∷ []) es))
 
-was-refused : {A : Type 0} (r : Read A) (k : ℕ) → Refused k ≡ checked r → r ≡ refused k
-unfolding checked
-was-refused (refused j) k e = (let z : j ≡ k = cc in ap refused z)
-was-refused (taken a u) k e = absurd (let z : _≡_ {A = ℕ} 0 1 = cc in omega arith)
-
 module _ (t T D₀ R u D D₁ : List ℕ) (n i k at left l : ℕ) (p : Checked) (s : Sofar t T D₀ n i k at D left l) (lt : l < k) (g : D₁ ≡ set D (at + l) (left % 4294967296)) (is-u : u ≡ last-of left t)
     (r : R ≡ row T (18 + 3 * l)) (e : p ≡ checked (read-data 1 (at-label n i (length R)) u)) where
   abbrev this : Reader Data
@@ -124,16 +120,13 @@ module _ (t T D₀ R u D D₁ : List ℕ) (n i k at left l : ℕ) (p : Checked) 
   pub sofar-fail : (j : ℕ) → p ≡ Refused j → LabelsNoted T n i k t D₀ at (Refused j) D₁
   unfolding checked
   sofar-fail j h =
-      let f : label-expressions T n i k t ≡ refused j = on ∙ refused-on (s .ds) (row T (18 + 3 * l)) (labels-of T (l + 1) (k - (l + 1))) (for-label n i) u j (was-refused (this u) j (sym h ∙ here)) in
+      let f : label-expressions T n i k t ≡ refused j = on ∙ refused-on (s .ds) (row T (18 + 3 * l)) (labels-of T (l + 1) (k - (l + 1))) (for-label n i) u j (checked-refused (this u) j (sym h ∙ here)) in
       record {
         answer = sym (ap checked f);
         same-length = as-long;
         kept = λ m b. other m (omega arith) ∙ s .kept m b;
-        found = λ whole a v tl small room q. absurd (not-both j a v (sym f ∙ q));
+        found = λ whole a v tl small room q. absurd (not-taken (label-expressions T n i k t) j a v f q);
       }
-    where
-      not-both : (j : ℕ) (a : List Data) (v : List ℕ) → refused j ≡ taken a v → ⊥
-      not-both j a v e = (let z : _≡_ {A = ℕ} 0 1 = cc in omega arith)
 
   module _ (m : ℕ) (h : p ≡ Left m) where
     it : (d : Data) × (this u ≡ taken d (last-of m u))

@@ -18,6 +18,7 @@ use Rattle.eb3.specs.ExpressionReading.{read-data}
 use Rattle.eb3.specs.RuleReading.{function-from, read-function}
 use Rattle.scan.specs.Checking.{checked, last-of}
 use Rattle.scan.specs.Laws.{Tail, Fine, tail-at, tail-on}
+use Rattle.scan.specs.ReadingLaws.{checked-refused, not-taken}
 use Rattle.scan.specs.RowLaws.{last-tail}
 use Rattle.grammar.specs.Laws.{data-ends}
 use Rattle.arguments.specs.Tables.{declared}
@@ -33,13 +34,6 @@ use Rattle.declarations.specs.Noting.{start-of, for-label, label-express
 use Rattle.declarations.proofs.FunctionCases.{sizes-in, expressions-out, expressions-in, function-on, function-out, function-stops, function-in, functions-next, functions-none, functions-out, functions-stop, functions-in}
 
 -- ── what is refused was not taken ──
-
-unread : {A : Type 0} (r : Read A) (j : ℕ) (a : A) (u : List ℕ) → Refused j ≡ checked r → r ≡ taken a u → ⊥
-unfolding checked
-unread r j a u e f =
-    let o : Refused j ≡ Left (length u) = e ∙ ap checked f in
-    let z : _≡_ {A = ℕ} 0 1 = cc in
-    omega arith
 
 no-function : (D : List ℕ) (r : Read Function) (j : ℕ) (F : Function) (u : List ℕ) → CountRefused j ≡ function-cells D r → r ≡ taken F u → ⊥
 unfolding function-cells
@@ -77,7 +71,7 @@ module _ (T t D D₁ : List ℕ) (n i at : ℕ) (g : D₁ ≡ set D at (length t
         answer = a;
         same-length = noted-length D D₁ at _ g;
         kept = noted-other D D₁ at _ g;
-        found = λ whole b u tl small room f. absurd (unread (expressions-of T n i t) j b u a f);
+        found = λ whole b u tl small room f. absurd (not-taken (expressions-of T n i t) j b u (checked-refused (expressions-of T n i t) j a) f);
       }
 
   -- a is the word read, x the number that it is

@@ -19,7 +19,7 @@ use Rattle.paths.specs.Paths.{path}
 use Rattle.paths.specs.PathLaws.{path-length}
 use Rattle.deriving.specs.Derived.{passed, full, move-count, Derived}
 use Rattle.deriving.specs.Arms.{Sound, Outcome, Decided}
-use Rattle.deriving.proofs.Operands.{answer-is}
+use Rattle.listing.specs.Operands.{answer-is}
 
 -- ── a decision ──
 

@@ -20,7 +20,7 @@ use Rattle.listing.specs.RoomLaws.{room-after-done, room-sequence, room-choice,
 use Rattle.paths.specs.Paths.{path}
 use Rattle.deriving.specs.Derived.{passed, full, move-count, Derived}
 use Rattle.deriving.specs.Arms.{Sound, Outcome, Decided, TwoDerived}
-use Rattle.deriving.proofs.Operands.{answer-is, answered-left, answered-count, first-done, first-other, second-behind, truth-none, truth-some, holds, guarded-here, front-form}
+use Rattle.listing.specs.Operands.{answer-is, answered-left, answered-count, first-done, first-other, second-behind, truth-none, truth-some, holds, guarded-here, front-form}
 use Rattle.deriving.proofs.Answers.{by-order, never-full, sound-lost, sound-more, sound-passed, sound-of, derived-of, outcome-of, outcome-as, outcome-early, outcome-later, outcome-place, outcome-passed, outcome-single, sound-single, decided-sound, before-full, decided-room, decided-outcome, derived-room}
 use Rattle.deriving.proofs.Counts.{count-done, count-internal, count-perform, count-after-done, count-sequence, count-choice, count-star, count-guard, count-shut, path-after-done, path-sequence, path-choice, path-end, path-round, path-guard, path-internal, path-perform, two-first, two-second}
 

@@ -1,5 +1,4 @@
 mod Searches
-mod Operands
 mod Places
 mod Locating
 mod Answers

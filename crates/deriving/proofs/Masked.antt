@@ -22,7 +22,7 @@ use Rattle.paths.specs.Paths.{Sought, at, beyond, seek, code-in-mask, pair-from
 use Rattle.deriving.specs.Derived.{passed, full, move-count}
 use Rattle.deriving.specs.Searching.{sides-of, Within, LocatedBy}
 use Rattle.deriving.specs.Arms.{SidesDerived, MaskedDerived}
-use Rattle.deriving.proofs.Operands.{answer-is, answered-left, answered-count, mask-len}
+use Rattle.listing.specs.Operands.{answer-is, answered-left, answered-count, mask-len}
 use Rattle.deriving.proofs.Answers.{never-full, sound-lost, sound-passed}
 use Rattle.deriving.proofs.Counts.{count-codes}
 use Rattle.deriving.proofs.Locating.{same-mask}

@@ -16,7 +16,7 @@ use Rattle.listing.specs.RoomLaws.{room-zero, room-masked}
 use Rattle.paths.specs.Paths.{path}
 use Rattle.deriving.specs.Derived.{passed, full, move-count, Derived}
 use Rattle.deriving.specs.Arms.{Outcome, Decided, TwoDerived, MaskedDerived}
-use Rattle.deriving.proofs.Operands.{answer-is, BothDone, behind-both, mask-len}
+use Rattle.listing.specs.Operands.{answer-is, BothDone, behind-both, mask-len}
 use Rattle.deriving.proofs.Answers.{by-order, sound-more, derived-of, outcome-as, outcome-single, sound-single, decided-sound, decided-room, decided-outcome}
 use Rattle.deriving.proofs.Counts.{count-both-done, count-masked, count-zero, path-both-done, path-masked, path-zero}
 

@@ -1,16 +1,13 @@
 // The path of move k of a running term, found in one walk over the term (document 01, "Moves, in order").
 ghost use mathlib.Core.Path.{_≡_};
-ghost use mathlib.Core.Bool.{not, _&&_};
+ghost use mathlib.Core.Bool.{not};
 ghost use Prim.Native.Nat.{ℕ, _+_, _-_, _≤_, _<_};
 ghost use mathlib.Core.List.{List, [], _∷_, _++_};
 ghost use lib.Dec.{eqb};
 ghost use lib.ListN.{length, take, drop, getD};
 ghost use lib.Seq.{slice};
-ghost use Rattle.eb3.specs.Scopes.{Scope};
-ghost use Rattle.eb3.specs.Terms.{Term, done?};
 ghost use Rattle.expressions.specs.Answering.{answer};
 ghost use Rattle.actions.specs.CodesLaws.{masked-code};
-ghost use Rattle.listing.specs.Positions.{TwoAt};
 ghost use Rattle.deriving.specs.Derived.{passed, full, Derived};
 ghost use Rattle.deriving.specs.Searching.{nth-place, nth-pair, sides-end, LocatedBy};
 ghost use Rattle.deriving.specs.Arms.{Decided, TwoDerived, SidesDerived, BothDerived, MaskedDerived};
@@ -18,6 +15,8 @@ use actions::behind_action;
 use actions::masked;
 use arguments::mask_zero;
 use expressions::eval_cond;
+use listing::behind_mask;
+use listing::both_done;
 use listing::list;
 use listing::skip;
 use scan::behind;
@@ -158,27 +157,6 @@ fn decide(c: u16, r: usize, path: &mut [u16]) -> usize
     let at = r - 1;
     path[at] = c;
     at
-}
-
-// The words behind the mask in front.
-fn behind_mask(d: &[u16]) -> &[u16]
-    ensures { λ r. ⌜ now r ≡ drop 4 (now (d .entry)) ⌝ }
-{
-    let n = d.len();
-    if 4 <= n {
-        return &d[4..];
-    }
-    &d[n..]
-}
-
-// Whether both of the terms in front are done.
-fn both_done(t: &[u16]) -> bool
-    ensures { λ r. ⌜ ((P : Scope) (E F : Term) (rest : List ℕ) → TwoAt (now (t .entry)) P E F rest → r ≡ (done? E && done? F)) ⌝ }
-{
-    if first(t) == 30 {
-        return first(behind(t)) == 30;
-    }
-    false
 }
 
 // ── the walk ──

@@ -1,12 +1,11 @@
 -- Laws of answers: what an evaluation answers is taken apart again, and every value in a store is a word.
 -- Document 01, "Values and conditions".
-use mathlib.Core.Path.{_≡_, sym, ap, _∙_, subst}
+use mathlib.Core.Path.{_≡_, ap, _∙_, subst}
 use mathlib.Core.Bool.{Bool, true, false}
 use mathlib.Core.List.{List, _++_}
 use Prim.Native.Nat.{ℕ, _+_, _/_, _%_, _≤_, _<_}
 use native.Mathlib.Omega.{arith}
 use lib.ListN.{length}
-use lib.Seq.{drop-append-seam}
 use lib.Dec.{lit<}
 use Rattle.eb3.specs.Values.{Value, undefined, number, encode, decode, AtMost}
 use Rattle.eb3.specs.Laws.Values.{bounded-at-most, add-at-most, subtract-at-most, cond-at-most, decode-encode}
@@ -15,14 +14,11 @@ use Rattle.eb3.specs.Laws.Attributes.{apply-at-most}
 use Rattle.eb3.specs.Scopes.{Scope, data-in-scope}
 use Rattle.eb3.specs.Spelling.{data-words, cond-words}
 use Rattle.scan.specs.Checking.{last-of}
-use Rattle.scan.specs.Laws.{tail-at}
+use Rattle.scan.specs.Laws.{last-behind}
 use Rattle.expressions.specs.Stores.{cell-in, reading-in, variable-in, environment-in, before-place}
 use Rattle.expressions.specs.Answering.{value-word, truth, answer, Plain, DataAt, CondAt, Evaluated, Judged}
 
 -- ── words and answers ──
-
-pub last-behind : (a r : List ℕ) → last-of (length r) (a ++ r) ≡ r
-last-behind a r = tail-at r (a ++ r) (length a, sym (drop-append-seam a r))
 
 pub answer-left : (w l : ℕ) → w < 65536 → answer w l / 65536 ≡ l
 unfolding answer

@@ -5,7 +5,7 @@ use mathlib.Core.List.{List, [], _∷_, _++_, append-nil}
 use Prim.Native.Nat.{ℕ, _+_, _-_, _*_, _/_, _%_, _≤_, _<_}
 use native.Mathlib.Nat.{le-refl}
 use native.Mathlib.Omega.{arith}
-use lib.ListN.{length, take, drop, set, getD, length-append, length-drop, length-set, drop-of-length-le}
+use lib.ListN.{length, take, drop, set, length-append, length-drop, length-set}
 use lib.Seq.{take-append-add, drop-length, length-take-le}
 use Rattle.eb3.specs.Expressions.{Cond}
 use Rattle.eb3.specs.Scopes.{Scope}
@@ -16,18 +16,8 @@ use Rattle.scan.specs.Laws.{part}
 use Rattle.expressions.specs.Answering.{answer}
 use Rattle.listing.specs.Listing.{TermAt, holding, codes, room, full, Right, Listed}
 use Rattle.listing.specs.Positions.{TwoAt, second-at, behind-shorter}
+use Rattle.listing.specs.Operands.{answer-is, answered-left, answered-count}
 use Rattle.listing.specs.Arms.{Lists, Sound, OneListed, TwoListed}
-
-pub answer-is : (left n : ℕ) → answer left n ≡ left + 65536 * n
-unfolding answer
-answer-is left n = refl
-
-module _ (r left n : ℕ) (e : r ≡ answer left n) (h : left ≤ 65535) where
-  pub answered-left : r % 65536 ≡ left
-  answered-left = omega (arith, e, answer-is left n)
-
-  pub answered-count : r / 65536 ≡ n
-  answered-count = omega (arith, e, answer-is left n)
 
 -- ── the whole ──
 
@@ -189,24 +179,11 @@ module _ (t M entry mid : List ℕ) (l : ℕ) (first : Listed t M entry mid l) (
 
 -- ── what the recursion asks ──
 
-pub front-len : (s : List ℕ) (w : ℕ) → w ≡ getD s 0 0 → w < 65536 → w ≤ 65536 * length s
-front-len [] w e h = omega arith
-front-len (x ∷ s) w e h = omega arith
-
-pub mask-len : (d t : List ℕ) → t ≡ drop 4 d → length t ≤ length d
-mask-len d t e = omega (arith, ap length e, length-drop 4 d)
-
-pub mask-short : (d t : List ℕ) → t ≡ drop 4 d → length d ≤ 65535 → length t ≤ 65535
-mask-short d t e h = omega (arith, mask-len d t e)
-
 pub lent-len : (x : List ℕ) (n : ℕ) → length (take (length x - n) (drop n x)) ≤ length x
 lent-len x n = omega (arith, ap length (part n x), length-drop n x)
 
 pub star-lent : (entry : List ℕ) → length entry ≤ 131072 → length (take (length (set entry 0 0) - 1) (drop 1 (set entry 0 0))) ≤ 131072
 star-lent entry h = omega (arith, lent-len (set entry 0 0) 1, length-set entry 0 0)
-
-pub mask-short-drop : (d : List ℕ) → length d < 4 → drop (length d) d ≡ drop 4 d
-mask-short-drop d h = drop-length d ∙ sym (drop-of-length-le d {i = 4} (omega arith))
 
 pub lent-few : {t M entry mid : List ℕ} {l : ℕ} → Listed t M entry mid l → length entry ≤ 131072 → length (take (length mid - l / 65536) (drop (l / 65536) mid)) ≤ 131072
 lent-few {t} {M} {entry} {mid} {l} h k = omega (arith, lent-len mid (l / 65536), h .same-length)

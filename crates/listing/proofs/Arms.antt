@@ -1,24 +1,23 @@
 -- Each form of a term: from its operands' answers to its own.
 use mathlib.Core.Path.{_≡_, refl, sym, ap, _∙_, subst}
-use mathlib.Core.Bool.{Bool, true, false, _&&_}
 use mathlib.Core.List.{List, [], _∷_, _++_}
 use Prim.Native.Nat.{ℕ, _+_, _*_, _/_, _%_, _≤_, _<_}
 use native.Mathlib.Omega.{arith}
 use lib.ListN.{length, drop, getD}
-use lib.Dec.{eqb}
 use Rattle.eb3.specs.Scopes.{Scope}
-use Rattle.eb3.specs.Terms.{Term, Done, Internal, Perform, Sequence, Choice, Star, Parallel, Guard, VisibleAction, visible, done?}
+use Rattle.eb3.specs.Terms.{Term, Done, Internal, Perform, Sequence, Choice, VisibleAction, visible}
 use Rattle.eb3.specs.Spelling.{words}
 use Rattle.scan.specs.Checking.{last-of}
 use Rattle.actions.specs.Codes.{action-code, ActionAt}
 use Rattle.listing.specs.Listing.{TermAt, holding, codes, room, full, Right, Listed}
-use Rattle.listing.specs.Positions.{code-in-front, TwoAt, term-front, second-at, behind-shorter}
-use Rattle.listing.specs.ByCode.{NoOther, by-done, by-rest}
+use Rattle.listing.specs.Positions.{term-front, second-at, behind-shorter}
+use Rattle.listing.specs.ByCode.{NoOther, by-rest}
 use Rattle.listing.specs.CasesByCode.{internal-cases, perform-cases, sequence-cases, choice-cases}
+use Rattle.listing.specs.Operands.{answer-is, answered-left, answered-count, first-done, first-other, second-behind, front-form}
 use Rattle.listing.specs.CodeLaws.{codes-done, codes-internal, codes-perform, codes-after-done, codes-sequence, codes-choice}
 use Rattle.listing.specs.RoomLaws.{room-after-done, room-sequence, room-choice}
 use Rattle.listing.specs.Arms.{Lists, Sound, OneListed, TwoListed}
-use Rattle.listing.proofs.Answers.{answer-is, answered-left, answered-count, sound-lost, never-full, sound-of, listed-of, right-of, lists-of}
+use Rattle.listing.proofs.Answers.{sound-lost, never-full, sound-of, listed-of, right-of, lists-of}
 
 -- ── no operand, or two listed one behind the other ──
 
@@ -46,65 +45,6 @@ none-sound entry n h = record { same-length = refl; bounded = omega arith; count
 
 pub none-lists : (exit : List ℕ) (left r : ℕ) → r ≡ left → Lists [] left exit r
 none-lists exit left r e = record { counted = omega (arith, e, answer-is left 0); listed = refl }
-
--- ── which operands are done ──
-
-is-done : (E : Term) → 30 ≡ code-in-front E → E ≡ Done
-is-done E e = by-done (λ X. X ≡ Done) refl E e
-
-pub done-test : (E : Term) → 30 ≡ code-in-front E → done? E ≡ true
-unfolding done?
-done-test E e = ap done? (is-done E e)
-
-pub other-test : (E : Term) → (code-in-front E ≡ 30 → ⊥) → done? E ≡ false
-unfolding done? code-in-front
-other-test Done h = absurd (h refl)
-other-test Internal h = refl
-other-test (Perform a) h = refl
-other-test (Sequence E F) h = refl
-other-test (Choice E F) h = refl
-other-test (Star E) h = refl
-other-test (Parallel Δ E F) h = refl
-other-test (Guard C E) h = refl
-
-module _ {t : List ℕ} {P : Scope} {E F : Term} {rest : List ℕ} (s : TwoAt t P E F rest) where
-  first-done : getD t 0 0 ≡ 30 → done? E ≡ true
-  first-done e = done-test E (sym e ∙ term-front t P E (words 1 F ++ rest) (s .first))
-
-  first-other : (getD t 0 0 ≡ 30 → ⊥) → done? E ≡ false
-  first-other h = other-test E (λ e. h (term-front t P E (words 1 F ++ rest) (s .first) ∙ e))
-
-  -- behind a term that is done
-  behind-done : getD t 0 0 ≡ 30 → drop 1 t ≡ words 1 F ++ rest
-  unfolding words
-  behind-done e =
-      let d : E ≡ Done = is-done E (sym e ∙ term-front t P E (words 1 F ++ rest) (s .first)) in
-      ap (drop 1) (s .first .spelled ∙ ap (λ X. words 1 X ++ (words 1 F ++ rest)) d)
-
-  second-behind : (u : List ℕ) → getD t 0 0 ≡ 30 → u ≡ drop 1 t → TermAt u P F rest
-  second-behind u e f = record { plain = s .second .plain; fits = s .second .fits; spelled = f ∙ behind-done e; closed = s .second .closed }
-
-abbrev pub BothDone : List ℕ → Bool → Type 0
-BothDone t b = (P : Scope) (E F : Term) (rest : List ℕ) → TwoAt t P E F rest → b ≡ (done? E && done? F)
-
-done-code : (F : Term) → eqb (code-in-front F) 30 ≡ done? F
-unfolding done? code-in-front
-done-code Done = refl
-done-code Internal = refl
-done-code (Perform a) = refl
-done-code (Sequence E F) = refl
-done-code (Choice E F) = refl
-done-code (Star E) = refl
-done-code (Parallel Δ E F) = refl
-done-code (Guard C E) = refl
-
-pub both-second : (t u : List ℕ) (w v : ℕ) → w ≡ getD t 0 0 → w ≡ 30 → u ≡ drop 1 t → v ≡ getD u 0 0 → BothDone t (eqb v 30)
-both-second t u w v a e f i P E F rest s =
-    let b = second-behind s u (sym a ∙ e) f in
-    ap (λ n. eqb n 30) (i ∙ term-front u P F rest b) ∙ done-code F ∙ ap (λ x. x && done? F) (sym (first-done s (sym a ∙ e)))
-
-pub both-first : (t : List ℕ) (w : ℕ) → w ≡ getD t 0 0 → (w ≡ 30 → ⊥) → BothDone t false
-both-first t w a h P E F rest s = ap (λ x. x && done? F) (sym (first-other s (λ e. h (a ∙ e))))
 
 -- ── a sequence ──
 
@@ -148,10 +88,6 @@ module _ (t M entry exit : List ℕ) where
         )))
 
 -- ── the code in front ──
-
-front-form : (s t : List ℕ) (w k : ℕ) → w ≡ getD s 0 0 → t ≡ drop 1 s → w ≡ k → 0 < k → s ≡ k ∷ t
-front-form [] t w k a b e z = absurd (omega arith)
-front-form (x ∷ s) t w k a b e z = λ i. (sym a ∙ e) i ∷ sym b i
 
 pub at-front : (s t M entry exit : List ℕ) (w k r : ℕ) → w ≡ getD s 0 0 → t ≡ drop 1 s → w ≡ k → 0 < k → Listed (k ∷ t) M entry exit r → Listed s M entry exit r
 at-front s t M entry exit w k r a b e z h = subst (λ u. Listed u M entry exit r) (sym (front-form s t w k a b e z)) h

@@ -7,20 +7,20 @@ use native.Mathlib.Omega.{arith}
 use lib.ListN.{length, take, drop}
 use lib.Seq.{take-at, drop-at, take-append-add, slice}
 use Rattle.eb3.specs.Scopes.{Scope}
-use Rattle.eb3.specs.Terms.{Term, Done, Internal, Perform, Sequence, Choice, Star, Parallel, Guard, done?}
+use Rattle.eb3.specs.Terms.{Term, Parallel, done?}
 use Rattle.eb3.specs.Spelling.{words}
 use Rattle.eb3.specs.Sizes.{zero-mask}
 use Rattle.scan.specs.Checking.{last-of}
 use Rattle.actions.specs.CodesLaws.{masked-code, masked-front}
 use Rattle.listing.specs.Listing.{holding, codes, room, full, Right, Listed}
 use Rattle.listing.specs.Positions.{TwoAt, MaskedAt}
+use Rattle.listing.specs.Operands.{answer-is, BothDone, behind-both}
 use Rattle.listing.specs.CasesByCode.{parallel-cases}
 use Rattle.listing.specs.Combining.{combined, Combined}
 use Rattle.listing.specs.CodeLaws.{codes-both-done, codes-parallel, combined-zero}
 use Rattle.listing.specs.RoomLaws.{room-both-done, room-zero, room-masked}
 use Rattle.listing.specs.Arms.{OneListed, TwoListed, MaskedListed}
-use Rattle.listing.proofs.Answers.{whole-length, first-count, second-lost, second-count, second-left, second-listed, both-front, both-fit, answer-is, sound-lost, never-full, listed-of, right-of}
-use Rattle.listing.proofs.Arms.{BothDone}
+use Rattle.listing.proofs.Answers.{whole-length, first-count, second-lost, second-count, second-left, second-listed, both-front, both-fit, sound-lost, never-full, listed-of, right-of}
 
 module _ (d t M entry mid : List ℕ) (l : ℕ) (first : Listed t M entry mid l) (short : length t ≤ 65535) (few : length entry ≤ 131072) (ist : t ≡ drop 4 d) where
   sides-at : {P : Scope} {Δ : List ℕ} {E F : Term} {rest : List ℕ} → MaskedAt d P Δ E F rest → TwoAt t P E F rest
@@ -123,32 +123,6 @@ module _ (d t M entry mid : List ℕ) (l : ℕ) (first : Listed t M entry mid l)
           }
 
 -- ── which of them ──
-
-both-words : (t : List ℕ) (E F : Term) (rest : List ℕ) → t ≡ words 1 E ++ (words 1 F ++ rest) → E ≡ Done → F ≡ Done → drop 1 (drop 1 t) ≡ rest
-unfolding words
-both-words t E F rest e f g = ap (λ x. drop 1 (drop 1 x)) (e ∙ (λ i. words 1 (f i) ++ (words 1 (g i) ++ rest)))
-
-when-done : (E : Term) → done? E ≡ true → E ≡ Done
-unfolding done?
-when-done Done h = refl
-when-done Internal h = cc
-when-done (Perform a) h = cc
-when-done (Sequence E F) h = cc
-when-done (Choice E F) h = cc
-when-done (Star E) h = cc
-when-done (Parallel Δ E F) h = cc
-when-done (Guard C E) h = cc
-
-and-first : (a b : Bool) → (a && b) ≡ true → a ≡ true
-and-first true b h = refl
-and-first false b h = h
-
-and-second : (a b : Bool) → (a && b) ≡ true → b ≡ true
-and-second true b h = h
-and-second false b h = cc
-
-behind-both : {t : List ℕ} {P : Scope} {E F : Term} {rest : List ℕ} → TwoAt t P E F rest → (done? E && done? F) ≡ true → drop 1 (drop 1 t) ≡ rest
-behind-both {t} {P} {E} {F} {rest} s q = both-words t E F rest (s .first .spelled) (when-done E (and-first (done? E) (done? F) q)) (when-done F (and-second (done? E) (done? F) q))
 
 module _ (d t M entry exit : List ℕ) (ist : t ≡ drop 4 d) (b : Bool) (tested : BothDone t b) (r : ℕ) where
   sides : {P : Scope} {Δ : List ℕ} {E F : Term} {rest : List ℕ} → MaskedAt d P Δ E F rest → TwoAt t P E F rest

@@ -1,23 +1,20 @@
 -- A star, a guard and a parallel: from their operands' answers to their own.
 use mathlib.Core.Path.{_≡_, refl, sym, ap, _∙_}
-use mathlib.Core.Bool.{Bool, true, false}
 use mathlib.Core.List.{List, [], _∷_, _++_}
 use Prim.Native.Nat.{ℕ, _+_, _-_, _/_, _%_, _≤_, _<_}
 use native.Mathlib.Omega.{arith}
 use lib.ListN.{length, take, drop, set, length-drop, length-set}
-use Rattle.eb3.specs.Expressions.{Cond}
 use Rattle.eb3.specs.Scopes.{Scope}
 use Rattle.eb3.specs.Terms.{Term, Star, Guard}
-use Rattle.eb3.specs.Spelling.{cond-words, words}
 use Rattle.scan.specs.Checking.{last-of}
 use Rattle.scan.specs.Laws.{part}
-use Rattle.expressions.specs.Answering.{truth, answer, Judged}
+use Rattle.expressions.specs.Answering.{Judged}
 use Rattle.listing.specs.Listing.{TermAt, holding, codes, room, full, Right, Listed}
-use Rattle.listing.specs.Positions.{GuardedAt, last-behind}
+use Rattle.listing.specs.Operands.{answer-is, truth-none, truth-some, holds, guarded-here}
 use Rattle.listing.specs.CasesByCode.{star-cases, guard-cases}
 use Rattle.listing.specs.CodeLaws.{codes-star, codes-guard, codes-shut}
 use Rattle.listing.specs.RoomLaws.{room-star, room-guard}
-use Rattle.listing.proofs.Answers.{back-rest, answer-is, answered-left, answered-count, sound-lost, never-full, sound-of, listed-of, right-of, lists-of}
+use Rattle.listing.proofs.Answers.{back-rest, sound-lost, never-full, sound-of, listed-of, right-of, lists-of}
 use Rattle.listing.proofs.Arms.{none-sound, none-lists}
 
 -- ── a star ──
@@ -71,48 +68,20 @@ module _ (t M entry x back : List ℕ) (r : ℕ) (isx : x ≡ set entry 0 0) (so
 
 -- ── a guard ──
 
-truth-small : (b : Bool) → truth b ≤ 65535
-unfolding truth
-truth-small true = omega arith
-truth-small false = omega arith
-
-truth-none : (b : Bool) → truth b ≡ 0 → b ≡ false
-unfolding truth
-truth-none true e = absurd (omega arith)
-truth-none false e = refl
-
-truth-some : (b : Bool) → (truth b ≡ 0 → ⊥) → b ≡ true
-unfolding truth
-truth-some true h = refl
-truth-some false h = absurd (h refl)
-
 module _ (t M u : List ℕ) (c : ℕ) (judged : Judged t M c) (isu : u ≡ last-of (c / 65536) t) where
-  module _ (P : Scope) (C : Cond) (E : Term) (rest : List ℕ) (s : GuardedAt t P C E rest) where
-    told : c ≡ answer (truth (holding M C)) (length (words 1 E ++ rest))
-    told = judged P C (words 1 E ++ rest) (s .condition)
-
-    holds : c % 65536 ≡ truth (holding M C)
-    holds = answered-left c (truth (holding M C)) (length (words 1 E ++ rest)) told (truth-small (holding M C))
-
-    guarded-here : TermAt u P E rest
-    guarded-here =
-        let e : c / 65536 ≡ length (words 1 E ++ rest) = answered-count c (truth (holding M C)) (length (words 1 E ++ rest)) told (truth-small (holding M C)) in
-        let q : u ≡ words 1 E ++ rest = isu ∙ ap (λ n. last-of n t) e ∙ ap (last-of (length (words 1 E ++ rest))) (s .condition .spelled) ∙ last-behind (cond-words 1 C) (words 1 E ++ rest) in
-        record { plain = s .guarded .plain; fits = s .guarded .fits; spelled = q; closed = s .guarded .closed }
-
   pub guard-shut : (entry : List ℕ) (b : ℕ) → c % 65536 ≡ 0 → b ≤ length u → length u ≤ length t → length t ≤ 65535
       → ((P : Scope) (E : Term) (rest : List ℕ) → TermAt u P E rest → b ≡ length rest) → Listed (26 ∷ t) M entry entry b
   guard-shut entry b e bu ut short f = listed-of (none-sound entry b (omega arith)) (guard-cases t (λ P X rest. (room (holding M) X ≤ length entry → b < full) × (b < full → Right (holding M) X rest entry b))
       (λ P C E rest s. (
         λ k. omega arith,
-        λ z. right-of (holding M) (Guard C E) [] (codes-shut (holding M) C E (truth-none (holding M C) (sym (holds P C E rest s) ∙ e))) refl (none-lists entry (length rest) b (f P E rest (guarded-here P C E rest s))),
+        λ z. right-of (holding M) (Guard C E) [] (codes-shut (holding M) C E (truth-none (holding M C) (sym (holds t M u c judged isu P C E rest s) ∙ e))) refl (none-lists entry (length rest) b (f P E rest (guarded-here t M u c judged isu P C E rest s))),
       )))
 
   pub guard-open : (entry exit : List ℕ) (r : ℕ) → (c % 65536 ≡ 0 → ⊥) → Listed u M entry exit r → Listed (26 ∷ t) M entry exit r
   guard-open entry exit r n h = listed-of (sound-of h) (guard-cases t (λ P X rest. (room (holding M) X ≤ length entry → r < full) × (r < full → Right (holding M) X rest exit r))
       (λ P C E rest s.
-      let b = truth-some (holding M C) (λ e. n (holds P C E rest s ∙ e)) in
-      let k = guarded-here P C E rest s in (
+      let b = truth-some (holding M C) (λ e. n (holds t M u c judged isu P C E rest s ∙ e)) in
+      let k = guarded-here t M u c judged isu P C E rest s in (
         λ m. h .has-room P E rest k (rw (room-guard (holding M) C E b) at m),
         λ z. right-of (holding M) (Guard C E) (codes (holding M) E) (codes-guard (holding M) C E b) refl (lists-of (h .right P E rest k z)),
       )))

@@ -5,6 +5,7 @@ pub mod Listing
 pub mod Counting
 pub mod Positions
 pub mod ByCode
+pub mod Operands
 pub mod CasesByCode
 pub mod Combining
 pub mod CodeLaws

@@ -11,6 +11,7 @@ use Rattle.eb3.specs.Scopes.{Scope}
 use Rattle.eb3.specs.Terms.{Term, Done, Internal, Perform, Sequence, Choice, Star, Parallel, Guard, VisibleAction}
 use Rattle.eb3.specs.Spelling.{cond-words, words}
 use Rattle.scan.specs.Checking.{last-of}
+use Rattle.scan.specs.Laws.{last-behind}
 use Rattle.expressions.specs.Answering.{Plain, CondAt}
 use Rattle.actions.specs.Codes.{Closed, ActionAt}
 use Rattle.listing.specs.Listing.{Fits, TermAt}
@@ -116,11 +117,6 @@ module _ (t : List ℕ) (P : Scope) (rest : List ℕ) where
   }
 
 -- ── what stands behind an operand ──
-
--- The last words, as many as what stands behind.
-pub last-behind : (x rest : List ℕ) → last-of (length rest) (x ++ rest) ≡ rest
-unfolding last-of
-last-behind x rest = drop-at x rest (length (x ++ rest) - length rest) (omega (arith, length-append x rest))
 
 pub behind-term : (t : List ℕ) (P : Scope) (E : Term) (rest : List ℕ) → TermAt t P E rest → last-of (length rest) t ≡ rest
 behind-term t P E rest h = ap (last-of (length rest)) (h .spelled) ∙ last-behind (words 1 E) rest

@@ -204,7 +204,7 @@ fn list_one(code: u32, left: usize, acts: &mut [u32]) -> usize
 }
 
 // The words behind the mask in front.
-fn behind_mask(d: &[u16]) -> &[u16]
+pub fn behind_mask(d: &[u16]) -> &[u16]
     ensures { λ r. ⌜ now r ≡ drop 4 (now (d .entry)) ⌝ }
 {
     let n = d.len();
@@ -215,7 +215,7 @@ fn behind_mask(d: &[u16]) -> &[u16]
 }
 
 // Whether both of the terms in front are done.
-fn both_done(t: &[u16]) -> bool
+pub fn both_done(t: &[u16]) -> bool
     ensures { λ r. ⌜ ((P : Scope) (E F : Term) (rest : List ℕ) → TwoAt (now (t .entry)) P E F rest → r ≡ (done? E && done? F)) ⌝ }
 {
     if first(t) == 30 {

@@ -21,6 +21,7 @@ use Rattle.eb3.specs.Laws.Measures.{guard-size-one}
 use Rattle.scan.specs.declared.Checked.{Checked}
 use Rattle.scan.specs.declared.Checked.the-variants.{Left, Refused as Not}
 use Rattle.scan.specs.Checking.{checked, last-of}
+use Rattle.scan.specs.ReadingLaws.{Taken, checked-refused, checked-taken, giving-refused, giving-taken, both-first, both-second, both-taken, by-number-refused, by-number-taken}
 use Rattle.grammar.specs.Laws.{cond-ends}
 use Rattle.weights.specs.declared.Weight.{Weight}
 use Rattle.weights.specs.Weighing.{cap, measure}
@@ -29,7 +30,7 @@ use Rattle.arguments.specs.TableLaws.{domains-length, guard-declared}
 use Rattle.rule_terms.specs.declared.Weighed.{Weighed}
 use Rattle.rule_terms.specs.declared.Weighed.the-variants.{Found, Refused}
 use Rattle.rule_terms.specs.Weighed.{weighed, mask-if, copies-of, quantifier, weighed-copies}
-use Rattle.rule_terms.specs.WeighedLaws.{Got, checked-out, checked-got, weighed-in, refused-in, giving-refused, giving-taken, both-first, both-second, both-taken, by-number-refused, by-number-taken}
+use Rattle.rule_terms.specs.WeighedLaws.{weighed-in, refused-in}
 use Rattle.rule_terms.proofs.Parts.{terms, answer, got-term, no-term, behind-got}
 
 -- ── a condition, then a term ──
@@ -62,11 +63,11 @@ module _ (T Γ : List ℕ) where
     as-declared = e ∙ ap checked width-one
 
     pub guard-none : (k : ℕ) → p ≡ Not k → Refused k ≡ answer T guards
-    guard-none k h = refused-in (declared T) (callee T) _ k (giving-refused _ _ k (both-first conditions (terms T Γ) t k (checked-out (conditions t) k (sym h ∙ as-declared))))
+    guard-none k h = refused-in (declared T) (callee T) _ k (giving-refused _ _ k (both-first conditions (terms T Γ) t k (checked-refused (conditions t) k (sym h ∙ as-declared))))
 
     module _ (n : ℕ) (r : List ℕ) (q : Weighed) (h : p ≡ Left n) (l : r ≡ last-of n t) (f : q ≡ answer T (terms T Γ r)) where
-      got-condition : Got t n (conditions t)
-      got-condition = checked-got t n (conditions t) (cond-ends (declared T .width) (guard-scope (attributes (declared T)) (length Γ)) t) (sym h ∙ as-declared)
+      got-condition : Taken t n (conditions t)
+      got-condition = checked-taken t n (conditions t) (cond-ends (declared T .width) (guard-scope (attributes (declared T)) (length Γ)) t) (sym h ∙ as-declared)
 
       pub guard-out : (k : ℕ) → q ≡ Refused k → Refused k ≡ answer T guards
       guard-out k o =

@@ -14,13 +14,14 @@ use Rattle.eb3.specs.RuleReading.{arguments-of, rule-action-of, call-of}
 use Rattle.scan.specs.declared.Checked.{Checked}
 use Rattle.scan.specs.declared.Checked.the-variants.{Left, Refused as Not}
 use Rattle.scan.specs.Checking.{checked, last-of}
+use Rattle.scan.specs.ReadingLaws.{Taken, checked-refused, checked-taken, giving-refused, giving-taken, by-number-refused, by-number-taken, number-below}
 use Rattle.weights.specs.declared.Weight.{Weight}
 use Rattle.weights.specs.Weighing.{cap, measure}
 use Rattle.arguments.specs.Tables.{row, declared, callee}
 use Rattle.arguments.specs.TableLaws.{labels-length, label-at, processes-length, process-at, arguments-end, arguments-count}
 use Rattle.rule_terms.specs.declared.Weighed.the-variants.{Found, Refused}
 use Rattle.rule_terms.specs.Weighed.{weighed}
-use Rattle.rule_terms.specs.WeighedLaws.{Got, checked-out, checked-got, weighed-in, refused-in, giving-refused, giving-taken, by-number-refused, by-number-taken, number-below}
+use Rattle.rule_terms.specs.WeighedLaws.{weighed-in, refused-in}
 
 -- ── the measures of a process ──
 
@@ -49,11 +50,11 @@ module _ (T Γ t : List ℕ) (k : ℕ → List Argument → RuleTerm) (limit : �
     there = by-number-taken 5 limit _ t n (sym h ∙ e) ∙ ap (λ x. giving (k (getD t 0 0)) (arguments-of (declared T) Γ (rows (getD t 0 0)) x)) (sym l) ∙ ap (λ x. giving (k (getD t 0 0)) (arguments-of (declared T) Γ x r)) (sym i)
 
     asked-out : (j : ℕ) → q ≡ Not j → Refused j ≡ weighed (declared T) (callee T) asked
-    asked-out j g = refused-in (declared T) (callee T) asked j (there ∙ giving-refused (k (getD t 0 0)) _ j (checked-out _ j (sym g ∙ f)))
+    asked-out j g = refused-in (declared T) (callee T) asked j (there ∙ giving-refused (k (getD t 0 0)) _ j (checked-refused _ j (sym g ∙ f)))
 
     asked-in : (m : ℕ) (w : Weight) → q ≡ Left m → ((rs : List Argument) → length rs ≡ length ds → measure w ≡ measure-term (sat cap) (declared T) (callee T) (k (getD t 0 0) rs)) → Found m w ≡ weighed (declared T) (callee T) asked
     asked-in m w g o =
-        let a : Got r m (arguments-of (declared T) Γ ds r) = checked-got r m (arguments-of (declared T) Γ ds r) (arguments-end (declared T) Γ ds r) (sym g ∙ f) in
+        let a : Taken r m (arguments-of (declared T) Γ ds r) = checked-taken r m (arguments-of (declared T) Γ ds r) (arguments-end (declared T) Γ ds r) (sym g ∙ f) in
         weighed-in (declared T) (callee T) m w asked (k (getD t 0 0) (a .value)) (a .rest) (there ∙ giving-taken (k (getD t 0 0)) _ (a .value) (a .rest) (a .read)) (a .left)
         (o (a .value) (arguments-count (declared T) Γ ds r (a .value) (a .rest) (a .read)))
 

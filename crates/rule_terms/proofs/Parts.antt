@@ -16,6 +16,7 @@ use Rattle.scan.specs.declared.Checked.{Checked}
 use Rattle.scan.specs.declared.Checked.the-variants.{Left, Refused as Not}
 use Rattle.scan.specs.Checking.{checked, last-of}
 use Rattle.scan.specs.Laws.{Ends, tail-here}
+use Rattle.scan.specs.ReadingLaws.{Taken, checked-refused, checked-taken, giving-refused, giving-taken, both-first, both-second, both-taken}
 use Rattle.weights.specs.declared.Weight.{Weight}
 use Rattle.weights.specs.Weighing.{cap, measure, weight, parallel-by}
 use Rattle.arguments.specs.Tables.{declared, callee}
@@ -24,7 +25,7 @@ use Rattle.rule_terms.specs.declared.Weighed.{Weighed}
 use Rattle.rule_terms.specs.declared.Weighed.the-variants.{Found, Refused}
 use Rattle.rule_terms.specs.Weighed.{weighed, weighed-sides, mask-if, copies-of, weighed-copies}
 use Rattle.rule_terms.specs.Laws.{term-ends, rule-mask-ends}
-use Rattle.rule_terms.specs.WeighedLaws.{Got, checked-out, checked-got, weighed-out, weighed-got, weighed-in, refused-in, giving-refused, giving-taken, both-first, both-second, both-taken}
+use Rattle.rule_terms.specs.WeighedLaws.{weighed-out, weighed-got, weighed-in, refused-in}
 
 -- The terms read under a table, and the answer of a check of them.
 abbrev pub terms : List ℕ → List ℕ → Reader RuleTerm
@@ -35,14 +36,14 @@ answer T r = weighed (declared T) (callee T) r
 
 -- What the answers of callees say of the readings.
 pub got-term : (T Γ t : List ℕ) (n : ℕ) (v : Weight) (p : Weighed) → p ≡ answer T (terms T Γ t) → p ≡ Found n v
-    → (g : Got t n (terms T Γ t)) × (measure v ≡ measure-term (sat cap) (declared T) (callee T) (g .value))
+    → (g : Taken t n (terms T Γ t)) × (measure v ≡ measure-term (sat cap) (declared T) (callee T) (g .value))
 got-term T Γ t n v p e h = weighed-got (declared T) (callee T) t n v (terms T Γ t) (term-ends edition-1 (declared T) Γ t) (sym h ∙ e)
 
 pub no-term : (T Γ t : List ℕ) (k : ℕ) (p : Weighed) → p ≡ answer T (terms T Γ t) → p ≡ Refused k → terms T Γ t ≡ refused k
 no-term T Γ t k p e h = weighed-out (declared T) (callee T) (terms T Γ t) k (sym h ∙ e)
 
 -- The words behind, as the code has them.
-pub behind-got : {A B : Type 0} (f : Reader B) (t r : List ℕ) (n : ℕ) (s : Read A) (g : Got t n s) → r ≡ last-of n t → f (g .rest) ≡ f r
+pub behind-got : {A B : Type 0} (f : Reader B) (t r : List ℕ) (n : ℕ) (s : Read A) (g : Taken t n s) → r ≡ last-of n t → f (g .rest) ≡ f r
 behind-got f t r n s g l = ap f (sym (g .words) ∙ sym l)
 
 -- ── two terms ──
@@ -123,11 +124,11 @@ module _ (T t : List ℕ) (b : ℕ) (p : Checked) (i : b ≡ getD T 17 0) (e : p
     parallels = giving (λ s. rule-parallel (s .0) (s .1 .0) (s .1 .1)) (both (rule-mask-of (declared T)) (both (terms T Γ) (terms T Γ)) t)
 
     pub parallel-none : (k : ℕ) → p ≡ Not k → Refused k ≡ answer T parallels
-    parallel-none k h = refused-in (declared T) (callee T) _ k (giving-refused _ _ k (both-first (rule-mask-of (declared T)) (both (terms T Γ) (terms T Γ)) t k (checked-out (rule-mask-of (declared T) t) k (sym h ∙ as-declared))))
+    parallel-none k h = refused-in (declared T) (callee T) _ k (giving-refused _ _ k (both-first (rule-mask-of (declared T)) (both (terms T Γ) (terms T Γ)) t k (checked-refused (rule-mask-of (declared T) t) k (sym h ∙ as-declared))))
 
     pub parallel-in : (n : ℕ) (r : List ℕ) (q : Weighed) (z : Bool) → p ≡ Left n → r ≡ last-of n t → z ≡ zero-mask (take 4 t) → q ≡ weighed-sides (declared T) (callee T) z (both (terms T Γ) (terms T Γ) r) → q ≡ answer T parallels
     parallel-in n r q z h l c f =
-        let g : Got t n (rule-mask-of (declared T) t) = checked-got t n (rule-mask-of (declared T) t) (rule-mask-ends (declared T) t) (sym h ∙ as-declared) in
+        let g : Taken t n (rule-mask-of (declared T) t) = checked-taken t n (rule-mask-of (declared T) t) (rule-mask-ends (declared T) t) (sym h ∙ as-declared) in
         let m : g .value ≡ take 4 t = mask-read 4 (length (declared T .labels)) t (g .value) (g .rest) (g .read) in
         f ∙ ap (λ y. weighed-sides (declared T) (callee T) y (both (terms T Γ) (terms T Γ) r)) (c ∙ ap zero-mask (sym m)) ∙ sides-beside (declared T) (callee T) (g .value) (both (terms T Γ) (terms T Γ) r)
         ∙ ap (λ y. answer T (giving (λ s. rule-parallel (s .0) (s .1 .0) (s .1 .1)) y))
@@ -167,11 +168,11 @@ module _ (T Γ t : List ℕ) (w : Bool) (c : ℕ) (p : Checked) (e : p ≡ check
 
   pub copies-none : (k : ℕ) → p ≡ Not k → Refused k ≡ weighed-copies (declared T) (callee T) w c copies
   unfolding weighed-copies
-  copies-none k h = rw (both-first (mask-if w (declared T)) (terms T Γ) t k (checked-out (mask-if w (declared T) t) k (sym h ∙ e)))
+  copies-none k h = rw (both-first (mask-if w (declared T)) (terms T Γ) t k (checked-refused (mask-if w (declared T) t) k (sym h ∙ e)))
 
   module _ (n : ℕ) (r : List ℕ) (q : Weighed) (h : p ≡ Left n) (l : r ≡ last-of n t) (f : q ≡ answer T (terms T Γ r)) where
-    got-mask : Got t n (mask-if w (declared T) t)
-    got-mask = checked-got t n (mask-if w (declared T) t) (mask-if-ends w (declared T) t) (sym h ∙ e)
+    got-mask : Taken t n (mask-if w (declared T) t)
+    got-mask = checked-taken t n (mask-if w (declared T) t) (mask-if-ends w (declared T) t) (sym h ∙ e)
 
     pub copies-out : (k : ℕ) → q ≡ Refused k → Refused k ≡ weighed-copies (declared T) (callee T) w c copies
     unfolding weighed-copies

@@ -14,6 +14,7 @@ use Rattle.scan.specs.declared.Checked.{Checked}
 use Rattle.scan.specs.declared.Checked.the-variants.{Left, Refused as Checked·refused}
 use Rattle.scan.specs.Checking.{checked, last-of}
 use Rattle.scan.specs.Laws.{Tail, Fine, tail-at, tail-on}
+use Rattle.scan.specs.ReadingLaws.{checked-refused, then-refused, then-taken, not-taken}
 use Rattle.scan.specs.RowLaws.{count-word, last-tail}
 use Rattle.rule_terms.specs.declared.Weighed.{Weighed}
 use Rattle.rule_terms.specs.declared.Weighed.the-variants.{Found, Refused}
@@ -35,7 +36,7 @@ use Rattle.rules.specs.declared.Rules.{Rules}
 use Rattle.rules.specs.declared.Rules.the-variants.{Found as Rules·found, Refused as Rules·refused}
 use Rattle.rules.specs.Filling.{ProcessSectionRead, Filled, FunctionSectionRead}
 use Rattle.rules.specs.Sections.{main-weighed, rules-weighed, joined, process-section, function-section}
-use Rattle.rules.proofs.SectionCases.{count-between, was-refused, rules-out, then-refused, then-taken, not-taken}
+use Rattle.rules.proofs.SectionCases.{count-between, rules-out}
 
 -- ── the processes' answer, with the functions' cells ──
 
@@ -89,7 +90,7 @@ module _ (T t : List ℕ) (p : Checked) (e : p ≡ checked (count-of 0 16 t)) wh
   pub functions-none : (D : List ℕ) (k : ℕ) → p ≡ Checked·refused k → FunctionSectionRead t T D (Rules·refused k) T D
   unfolding function-section read-functions
   functions-none D k h =
-      let r : (ds : List ℕ) (ls : List (List ℕ)) → read-functions edition-1 (length ds) ls t ≡ refused k = λ ds ls. then-refused (count-of 0 16 t) _ k (was-refused (count-of 0 16 t) k (sym h ∙ e)) in
+      let r : (ds : List ℕ) (ls : List (List ℕ)) → read-functions edition-1 (length ds) ls t ≡ refused k = λ ds ls. then-refused (count-of 0 16 t) _ k (checked-refused (count-of 0 16 t) k (sym h ∙ e)) in
       record {
         answer = λ ds ls z. rules-out (read-functions edition-1 (length ds) ls t) _ k (r ds ls);
         same-tables = refl;

@@ -16,6 +16,7 @@ use Rattle.scan.specs.declared.Checked.{Checked}
 use Rattle.scan.specs.declared.Checked.the-variants.{Left, Refused as Checked·refused}
 use Rattle.scan.specs.Checking.{checked, last-of}
 use Rattle.scan.specs.Laws.{Tail, tail-on, number-ends, got}
+use Rattle.scan.specs.ReadingLaws.{checked-refused, then-refused, then-taken, not-taken}
 use Rattle.scan.specs.RowLaws.{count-word, repeat-ends, counted-ends, last-tail}
 use Rattle.rule_terms.specs.declared.Weighed.{Weighed}
 use Rattle.rule_terms.specs.declared.Weighed.the-variants.{Refused}
@@ -39,11 +40,6 @@ count-between lo hi m x t p e h i =
     let s = subst (Sound one-word (λ n. (lo ≤ n) × (n ≤ hi)) t) (count-word lo hi m t (sym h ∙ e)) (count-sound lo hi t) in
     (omega (arith, s .1 .0, i), omega (arith, s .1 .1, i))
 
-pub was-refused : {A : Type 0} (r : Read A) (k : ℕ) → Checked·refused k ≡ checked r → r ≡ refused k
-unfolding checked
-was-refused (refused j) k e = (let z : j ≡ k = cc in ap refused z)
-was-refused (taken a u) k e = absurd (let z : _≡_ {A = ℕ} 0 1 = cc in omega arith)
-
 main-out : {A : Type 0} (r : Read A) (g : A → Reader RuleSet) (k : ℕ) → r ≡ refused k → Refused k ≡ main-weighed (then r g)
 unfolding then main-weighed
 main-out r g k e = rw e
@@ -52,27 +48,13 @@ pub rules-out : {A : Type 0} (r : Read A) (g : A → Reader RuleSet) (k : ℕ) �
 unfolding then rules-weighed
 rules-out r g k e = rw e
 
-pub then-refused : {A B : Type 0} (r : Read A) (g : A → Reader B) (k : ℕ) → r ≡ refused k → then r g ≡ refused k
-unfolding then
-then-refused r g k e = rw e
-
-pub then-taken : {A B : Type 0} (r : Read A) (g : A → Reader B) (a : A) (u : List ℕ) → r ≡ taken a u → then r g ≡ g a u
-unfolding then
-then-taken r g a u e = rw e
-
-pub not-taken : {A : Type 0} (r : Read A) (k : ℕ) (a : A) (u : List ℕ) → r ≡ refused k → r ≡ taken a u → ⊥
-not-taken r k a u e f =
-    let o : refused k ≡ taken a u = sym e ∙ f in
-    let z : _≡_ {A = ℕ} 0 1 = cc in
-    omega arith
-
 -- ── processes ──
 
 module _ (T t : List ℕ) (p : Checked) (e : p ≡ checked (count-of 1 32 t)) where
   pub section-out : (k : ℕ) → p ≡ Checked·refused k → ProcessSectionRead t T (Refused k) T
   unfolding process-section
   section-out k h =
-      let r = was-refused (count-of 1 32 t) k (sym h ∙ e) in
+      let r = checked-refused (count-of 1 32 t) k (sym h ∙ e) in
       record {
         answer = λ ds ls fs z. main-out (count-of 1 32 t) _ k r;
         same-length = refl;
@@ -108,7 +90,7 @@ module _ (T t : List ℕ) (p : Checked) (e : p ≡ checked (count-of 1 64 t)) wh
   pub labels-none : (D : List ℕ) (k : ℕ) → p ≡ Checked·refused k → LabelSectionRead t T D (Rules·refused k) T D
   unfolding label-section counted
   labels-none D k h =
-      let r : (ds : List ℕ) → read-labels edition-1 (length ds) t ≡ refused k = λ ds. then-refused (count-of 1 64 t) _ k (was-refused (count-of 1 64 t) k (sym h ∙ e)) in
+      let r : (ds : List ℕ) → read-labels edition-1 (length ds) t ≡ refused k = λ ds. then-refused (count-of 1 64 t) _ k (checked-refused (count-of 1 64 t) k (sym h ∙ e)) in
       record {
         answer = λ ds z. rules-out (read-labels edition-1 (length ds) t) _ k (r ds);
         same-tables = refl;
@@ -129,7 +111,7 @@ module _ (T t : List ℕ) (p : Checked) (e : p ≡ checked (count-of 1 64 t)) wh
           ∙ (λ j. repeat (sym i j) (label-of (c j)) (sym l j))
 
       labels-refused : (k : ℕ) → r ≡ Checked·refused k → (ds : List ℕ) → declared T .domains ≡ ds → read-labels edition-1 (length ds) t ≡ refused k
-      labels-refused k q ds z = labels-read-are ds z ∙ was-refused (repeat n (label-of d) u) k (sym q ∙ entered .answer)
+      labels-refused k q ds z = labels-read-are ds z ∙ checked-refused (repeat n (label-of d) u) k (sym q ∙ entered .answer)
 
       module _ (j : ℕ) (q : r ≡ Left j) where
         labels-got : (ls : List (List ℕ)) × (repeat n (label-of d) u ≡ taken ls (last-of j u))
@@ -191,7 +173,7 @@ module _ (T t : List ℕ) (p : Checked) (e : p ≡ checked (read-domains edition
   pub read-out : (D : List ℕ) (k : ℕ) → p ≡ Checked·refused k → RulesRead t T D (Rules·refused k) T D
   unfolding read-rules
   read-out D k h =
-      let r = was-refused (read-domains edition-1 t) k (sym h ∙ e) in
+      let r = checked-refused (read-domains edition-1 t) k (sym h ∙ e) in
       record {
         answer = rules-out (read-domains edition-1 t) _ k r;
         same-tables = refl;

@@ -7,9 +7,9 @@ use native.Mathlib.Omega.{arith}
 use native.Mathlib.Decide.{decLe}
 use mathlib.Core.Path.{_≡_, refl, sym, ap, _∙_}
 use mathlib.Core.Bool.{Bool, true, false}
-use mathlib.Core.List.{List, [], _∷_}
+use mathlib.Core.List.{List, [], _∷_, _++_}
 use lib.ListN.{length, take, drop, getD, length-drop, drop-of-length-le}
-use lib.Seq.{take-all, drop-length, drop-drop}
+use lib.Seq.{take-all, drop-length, drop-drop, drop-append-seam}
 use lib.Dec.{ltb}
 use Rattle.scan.specs.declared.Checked.{Checked}
 use Rattle.scan.specs.declared.Checked.the-variants.{Left, Refused}
@@ -78,6 +78,10 @@ tail-at t s p = go (decLe (p .0) (length s))
     go (no h) =
         let k : length s - length t ≡ length s = omega (arith, l) in
         ap (λ j. drop j s) k ∙ drop-length s ∙ sym (p .1 ∙ drop-of-length-le s {i = p .0} (omega arith))
+
+-- The last words, as many as what stands behind others.
+pub last-behind : (a r : List ℕ) → last-of (length r) (a ++ r) ≡ r
+last-behind a r = tail-at r (a ++ r) (length a, sym (drop-append-seam a r))
 
 pub fine-on : {B : Type 0} (s t : List ℕ) (r : Read B) → Tail t s → Fine t r → Fine s r
 fine-on s t (refused k) p h = tt

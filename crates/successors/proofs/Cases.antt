@@ -19,12 +19,14 @@ use Rattle.scan.specs.Laws.{part, last-len}
 use Rattle.expressions.specs.Answering.{CondAt}
 use Rattle.actions.specs.Codes.{action-code, ActionAt}
 use Rattle.listing.specs.Listing.{TermAt}
+use Rattle.listing.specs.Positions.{term-front}
+use Rattle.listing.specs.Operands.{is-done, other-test}
 use Rattle.writing.specs.Wrote.{Wrote}
 use Rattle.paths.specs.Paths.{follow}
 use Rattle.successors.specs.Building.{Building}
 use Rattle.successors.specs.Sides.{Made, Unbuilt, Ended, MadeOf, sided, second, side-words, Siding, Sides}
 use Rattle.successors.specs.declared.Built.{Built}
-use Rattle.successors.proofs.Terms.{front, front-at, done-of, done-front, behind-part, behind-dropped, before-part, sequence-first, choice-first, star-first, parallel-first, parallel-head, parallel-long, guard-condition, action-there, second-of-sequence, second-of-choice, second-of-parallel, guard-operand}
+use Rattle.successors.proofs.Terms.{behind-part, behind-dropped, before-part, sequence-first, choice-first, star-first, parallel-first, parallel-head, parallel-long, guard-condition, action-there, second-of-sequence, second-of-choice, second-of-parallel, guard-operand}
 use Rattle.successors.proofs.Follows.{parallel-follows, two-sided}
 use Rattle.successors.proofs.Writes.{never, had-room, room-there}
 use Rattle.successors.proofs.Made.{bounded-within, unbuilt-bounded, unbuilt-made, built-bounds, built-made, by-action, by-sequence, by-choice, by-star, by-parallel, by-guard}
@@ -92,7 +94,7 @@ module _ (s p x y t : List ℕ) (r : Built) (behind : t ≡ drop 1 s) where
       by-sequence s p x y r (bounded-within (built-bounds m) (omega (arith, ap length h, length-drop 1 t, shorter)) (omega arith)) e
       (λ P E F rest k.
       let i : TermAt t P E (words 1 F ++ rest) = subst (λ z. TermAt z P E (words 1 F ++ rest)) (sym behind) (sequence-first s P rest E F k) in
-      let j : E ≡ Done = done-of E (sym (front-at t P E (words 1 F ++ rest) i) ∙ d) in
+      let j : E ≡ Done = is-done E (sym d ∙ term-front t P E (words 1 F ++ rest) i) in
       let v : u ≡ words 1 F ++ rest = h ∙ (ap (drop 1) (i .spelled) ∙ ap (λ G. drop 1 (words 1 G ++ (words 1 F ++ rest))) j) in
       subst (λ G. MadeOf (follow (Sequence G F) p) rest x y r) (sym j)
       (built-made m P F rest (subst (λ z. TermAt z P F rest) (sym v) (second-of-sequence s P rest E F k))))
@@ -103,7 +105,7 @@ module _ (s p x y t : List ℕ) (r : Built) (behind : t ≡ drop 1 s) where
       by-sequence s p x y r (m .bounds) e
       (λ P E F rest k.
       let i : TermAt (drop 1 s) P E (words 1 F ++ rest) = sequence-first s P rest E F k in
-      let j : done? E ≡ false = done-front E ∙ ne-eqb (front E) 30 (λ z. d (ap (λ l. getD l 0 0) behind ∙ (front-at (drop 1 s) P E (words 1 F ++ rest) i ∙ z))) in
+      let j : done? E ≡ false = other-test E (λ z. d (ap (λ l. getD l 0 0) behind ∙ (term-front (drop 1 s) P E (words 1 F ++ rest) i ∙ z))) in
       let o : take 1 s ≡ 22 ∷ [] = ap (take 1) (k .spelled) in
       rw j (subst (λ h. Made (h ++ (words 1 (follow E p .successor) ++ words 1 F)) (action-code (follow E p .action)) (length rest) (length (follow E p .rest)) x y r) o
       (m .made P E F rest i (second-of-sequence s P rest E F k))))

@@ -12,11 +12,12 @@ use Rattle.eb3.specs.Terms.{Term, Done, Internal, Perform, Sequence, Choice, St
 use Rattle.eb3.specs.Spelling.{words}
 use Rattle.actions.specs.Codes.{action-code}
 use Rattle.listing.specs.Listing.{TermAt}
+use Rattle.listing.specs.Positions.{code-in-front, term-front}
+use Rattle.listing.specs.ByCode.{by-perform as of-perform, by-sequence as of-sequence, by-choice as of-choice, by-star as of-star, by-parallel as of-parallel, by-guard as of-guard}
 use Rattle.paths.specs.Paths.{followed, follow}
 use Rattle.successors.specs.Building.{Building}
 use Rattle.successors.specs.Sides.{Bounded, Made, Unbuilt, Ended, MadeOf, Siding}
 use Rattle.successors.specs.declared.Built.{Built}
-use Rattle.successors.proofs.Terms.{front, front-at, action-of, sequence-of, choice-of, star-of, parallel-of, guard-of}
 use Rattle.successors.proofs.Writes.{never}
 
 pub bounded-within : {n m n′ m′ : ℕ} {x y : List ℕ} {r : Built} → Bounded n m x y r → n ≤ n′ → m ≤ m′ → Bounded n′ m′ x y r
@@ -67,45 +68,43 @@ side-stays s p x y goes r e h = rw e h
 -- ── the term known by its first word ──
 
 module _ (s p x y : List ℕ) (r : Built) (b : Bounded (length s) (length p) x y r) where
-  by-term : ((P : Scope) (G : Term) (rest : List ℕ) → TermAt s P G rest → (H : Term) → G ≡ H → (TermAt s P H rest → MadeOf (follow H p) rest x y r) → MadeOf (follow G p) rest x y r)
-  by-term P G rest t H e f = subst (λ K. MadeOf (follow K p) rest x y r) (sym e) (f (subst (λ K. TermAt s P K rest) e t))
+  abbrev Led : Scope → List ℕ → Term → Type 0
+  Led P rest G = TermAt s P G rest → MadeOf (follow G p) rest x y r
 
   pub by-action : getD s 0 0 ≡ 21 → ((P : Scope) (a : VisibleAction) (rest : List ℕ) → TermAt s P (Perform a) rest → MadeOf (follow (Perform a) p) rest x y r) → Siding true s p x y r
-  by-action e f = record { bounds = b; made = λ P G rest t. let w = action-of G (sym (front-at s P G rest t) ∙ e) in by-term P G rest t (Perform (w .0)) (w .1) (f P (w .0) rest) }
+  by-action e f = record { bounds = b; made = λ P G rest t. of-perform (Led P rest) (λ a. f P a rest) G (sym e ∙ term-front s P G rest t) t }
 
   pub by-sequence : getD s 0 0 ≡ 22 → ((P : Scope) (E F : Term) (rest : List ℕ) → TermAt s P (Sequence E F) rest → MadeOf (follow (Sequence E F) p) rest x y r) → Siding true s p x y r
   by-sequence e f = record {
     bounds = b;
-    made = λ P G rest t. let w = sequence-of G (sym (front-at s P G rest t) ∙ e) in by-term P G rest t (Sequence (w .0) (w .1)) (w .2) (f P (w .0) (w .1) rest);
+    made = λ P G rest t. of-sequence (Led P rest) (λ E F. f P E F rest) G (sym e ∙ term-front s P G rest t) t;
   }
 
   pub by-choice : getD s 0 0 ≡ 23 → ((P : Scope) (E F : Term) (rest : List ℕ) → TermAt s P (Choice E F) rest → MadeOf (follow (Choice E F) p) rest x y r) → Siding true s p x y r
   by-choice e f = record {
     bounds = b;
-    made = λ P G rest t. let w = choice-of G (sym (front-at s P G rest t) ∙ e) in by-term P G rest t (Choice (w .0) (w .1)) (w .2) (f P (w .0) (w .1) rest);
+    made = λ P G rest t. of-choice (Led P rest) (λ E F. f P E F rest) G (sym e ∙ term-front s P G rest t) t;
   }
 
   pub by-star : getD s 0 0 ≡ 24 → ((P : Scope) (E : Term) (rest : List ℕ) → TermAt s P (Star E) rest → MadeOf (follow (Star E) p) rest x y r) → Siding true s p x y r
-  by-star e f = record { bounds = b; made = λ P G rest t. let w = star-of G (sym (front-at s P G rest t) ∙ e) in by-term P G rest t (Star (w .0)) (w .1) (f P (w .0) rest) }
+  by-star e f = record { bounds = b; made = λ P G rest t. of-star (Led P rest) (λ E. f P E rest) G (sym e ∙ term-front s P G rest t) t }
 
   pub by-parallel : getD s 0 0 ≡ 25 → ((P : Scope) (Δ : Mask) (E F : Term) (rest : List ℕ) → TermAt s P (Parallel Δ E F) rest → MadeOf (follow (Parallel Δ E F) p) rest x y r) → Siding true s p x y r
   by-parallel e f = record {
     bounds = b;
-    made = λ P G rest t.
-        let w = parallel-of G (sym (front-at s P G rest t) ∙ e) in
-        by-term P G rest t (Parallel (w .0) (w .1) (w .2)) (w .3) (f P (w .0) (w .1) (w .2) rest);
+    made = λ P G rest t. of-parallel (Led P rest) (λ Δ E F. f P Δ E F rest) G (sym e ∙ term-front s P G rest t) t;
   }
 
   pub by-guard : getD s 0 0 ≡ 26 → ((P : Scope) (C : Cond) (E : Term) (rest : List ℕ) → TermAt s P (Guard C E) rest → MadeOf (follow (Guard C E) p) rest x y r) → Siding true s p x y r
   by-guard e f = record {
     bounds = b;
-    made = λ P G rest t. let w = guard-of G (sym (front-at s P G rest t) ∙ e) in by-term P G rest t (Guard (w .0) (w .1)) (w .2) (f P (w .0) (w .1) rest);
+    made = λ P G rest t. of-guard (Led P rest) (λ C E. f P C E rest) G (sym e ∙ term-front s P G rest t) t;
   }
 
 -- The other terms, Done and the internal action, have one word and lead to Done.
-leaf : (G : Term) → (front G ≡ 21 → ⊥) → (front G ≡ 22 → ⊥) → (front G ≡ 23 → ⊥) → (front G ≡ 24 → ⊥) → (front G ≡ 25 → ⊥) → (front G ≡ 26 → ⊥)
+leaf : (G : Term) → (code-in-front G ≡ 21 → ⊥) → (code-in-front G ≡ 22 → ⊥) → (code-in-front G ≡ 23 → ⊥) → (code-in-front G ≡ 24 → ⊥) → (code-in-front G ≡ 25 → ⊥) → (code-in-front G ≡ 26 → ⊥)
     → (p rest : List ℕ) → (follow G p ≡ followed internal Done p) × (drop 1 (words 1 G ++ rest) ≡ rest)
-unfolding follow words
+unfolding follow words code-in-front
 leaf Done a b c d e f p rest = (refl, refl)
 leaf Internal a b c d e f p rest = (refl, refl)
 leaf (Perform v) a b c d e f p rest = absurd (a refl)
@@ -121,7 +120,7 @@ unfolding words action-code
 by-leaf s p x y r w e a b c d g f t h m = built (record {
   bounds = bounded-within (m .bounds) (omega (arith, ap length h, length-drop 1 s)) (omega arith);
   made = λ P G rest k.
-      let q : w ≡ front G = e ∙ front-at s P G rest k in
+      let q : w ≡ code-in-front G = e ∙ term-front s P G rest k in
       let v = leaf G (λ i. a (q ∙ i)) (λ i. b (q ∙ i)) (λ i. c (q ∙ i)) (λ i. d (q ∙ i)) (λ i. g (q ∙ i)) (λ i. f (q ∙ i)) p rest in
       let l : length t ≡ length rest = ap length (h ∙ (ap (drop 1) (k .spelled) ∙ v .1)) in
       subst (λ z. MadeOf z rest x y r) (sym (v .0)) (subst (λ n. Made (30 ∷ []) 0 n (length p) x y r) l (m .made));

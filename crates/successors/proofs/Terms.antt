@@ -1,148 +1,26 @@
--- A running term by its first word, and its operands as they stand behind one another: what the code, which sees words, tells of the term.
+-- A running term's operands as they stand behind one another: what the code, which sees words, tells of the term (document 01, "Moves, in order").
 use mathlib.Core.Path.{_≡_, refl, sym, ap, _∙_}
 use mathlib.Core.List.{List, [], _∷_, _++_, append-assoc}
 use Prim.Native.Nat.{ℕ, _+_, _-_, _≤_}
 use native.Mathlib.Omega.{arith}
-use lib.Dec.{eqb}
 use lib.ListN.{length, take, drop, getD, length-append, length-drop, take-append-drop}
 use lib.Seq.{take-at, drop-at}
 use Rattle.eb3.specs.Expressions.{Cond}
 use Rattle.eb3.specs.Scopes.{Scope}
-use Rattle.eb3.specs.Terms.{Term, Done, Internal, Perform, Sequence, Choice, Star, Parallel, Guard, VisibleAction, Mask, done?}
+use Rattle.eb3.specs.Terms.{Term, Perform, Sequence, Choice, Star, Parallel, Guard, VisibleAction, Mask}
 use Rattle.eb3.specs.Spelling.{cond-words, words}
 use Rattle.scan.specs.Checking.{last-of}
-use Rattle.scan.specs.Laws.{tail-at}
+use Rattle.scan.specs.Laws.{last-behind}
 use Rattle.expressions.specs.Answering.{Plain, CondAt}
 use Rattle.actions.specs.Codes.{Closed, ActionAt}
 use Rattle.listing.specs.Listing.{Fits, TermAt}
-
--- ── the first word ──
-
-abbrev pub front : Term → ℕ
-front Done = 30
-front Internal = 20
-front (Perform a) = 21
-front (Sequence E F) = 22
-front (Choice E F) = 23
-front (Star E) = 24
-front (Parallel Δ E F) = 25
-front (Guard C E) = 26
-
-front-word : (E : Term) (rest : List ℕ) → getD (words 1 E ++ rest) 0 0 ≡ front E
-unfolding words
-front-word Done rest = refl
-front-word Internal rest = refl
-front-word (Perform a) rest = refl
-front-word (Sequence E F) rest = refl
-front-word (Choice E F) rest = refl
-front-word (Star E) rest = refl
-front-word (Parallel Δ E F) rest = refl
-front-word (Guard C E) rest = refl
-
-pub front-at : (s : List ℕ) (P : Scope) (E : Term) (rest : List ℕ) → TermAt s P E rest → getD s 0 0 ≡ front E
-front-at s P E rest h = ap (λ l. getD l 0 0) (h .spelled) ∙ front-word E rest
-
-front-closes : (E : Term) → front E ≡ 1 → ⊥
-front-closes Done e = omega arith
-front-closes Internal e = omega arith
-front-closes (Perform a) e = omega arith
-front-closes (Sequence E F) e = omega arith
-front-closes (Choice E F) e = omega arith
-front-closes (Star E) e = omega arith
-front-closes (Parallel Δ E F) e = omega arith
-front-closes (Guard C E) e = omega arith
-
-closed-before : (F : Term) (rest : List ℕ) → Closed (words 1 F ++ rest)
-closed-before F rest e = front-closes F (sym (front-word F rest) ∙ e)
-
-pub done-front : (E : Term) → done? E ≡ eqb (front E) 30
-unfolding done?
-done-front Done = refl
-done-front Internal = refl
-done-front (Perform a) = refl
-done-front (Sequence E F) = refl
-done-front (Choice E F) = refl
-done-front (Star E) = refl
-done-front (Parallel Δ E F) = refl
-done-front (Guard C E) = refl
-
--- ── the term, where its first word is known ──
-
-pub done-of : (G : Term) → front G ≡ 30 → (G ≡ Done)
-done-of Done e = refl
-done-of Internal e = absurd (omega arith)
-done-of (Perform a) e = absurd (omega arith)
-done-of (Sequence E F) e = absurd (omega arith)
-done-of (Choice E F) e = absurd (omega arith)
-done-of (Star E) e = absurd (omega arith)
-done-of (Parallel Δ E F) e = absurd (omega arith)
-done-of (Guard C E) e = absurd (omega arith)
-
-pub action-of : (G : Term) → front G ≡ 21 → (a : VisibleAction) × (G ≡ Perform a)
-action-of Done e = absurd (omega arith)
-action-of Internal e = absurd (omega arith)
-action-of (Perform a) e = (a, refl)
-action-of (Sequence E F) e = absurd (omega arith)
-action-of (Choice E F) e = absurd (omega arith)
-action-of (Star E) e = absurd (omega arith)
-action-of (Parallel Δ E F) e = absurd (omega arith)
-action-of (Guard C E) e = absurd (omega arith)
-
-pub sequence-of : (G : Term) → front G ≡ 22 → (E : Term) × (F : Term) × (G ≡ Sequence E F)
-sequence-of Done e = absurd (omega arith)
-sequence-of Internal e = absurd (omega arith)
-sequence-of (Perform a) e = absurd (omega arith)
-sequence-of (Sequence E F) e = (E, F, refl)
-sequence-of (Choice E F) e = absurd (omega arith)
-sequence-of (Star E) e = absurd (omega arith)
-sequence-of (Parallel Δ E F) e = absurd (omega arith)
-sequence-of (Guard C E) e = absurd (omega arith)
-
-pub choice-of : (G : Term) → front G ≡ 23 → (E : Term) × (F : Term) × (G ≡ Choice E F)
-choice-of Done e = absurd (omega arith)
-choice-of Internal e = absurd (omega arith)
-choice-of (Perform a) e = absurd (omega arith)
-choice-of (Sequence E F) e = absurd (omega arith)
-choice-of (Choice E F) e = (E, F, refl)
-choice-of (Star E) e = absurd (omega arith)
-choice-of (Parallel Δ E F) e = absurd (omega arith)
-choice-of (Guard C E) e = absurd (omega arith)
-
-pub star-of : (G : Term) → front G ≡ 24 → (E : Term) × (G ≡ Star E)
-star-of Done e = absurd (omega arith)
-star-of Internal e = absurd (omega arith)
-star-of (Perform a) e = absurd (omega arith)
-star-of (Sequence E F) e = absurd (omega arith)
-star-of (Choice E F) e = absurd (omega arith)
-star-of (Star E) e = (E, refl)
-star-of (Parallel Δ E F) e = absurd (omega arith)
-star-of (Guard C E) e = absurd (omega arith)
-
-pub parallel-of : (G : Term) → front G ≡ 25 → (Δ : Mask) × (E : Term) × (F : Term) × (G ≡ Parallel Δ E F)
-parallel-of Done e = absurd (omega arith)
-parallel-of Internal e = absurd (omega arith)
-parallel-of (Perform a) e = absurd (omega arith)
-parallel-of (Sequence E F) e = absurd (omega arith)
-parallel-of (Choice E F) e = absurd (omega arith)
-parallel-of (Star E) e = absurd (omega arith)
-parallel-of (Parallel Δ E F) e = (Δ, E, F, refl)
-parallel-of (Guard C E) e = absurd (omega arith)
-
-pub guard-of : (G : Term) → front G ≡ 26 → (C : Cond) × (E : Term) × (G ≡ Guard C E)
-guard-of Done e = absurd (omega arith)
-guard-of Internal e = absurd (omega arith)
-guard-of (Perform a) e = absurd (omega arith)
-guard-of (Sequence E F) e = absurd (omega arith)
-guard-of (Choice E F) e = absurd (omega arith)
-guard-of (Star E) e = absurd (omega arith)
-guard-of (Parallel Δ E F) e = absurd (omega arith)
-guard-of (Guard C E) e = (C, E, refl)
+use Rattle.listing.specs.Positions.{term-closed}
 
 -- ── parts of words ──
 
 -- What stands behind a part is the last so many words, and what stands before it the others.
 pub behind-part : (a b t : List ℕ) (n : ℕ) → t ≡ a ++ b → n ≡ length b → last-of n t ≡ b
-behind-part a b t n e h = ap (λ k. last-of k t) h ∙ tail-at b t (length a, sym (ap (drop (length a)) e ∙ drop-at a b (length a) refl))
+behind-part a b t n e h = ap (λ k. last-of k t) h ∙ ap (last-of (length b)) e ∙ last-behind a b
 
 -- The same where so many words stand before the first part.
 pub behind-dropped : (s : List ℕ) (m : ℕ) (a b : List ℕ) (n : ℕ) → drop m s ≡ a ++ b → n ≡ length b → last-of n s ≡ b
@@ -175,7 +53,7 @@ module _ (s h : List ℕ) (P : Scope) (E F : Term) (rest : List ℕ) (p : Plain 
     plain = p;
     fits = f;
     spelled = ap (drop n) e ∙ (drop-at h ((words 1 E ++ words 1 F) ++ rest) n l ∙ append-assoc (words 1 E) (words 1 F) rest);
-    closed = closed-before F rest;
+    closed = term-closed F rest;
   }
 
 module _ (s : List ℕ) (P : Scope) (rest : List ℕ) where

@@ -23,6 +23,7 @@ use Rattle.scan.specs.declared.Checked.{Checked}
 use Rattle.scan.specs.declared.Checked.the-variants.{Left, Refused}
 use Rattle.scan.specs.Checking.{checked, last-of}
 use Rattle.scan.specs.Laws.{nil-form, last-len, checked-giving, both-out, both-in}
+use Rattle.scan.specs.ReadingLaws.{Taken, checked-refused, checked-taken, giving-refused, giving-taken, by-number-refused, by-number-taken, number-below}
 use Rattle.weights.specs.declared.Weight.{Weight}
 use Rattle.weights.specs.Weighing.{cap, measure}
 use Rattle.arguments.specs.Tables.{row, declared}
@@ -30,7 +31,7 @@ use Rattle.arguments.specs.TableLaws.{labels-length, label-at}
 use Rattle.terms.specs.Given.{wrong, weighed-running}
 use Rattle.terms.specs.Answers.{packed, Packs}
 use Rattle.terms.specs.Laws.{element-ends, elements-end}
-use Rattle.terms.proofs.Readings.{Taken, checked-none, checked-taken, giving-refused, giving-taken, by-number-none, by-number-behind, number-below, refused-wrong}
+use Rattle.terms.specs.AnswerLaws.{refused-wrong}
 
 -- ── an element ──
 
@@ -107,23 +108,23 @@ module _ (T t : List ℕ) (b : ℕ) (p : Checked) (i : b ≡ getD T 17 0) (e : p
 
   pub action-none : (j : ℕ) → p ≡ Refused j → wrong ≡ weighed-running (action-of (declared T) t)
   unfolding action-of
-  action-none j h = refused-wrong _ j (by-number-none 5 (length (declared T .labels)) _ t p as-declared j h)
+  action-none j h = refused-wrong _ j (by-number-refused 5 (length (declared T .labels)) _ t j (sym h ∙ as-declared))
 
   -- d is the label, ds its domains
   module _ (n d : ℕ) (r ds : List ℕ) (q : Checked) (h : p ≡ Left n) (z : d ≡ getD t 0 0) (l : r ≡ last-of n t) (o : ds ≡ row T (18 + 3 * d)) (f : q ≡ checked (elements-of 1 (sizes-of (declared T) ds) r)) where
     domains-are : label (declared T) (getD t 0 0) ≡ ds
-    domains-are = label-at T (getD t 0 0) (omega (arith, number-below 5 b n t p e h, i)) ∙ ap (λ k. row T (18 + 3 * k)) (sym z) ∙ sym o
+    domains-are = label-at T (getD t 0 0) (omega (arith, number-below 5 b n t (sym h ∙ e), i)) ∙ ap (λ k. row T (18 + 3 * k)) (sym z) ∙ sym o
 
     there : action-of (declared T) t ≡ giving (perform (getD t 0 0)) (elements-of 1 (sizes-of (declared T) ds) r)
     unfolding action-of declared
-    there = by-number-behind 5 (length (declared T .labels)) _ t p as-declared n h
+    there = by-number-taken 5 (length (declared T .labels)) _ t n (sym h ∙ as-declared)
         ∙ (λ j. giving (perform (getD t 0 0)) (elements-of 1 (sizes-of (declared T) (domains-are j)) (sym l j)))
 
     pub action-out : (j : ℕ) → q ≡ Refused j → wrong ≡ weighed-running (action-of (declared T) t)
-    action-out j g = refused-wrong _ j (there ∙ giving-refused _ _ j (checked-none r q _ j f g))
+    action-out j g = refused-wrong _ j (there ∙ giving-refused _ _ j (checked-refused _ j (sym g ∙ f)))
 
     arguments-taken : (m : ℕ) → q ≡ Left m → Taken r m (elements-of 1 (sizes-of (declared T) ds) r)
-    arguments-taken m g = checked-taken r q (elements-of 1 (sizes-of (declared T) ds) r) m (elements-end 1 (sizes-of (declared T) ds) r) f g
+    arguments-taken m g = checked-taken r m (elements-of 1 (sizes-of (declared T) ds) r) (elements-end 1 (sizes-of (declared T) ds) r) (sym g ∙ f)
 
     module _ (m c : ℕ) (w : Weight) (g : q ≡ Left m) (y : c ≡ length ds) (v : measure w ≡ leaf (sat cap) (2 + 2 * c)) where
       pub action-fits : length t ≤ 8192 → Packs m (measure w)

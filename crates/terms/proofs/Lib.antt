@@ -1,5 +1,4 @@
 mod Numbers
-mod Readings
 mod Leaves
 mod Nested
 mod Parts

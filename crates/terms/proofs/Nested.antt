@@ -20,8 +20,7 @@ use Rattle.arguments.specs.Tables.{declared}
 use Rattle.terms.specs.Given.{wrong, weighed-running}
 use Rattle.terms.specs.Answers.{packed, unpacked, Answer, stars-of, starred-of, stars-in-front, InFront}
 use Rattle.terms.specs.Laws.{term-case}
-use Rattle.terms.specs.AnswerLaws.{Got, got, none-read}
-use Rattle.terms.proofs.Readings.{refused-wrong}
+use Rattle.terms.specs.AnswerLaws.{refused-wrong, Got, got, none-read}
 
 -- ── counting ──
 

@@ -23,14 +23,14 @@ use Rattle.scan.specs.declared.Checked.{Checked}
 use Rattle.scan.specs.declared.Checked.the-variants.{Left, Refused}
 use Rattle.scan.specs.Checking.{checked, last-of}
 use Rattle.scan.specs.Laws.{last-len}
+use Rattle.scan.specs.ReadingLaws.{Taken, checked-refused, checked-taken, giving-refused, giving-taken, both-first, both-second, both-taken, both-behind}
 use Rattle.grammar.specs.Laws.{cond-ends}
 use Rattle.weights.specs.Weighing.{cap, parallel-by}
 use Rattle.arguments.specs.Tables.{declared}
 use Rattle.arguments.specs.TableLaws.{labels-length, guard-declared, mask-ends, mask-read}
 use Rattle.terms.specs.Given.{wrong, weighed-running}
 use Rattle.terms.specs.Answers.{packed, unpacked, Answer, Operands, Operand, join-of, joined-of, weighed-pair, guarded-of}
-use Rattle.terms.specs.AnswerLaws.{Got, got, none-read}
-use Rattle.terms.proofs.Readings.{Taken, checked-none, checked-taken, giving-refused, giving-taken, both-first, both-second, both-taken, both-behind, refused-wrong}
+use Rattle.terms.specs.AnswerLaws.{refused-wrong, Got, got, none-read}
 
 abbrev pub reads : List ℕ → Reader Term
 reads T = read-term (declared T)
@@ -103,12 +103,12 @@ module _ (T t : List ℕ) (b : ℕ) (p : Checked) (i : b ≡ getD T 17 0) (e : p
   as-declared = e ∙ ap (λ n. checked (mask-of 4 n t)) (i ∙ sym (labels-length T))
 
   pub parallel-none : (k : ℕ) → p ≡ Refused k → wrong ≡ weighed-running (term-by (declared T) (read-term (declared T)) TermKind.parallel t)
-  parallel-none k h = refused-wrong _ k (giving-refused _ _ k (both-first masks (both (reads T) (reads T)) t k (checked-none t p (masks t) k as-declared h)))
+  parallel-none k h = refused-wrong _ k (giving-refused _ _ k (both-first masks (both (reads T) (reads T)) t k (checked-refused (masks t) k (sym h ∙ as-declared))))
 
   -- z says whether the mask is zero
   module _ (n : ℕ) (r : List ℕ) (z : Bool) (x : ℕ) (h : p ≡ Left n) (l : r ≡ last-of n t) (o : z ≡ zero-mask (take 4 t)) where
     mask : Taken t n (masks t)
-    mask = checked-taken t p (masks t) n (mask-ends 4 (length (declared T .labels)) t) as-declared h
+    mask = checked-taken t n (masks t) (mask-ends 4 (length (declared T .labels)) t) (sym h ∙ as-declared)
 
     mask-zero : z ≡ zero-mask (mask .value)
     mask-zero = o ∙ ap zero-mask (sym (mask-read 4 (length (declared T .labels)) t (mask .value) (mask .rest) (mask .read)))
@@ -152,11 +152,11 @@ module _ (T t : List ℕ) (b : ℕ) (p : Checked) (i : b ≡ getD T 210 0) (e : 
       ∙ ap (λ P. checked (read-cond 1 P t)) (sym (guard-declared T 0)) ∙ ap checked width-one
 
   pub guarded-none : (k : ℕ) → p ≡ Refused k → wrong ≡ weighed-running (term-by (declared T) (read-term (declared T)) TermKind.guard t)
-  guarded-none k h = refused-wrong _ k (giving-refused _ _ k (both-first conditions (reads T) t k (checked-none t p (conditions t) k in-scope h)))
+  guarded-none k h = refused-wrong _ k (giving-refused _ _ k (both-first conditions (reads T) t k (checked-refused (conditions t) k (sym h ∙ in-scope))))
 
   module _ (n q : ℕ) (r : List ℕ) (fits : length t ≤ 8192) (h : p ≡ Left n) (l : r ≡ last-of n t) (f : q ≡ weighed-running (read-term (declared T) r)) where
     condition : Taken t n (conditions t)
-    condition = checked-taken t p (conditions t) n (cond-ends (declared T .width) (guard-scope (attributes (declared T)) 0) t) in-scope h
+    condition = checked-taken t n (conditions t) (cond-ends (declared T .width) (guard-scope (attributes (declared T)) 0) t) (sym h ∙ in-scope)
 
     behind-is : condition .rest ≡ r
     behind-is = sym (condition .words) ∙ sym l

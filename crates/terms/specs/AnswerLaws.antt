@@ -69,6 +69,10 @@ taken-size T t E u e =
 
 -- ── what was read ──
 
+pub refused-wrong : (r : Read Term) (k : ℕ) → r ≡ refused k → wrong ≡ weighed-running r
+unfolding weighed-running
+refused-wrong r k e = rw e
+
 pub record Got (T t : List ℕ) (p : ℕ) : Type 0 where
   pub value : Term
   pub rest : List ℕ

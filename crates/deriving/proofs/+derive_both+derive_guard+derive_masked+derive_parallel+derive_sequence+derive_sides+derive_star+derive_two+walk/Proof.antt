@@ -6,7 +6,7 @@ use lib.Seq.{length-take-le}
 use mathlib.Core.Path.{refl, sym, ap, _∙_}
 use lib.Dec.{lit<}
 use Rattle.scan.specs.Laws.{behind-len, last-len}
-use Rattle.deriving.proofs.Operands.{answer-is, front-len, mask-len}
+use Rattle.listing.specs.Operands.{answer-is, front-len, mask-len}
 use Rattle.deriving.proofs.Answers.{sound-single}
 use Rattle.deriving.proofs.Arms.{internal-derived, perform-derived, two-lost, two-left, rest-count, two-right, choice-derived, sequence-right, sequence-lost, sequence-found, sequence-passed, star-end, star-round, guard-shut, guard-open, at-front, other-derived}
 use Rattle.deriving.proofs.Masked.{lent-few, masked-lost-first, whole-length, masked-lost-second, masked-fits, masked-none, masked-sides}
@@ -45,8 +45,8 @@ use Rattle.deriving.proofs.walk.Kinds as walk-kinds
 use Rattle.deriving.proofs.+derive_both+derive_guard+derive_masked+derive_parallel+derive_sequence+derive_sides+derive_star+derive_two+walk.Lts-walk as walk-lts
 use Rattle.actions.proofs.behind_action.Reads as behind-action-reads
 use Rattle.arguments.proofs.mask_zero.Reads as mask-zero-reads
-use Rattle.deriving.proofs.behind_mask.Reads as behind-mask-reads
-use Rattle.deriving.proofs.both_done.Reads as both-done-reads
+use Rattle.listing.proofs.behind_mask.Reads as behind-mask-reads
+use Rattle.listing.proofs.both_done.Reads as both-done-reads
 use Rattle.deriving.proofs.decide.Reads as decide-reads
 use Rattle.deriving.proofs.locate.Reads as locate-reads
 use Rattle.deriving.proofs.passing.Reads as passing-reads

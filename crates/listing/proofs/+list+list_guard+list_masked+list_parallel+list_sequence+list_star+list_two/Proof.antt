@@ -3,7 +3,8 @@ use mathlib.Core.Path.{refl, sym, ap, _∙_}
 use lib.ListN.{length, drop}
 use lib.Dec.{lit<}
 use Rattle.scan.specs.Laws.{behind-len, last-len}
-use Rattle.listing.proofs.Answers.{front-len, mask-len, mask-short, lent-few, star-lent, two-lost-first, two-lost-second, two-made}
+use Rattle.listing.specs.Operands.{front-len, mask-len, mask-short}
+use Rattle.listing.proofs.Answers.{lent-few, star-lent, two-lost-first, two-lost-second, two-made}
 use Rattle.listing.proofs.Arms.{internal-listed, perform-listed, choice-listed, at-front, other-listed, sequence-right, sequence-lost, sequence-left}
 use Rattle.listing.proofs.Sides.{star-none, star-lost, star-made, guard-shut, guard-open}
 use Rattle.listing.proofs.Parallels.{masked-lost-first, masked-few, masked-lost-second, masked-fits, masked-lost-made, masked-made, parallel-done, parallel-zero, parallel-masked}

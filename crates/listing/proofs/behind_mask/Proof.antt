@@ -1,7 +1,7 @@
 use mathlib.Core.Path.{_∙_}
 use lib.ListN.{length}
 use Rattle.scan.specs.Laws.{part}
-use Rattle.listing.proofs.Answers.{mask-short-drop}
+use Rattle.listing.specs.Operands.{mask-short-drop}
 use borrow.Author.Needs.{needs}
 use Rattle.listing.proofs.behind_mask.Statement.{statement}
 use Rattle.listing.proofs.behind_mask.Tie as tie

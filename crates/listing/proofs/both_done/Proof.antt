@@ -1,4 +1,4 @@
-use Rattle.listing.proofs.Arms.{both-second, both-first}
+use Rattle.listing.specs.Operands.{both-second, both-first}
 use borrow.Author.Needs.{needs}
 use Rattle.listing.proofs.both_done.Statement.{statement}
 use Rattle.listing.proofs.both_done.Tie as tie

@@ -1,4 +1,4 @@
--- Where the operands of a term stand, and which of them are done: what the tests on codes and on conditions tell.
+-- Where the operands of a term stand, and which of them are done: what the tests on codes and on conditions tell (document 01, "Moves, in order").
 use mathlib.Core.Path.{_≡_, refl, sym, ap, _∙_}
 use mathlib.Core.Bool.{Bool, true, false, _&&_}
 use mathlib.Core.List.{List, [], _∷_, _++_}
@@ -12,10 +12,12 @@ use Rattle.eb3.specs.Scopes.{Scope}
 use Rattle.eb3.specs.Terms.{Term, Done, Internal, Perform, Sequence, Choice, Star, Parallel, Guard, done?}
 use Rattle.eb3.specs.Spelling.{cond-words, words}
 use Rattle.scan.specs.Checking.{last-of}
+use Rattle.scan.specs.Laws.{last-behind}
 use Rattle.expressions.specs.Answering.{truth, answer, Judged}
+use Rattle.expressions.specs.Laws.{truth-word}
 use Rattle.listing.specs.Listing.{TermAt, holding}
-use Rattle.listing.specs.Positions.{code-in-front, TwoAt, GuardedAt, term-front, last-behind}
+use Rattle.listing.specs.Positions.{code-in-front, TwoAt, GuardedAt, term-front}
 use Rattle.listing.specs.ByCode.{by-done}
 
 -- ── numbers in one ──
 
@@ -32,7 +34,7 @@ module _ (r left n : ℕ) (e : r ≡ answer left n) (h : left ≤ 65535) where
 
 -- ── which operands are done ──
 
-is-done : (E : Term) → 30 ≡ code-in-front E → E ≡ Done
+pub is-done : (E : Term) → 30 ≡ code-in-front E → E ≡ Done
 is-done E e = by-done (λ X. X ≡ Done) refl E e
 
 pub done-test : (E : Term) → 30 ≡ code-in-front E → done? E ≡ true
@@ -117,11 +119,6 @@ behind-both {t} {P} {E} {F} {rest} s q = both-words t E F rest (s .first .spelle
 
 -- ── a guard ──
 
-truth-small : (b : Bool) → truth b ≤ 65535
-unfolding truth
-truth-small true = omega arith
-truth-small false = omega arith
-
 pub truth-none : (b : Bool) → truth b ≡ 0 → b ≡ false
 unfolding truth
 truth-none true e = absurd (omega arith)
@@ -138,11 +135,11 @@ module _ (t M u : List ℕ) (c : ℕ) (judged : Judged t M c) (isu : u ≡ last-
     told = judged P C (words 1 E ++ rest) (s .condition)
 
     pub holds : c % 65536 ≡ truth (holding M C)
-    holds = answered-left c (truth (holding M C)) (length (words 1 E ++ rest)) told (truth-small (holding M C))
+    holds = answered-left c (truth (holding M C)) (length (words 1 E ++ rest)) told (omega (arith, truth-word (holding M C)))
 
     pub guarded-here : TermAt u P E rest
     guarded-here =
-        let e : c / 65536 ≡ length (words 1 E ++ rest) = answered-count c (truth (holding M C)) (length (words 1 E ++ rest)) told (truth-small (holding M C)) in
+        let e : c / 65536 ≡ length (words 1 E ++ rest) = answered-count c (truth (holding M C)) (length (words 1 E ++ rest)) told (omega (arith, truth-word (holding M C))) in
         let q : u ≡ words 1 E ++ rest = isu ∙ ap (λ n. last-of n t) e ∙ ap (last-of (length (words 1 E ++ rest))) (s .condition .spelled) ∙ last-behind (cond-words 1 C) (words 1 E ++ rest) in
         record { plain = s .guarded .plain; fits = s .guarded .fits; spelled = q; closed = s .guarded .closed }
 
