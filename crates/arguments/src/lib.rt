@@ -49,6 +49,31 @@ pub fn entry(tb: &[u32], at: usize) -> u32
     0
 }
 
+// How many domains, labels, functions and processes there are.
+pub fn domains(tb: &[u32]) -> usize
+    ensures { λ r. ⌜ r ≡ getD (now (tb .entry)) 0 0 ⌝ }
+{
+    wide32(entry(tb, 0))
+}
+
+pub fn labels(tb: &[u32]) -> usize
+    ensures { λ r. ⌜ r ≡ getD (now (tb .entry)) 17 0 ⌝ }
+{
+    wide32(entry(tb, 17))
+}
+
+pub fn functions(tb: &[u32]) -> usize
+    ensures { λ r. ⌜ r ≡ getD (now (tb .entry)) 210 0 ⌝ }
+{
+    wide32(entry(tb, 210))
+}
+
+pub fn processes(tb: &[u32]) -> usize
+    ensures { λ r. ⌜ r ≡ getD (now (tb .entry)) 211 0 ⌝ }
+{
+    wide32(entry(tb, 211))
+}
+
 // A count at a place, and that many words behind it.
 pub fn row_at(tb: &[u32], at: usize) -> &[u32]
     ensures { λ r. ⌜ now r ≡ row (now (tb .entry)) at ⌝ }
@@ -131,6 +156,22 @@ pub fn mask_zero(t: &[u16]) -> bool
         i = i + 1;
     }
     true
+}
+
+// ── variables ──
+
+// What is known of the variables in scope, their domains or their values, and of one more.
+pub fn with(vars: &[u16], x: u16) -> [u16; 8]
+    requires { ⌜ length (now vars) < 8 ⌝ }
+    ensures { λ r. ⌜ take (length (now (vars .entry)) + 1) r ≡ now (vars .entry) ++ (x ∷ []) ⌝ }
+{
+    let mut more = [x; 8];
+    let mut i = 0;
+    while i < vars.len() {
+        more[i] = vars[i];
+        i = i + 1;
+    }
+    more
 }
 
 // ── arguments ──

@@ -1,4 +1,3 @@
-mod Variables
 mod Leaves
 mod Parts
 mod Binders

@@ -2,7 +2,7 @@
 // stream", item 5; "Unfolding, size and breadth").
 ghost use mathlib.Core.Path.{_≡_};
 ghost use mathlib.Core.Bool.{Bool};
-ghost use mathlib.Core.List.{[], _∷_, _++_};
+
 ghost use Prim.Native.Nat.{_+_, _-_, _≤_, _<_};
 ghost use lib.ListN.{drop, take, getD, length};
 ghost use Rattle.eb3.specs.Limits.{edition-1};
@@ -18,11 +18,15 @@ ghost use Rattle.rule_terms.specs.Weighed.{weighed, weighed-sides, weigh
 ghost use Rattle.rule_terms.specs.Starred.{Stars};
 use arguments::check_arguments;
 use arguments::check_mask;
+use arguments::domains;
 use arguments::entry;
+use arguments::functions;
+use arguments::labels;
 use arguments::mask_zero;
+use arguments::processes;
 use arguments::row_at;
 use arguments::size_of;
-use arguments::wide32;
+use arguments::with;
 use grammar::Scope;
 use grammar::check_cond;
 use scan::Checked;
@@ -35,6 +39,7 @@ use weights::choice;
 use weights::choices;
 use weights::empty;
 use weights::guard;
+use weights::narrow;
 use weights::parallel;
 use weights::parallels;
 use weights::sequence;
@@ -50,38 +55,7 @@ pub enum Weighed {
     Refused(u8),
 }
 
-fn narrow(x: usize) -> u64
-    ensures { λ r. ⌜ r ≡ x ⌝ }
-{
-    x as u64
-}
-
 // ── the tables ──
-
-// How many domains, labels, functions and processes there are.
-fn domains(tb: &[u32]) -> usize
-    ensures { λ r. ⌜ r ≡ getD (now (tb .entry)) 0 0 ⌝ }
-{
-    wide32(entry(tb, 0))
-}
-
-fn labels(tb: &[u32]) -> usize
-    ensures { λ r. ⌜ r ≡ getD (now (tb .entry)) 17 0 ⌝ }
-{
-    wide32(entry(tb, 17))
-}
-
-fn functions(tb: &[u32]) -> usize
-    ensures { λ r. ⌜ r ≡ getD (now (tb .entry)) 210 0 ⌝ }
-{
-    wide32(entry(tb, 210))
-}
-
-fn processes(tb: &[u32]) -> usize
-    ensures { λ r. ⌜ (r ≡ getD (now (tb .entry)) 211 0) × (r < 4294967296) ⌝ }
-{
-    wide32(entry(tb, 211))
-}
 
 // The measures of a process that stands before.
 fn weight_of(tb: &[u32], p: usize) -> Weight
@@ -130,20 +104,6 @@ fn call(t: &[u16], tb: &[u32], vars: &[u16]) -> Weighed
         }
         Checked::Refused(k) => Weighed::Refused(k),
     }
-}
-
-// The variables in scope, and one more of the domain d.
-fn with(vars: &[u16], d: u16) -> [u16; 8]
-    requires { ⌜ length (now vars) < 8 ⌝ }
-    ensures { λ r. ⌜ take (length (now (vars .entry)) + 1) r ≡ now (vars .entry) ++ (d ∷ []) ⌝ }
-{
-    let mut more = [d; 8];
-    let mut i = 0;
-    while i < vars.len() {
-        more[i] = vars[i];
-        i = i + 1;
-    }
-    more
 }
 
 // A term inside a term. Each level of nesting is one frame of `check_term`, where what a call hands over (three slices and

@@ -14,7 +14,8 @@ ghost use Rattle.arguments.specs.Tables.{declared};
 ghost use Rattle.terms.specs.Given.{weighed-running, given};
 ghost use Rattle.terms.specs.Answers.{packed, unpacked, Answer, Packs, Operands, Operand, join-of, joined-of, weighed-pair, guarded-of, starred-of, InFront};
 use arguments::check_mask;
-use arguments::entry;
+use arguments::functions;
+use arguments::labels;
 use arguments::mask_zero;
 use arguments::row_at;
 use arguments::size_of;
@@ -31,6 +32,7 @@ use weights::Weight;
 use weights::choice;
 use weights::empty;
 use weights::guard;
+use weights::narrow;
 use weights::parallel;
 use weights::sequence;
 use weights::single;
@@ -48,27 +50,6 @@ const BREADTH: usize = 65535;
 pub enum Given {
     Running(u32, u32),
     Wrong,
-}
-
-fn narrow(x: usize) -> u64
-    ensures { λ r. ⌜ r ≡ x ⌝ }
-{
-    x as u64
-}
-
-// ── the tables ──
-
-// How many labels and functions there are.
-fn labels(tb: &[u32]) -> usize
-    ensures { λ r. ⌜ r ≡ getD (now (tb .entry)) 17 0 ⌝ }
-{
-    wide32(entry(tb, 17))
-}
-
-fn functions(tb: &[u32]) -> usize
-    ensures { λ r. ⌜ r ≡ getD (now (tb .entry)) 210 0 ⌝ }
-{
-    wide32(entry(tb, 210))
 }
 
 // ── answers ──

@@ -19,6 +19,7 @@ use arguments::entry;
 use arguments::row_at;
 use arguments::size_of;
 use arguments::wide32;
+use arguments::with;
 use rows::action;
 use rows::condition;
 use rows::none;
@@ -27,7 +28,6 @@ use scan::first;
 use scan::last;
 use scan::wide;
 use values::arguments_of;
-use values::with;
 
 // Whether there was room; the words written, and the words left behind the term.
 pub struct Unfolded {

@@ -1,8 +1,7 @@
-// Values of variables: those of a call's arguments, and one more for a quantifier's element (document 01, "Blocks and the
-// rule stream", item 5: at most eight variables in scope).
+// Values of variables: those of a call's arguments (document 01, "Blocks and the rule stream", item 5: at most eight
+// variables in scope).
 ghost use mathlib.Core.Path.{_≡_};
-ghost use Prim.Native.Nat.{_+_, _≤_, _<_};
-ghost use mathlib.Core.List.{[], _∷_, _++_};
+ghost use Prim.Native.Nat.{_≤_};
 ghost use lib.ListN.{length, take, getD};
 ghost use Rattle.arguments.specs.Tables.{from};
 ghost use Rattle.unfold.specs.Saying.{argument-at};
@@ -43,18 +42,4 @@ pub fn arguments_of(s: &[u16], vars: &[u16], k: usize) -> [u16; 8]
         j = j + 1;
     }
     values
-}
-
-// The values given, and one more.
-pub fn with(vars: &[u16], x: u16) -> [u16; 8]
-    requires { ⌜ length (now vars) < 8 ⌝ }
-    ensures { λ r. ⌜ take (length (now (vars .entry)) + 1) r ≡ now (vars .entry) ++ (x ∷ []) ⌝ }
-{
-    let mut more = [x; 8];
-    let mut i = 0;
-    while i < vars.len() {
-        more[i] = vars[i];
-        i = i + 1;
-    }
-    more
 }

@@ -13,6 +13,13 @@ pub struct Weight {
     pub breadth: u32,
 }
 
+// So many words.
+pub fn narrow(x: usize) -> u64
+    ensures { λ r. ⌜ r ≡ x ⌝ }
+{
+    x as u64
+}
+
 fn wide(x: u32) -> u64
     ensures { λ r. ⌜ (r ≡ x) × (r < 4294967296) ⌝ }
 {

@@ -1,7 +1,7 @@
 use Prim.Native.Nat.{ℕ, _+_, _*_, _<_}
 use lib.ListN.{length}
 use Rattle.scan.specs.Laws.{behind-len, last-len, by-number-pos}
-use Rattle.rule_terms.proofs.Variables.{with-len, with-fits}
+use Rattle.arguments.specs.VariableLaws.{with-length, with-few}
 use Rattle.rule_terms.proofs.Codes.{codes, parts, binders}
 use Rattle.rule_terms.proofs.Stars.{around, beyond-len, beyond-front}
 use borrow.Author.Needs.{needs}
@@ -52,10 +52,10 @@ use Rattle.arguments.proofs.check_mask.Reads as check-mask-reads
 use Rattle.weights.proofs.choice.Reads as choice-reads
 use Rattle.rule_terms.proofs.condition.Reads as condition-reads
 use Rattle.rule_terms.proofs.copied.Reads as copied-reads
-use Rattle.rule_terms.proofs.domains.Reads as domains-reads
+use Rattle.arguments.proofs.domains.Reads as domains-reads
 use Rattle.scan.proofs.first.Reads as first-reads
 use Rattle.weights.proofs.guard.Reads as guard-reads
-use Rattle.rule_terms.proofs.labels.Reads as labels-reads
+use Rattle.arguments.proofs.labels.Reads as labels-reads
 use Rattle.scan.proofs.last.Reads as last-reads
 use Rattle.rule_terms.proofs.mask_if.Reads as mask-if-reads
 use Rattle.arguments.proofs.mask_zero.Reads as mask-zero-reads
@@ -67,7 +67,7 @@ use Rattle.arguments.proofs.size_of.Reads as size-of-reads
 use Rattle.weights.proofs.stars.Reads as stars-reads
 use Rattle.rule_terms.proofs.stars_in.Reads as stars-in-reads
 use Rattle.rule_terms.proofs.taken_of.Reads as taken-of-reads
-use Rattle.rule_terms.proofs.with.Reads as with-reads
+use Rattle.arguments.proofs.with.Reads as with-reads
 use Rattle.rule_terms.proofs.+check_plain+check_term+copies+guarded+in_choice+in_parallel+in_sequence+many+operand+over+quantified+sides.{
   statement,
 }
@@ -369,10 +369,10 @@ pub +check-plain+check-term+copies+guarded+in-choice+in-parallel+in-sequence+man
     (λ c. search needs)
     (λ c κs. search needs)
     (λ c. search needs)
-    (λ c. search with-len)
+    (λ c. search with-length)
     (λ c κs. search needs)
     (λ c κs. search needs)
-    (λ c κs. (omega (arith, last-len), (search with-fits, omega (arith, last-len))))
+    (λ c κs. (omega (arith, last-len), (search with-few, omega (arith, last-len))))
     (λ c. search needs)
     (λ c. search binders)
     (λ c. search binders))

@@ -31,9 +31,9 @@ use Rattle.scan.proofs.behind.Reads as behind-reads
 use Rattle.scan.proofs.last.Reads as last-reads
 use Rattle.scan.proofs.wide.Reads as wide-reads
 use Rattle.terms.proofs.action.Reads as action-reads
-use Rattle.terms.proofs.functions.Reads as functions-reads
+use Rattle.arguments.proofs.functions.Reads as functions-reads
 use Rattle.terms.proofs.joined.Reads as joined-reads
-use Rattle.terms.proofs.labels.Reads as labels-reads
+use Rattle.arguments.proofs.labels.Reads as labels-reads
 use Rattle.terms.proofs.left.Reads as left-reads
 use Rattle.terms.proofs.pack.Reads as pack-reads
 use Rattle.terms.proofs.stars.Reads as stars-reads

@@ -1,7 +1,8 @@
 use Prim.Native.Nat.{_*_}
 use borrow.Author.Tests.{not-false}
 use Rattle.unfold.specs.PutsLaws.{sum-fits}
-use Rattle.unfold.proofs.ValueCases.{values-length, values-few, with-length, with-few}
+use Rattle.unfold.proofs.ValueCases.{values-length, values-few}
+use Rattle.arguments.specs.VariableLaws.{with-length, with-few}
 use Rattle.unfold.proofs.TermCases.{mask-taken, copies-next}
 use Rattle.unfold.proofs.TermCases.{terms, parts, quantifiers, callees}
 use Rattle.unfold.proofs.RowCases.{last-size}

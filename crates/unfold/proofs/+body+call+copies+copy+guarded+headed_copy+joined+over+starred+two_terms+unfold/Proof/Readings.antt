@@ -53,7 +53,7 @@ use Rattle.unfold.proofs.rows.condition.Reads as condition-reads
 use Rattle.unfold.proofs.rows.none.Reads as none-reads
 use Rattle.unfold.proofs.rows.put_head.Reads as put-head-reads
 use Rattle.unfold.proofs.values.arguments_of.Reads as arguments-of-reads
-use Rattle.unfold.proofs.values.with.Reads as with-reads
+use Rattle.arguments.proofs.with.Reads as with-reads
 
 abbrev pub μ-body : Measures 4 body-kinds.ps ℕ
 μ-body κs a = a .1 .1 .1 .1 .0 * 262144 + 262143

@@ -4,7 +4,7 @@ use native.Mathlib.Numerals.{add-one}
 use native.Mathlib.Omega.{arith}
 use mathlib.Core.Path.{_≡_, refl, sym, ap, _∙_}
 use mathlib.Core.List.{List, [], _∷_, _++_}
-use lib.ListN.{length, take, drop, getD, set, length-append}
+use lib.ListN.{length, take, drop, getD, set}
 use lib.Seq.{paste, paste-suc, take-append-add, take-length}
 
 pub with-more : (vars more more₀ : List ℕ) (i : ℕ) → i < length vars → length vars < 8 → length more₀ ≡ 8 → more ≡ paste more₀ 0 vars i → set more i (getD vars i 0) ≡ paste more₀ 0 vars (i + 1)
@@ -28,9 +28,3 @@ with-last vars more d i l a b e =
     one (suc (suc (suc (suc (suc (suc zero)))))) h = refl
     one (suc (suc (suc (suc (suc (suc (suc zero))))))) h = refl
     one (suc (suc (suc (suc (suc (suc (suc (suc k)))))))) h = absurd (omega arith)
-
-pub with-len : (vars r : List ℕ) (d : ℕ) → take (length vars + 1) r ≡ vars ++ (d ∷ []) → length vars + 1 ≡ length (take (length vars + 1) r)
-with-len vars r d e = sym (ap length e ∙ length-append vars (d ∷ []))
-
-pub with-fits : (vars r : List ℕ) (d : ℕ) → take (length vars + 1) r ≡ vars ++ (d ∷ []) → length vars < 8 → length (take (length vars + 1) r) ≤ 8
-with-fits vars r d e h = omega (arith, with-len vars r d e)
