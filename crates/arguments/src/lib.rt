@@ -69,7 +69,7 @@ pub fn functions(tb: &[u32]) -> usize
 }
 
 pub fn processes(tb: &[u32]) -> usize
-    ensures { λ r. ⌜ r ≡ getD (now (tb .entry)) 211 0 ⌝ }
+    ensures { λ r. ⌜ (r ≡ getD (now (tb .entry)) 211 0) × (r < 4294967296) ⌝ }
 {
     wide32(entry(tb, 211))
 }

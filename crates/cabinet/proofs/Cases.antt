@@ -4,9 +4,9 @@ use Prim.Native.Nat.{ℕ}
 use mathlib.Core.List.{List}
 use Rattle.eb3.specs.Terms.{Action, internal, visible}
 use Rattle.eb3.specs.Answers.{Answer, refused, answered, Sizes, Moved, Ran, Written}
+use Rattle.weights.specs.declared.Limits.{Limits}
 use Rattle.engine.specs.declared.Admitted.{Admitted}
 use Rattle.engine.specs.declared.Admitted.the-variants.{Sizes as Admitted·sizes, Refused as Admitted·refused}
-use Rattle.engine.specs.declared.Limits.{Limits}
 use Rattle.engine.specs.Answering.{admitted}
 use Rattle.cabinet.specs.declared.Sizes.{Sizes as CSizes}
 use Rattle.engine.specs.declared.starting.Started.{Started}

@@ -20,8 +20,9 @@ use Rattle.eb3.specs.RuleReading.{read-rules}
 use Rattle.eb3.specs.Admission.{all-zero}
 use Rattle.eb3.specs.Operations.{admit}
 use Rattle.eb3.specs.Laws.Judging.{judged, whole-of, admit-by-parts}
-use Rattle.weights.specs.Weighing.{measure}
+use Rattle.weights.specs.Weighing.{measure, reported}
 use Rattle.weights.specs.declared.Weight.{Weight}
+use Rattle.weights.specs.declared.Limits.{Limits}
 use Rattle.scan.specs.Checking.{last-of}
 use Rattle.rules.specs.declared.Rules.{Rules}
 use Rattle.rules.specs.declared.Rules.the-variants.{Found, Refused}
@@ -32,8 +33,7 @@ use Rattle.blocks.specs.declared.Opened.the-variants.{Blocks, Refused as Opened
 use Rattle.blocks.specs.Opening.{opening}
 use Rattle.engine.specs.declared.Admitted.{Admitted}
 use Rattle.engine.specs.declared.Admitted.the-variants.{Sizes as Admitted·sizes, Refused as Admitted·refused}
-use Rattle.engine.specs.declared.Limits.{Limits}
-use Rattle.engine.specs.Answering.{admitted, reported, read-whole}
+use Rattle.engine.specs.Answering.{admitted, read-whole}
 use Rattle.engine.specs.Admitting.{Described, WordsAdmitted, FileAdmitted}
 use Rattle.engine.specs.Knowing.{Opens}
 

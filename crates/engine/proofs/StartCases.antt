@@ -21,9 +21,9 @@ use Rattle.eb3.specs.Laws.Sizes.{size-below-reach}
 use Rattle.eb3.specs.Laws.Spelling.{words-length}
 use Rattle.eb3.specs.Laws.MainRunning.{main-running}
 use Rattle.eb3.specs.Operations.{main-reach, cells-needed}
+use Rattle.weights.specs.declared.Limits.{Limits}
 use Rattle.declarations.specs.Directory.{Directory}
 use Rattle.cells.specs.Readying.{few}
-use Rattle.engine.specs.declared.Limits.{Limits}
 use Rattle.engine.specs.declared.starting.Started.{Started}
 use Rattle.engine.specs.declared.starting.Started.the-variants.{Size, Refused}
 use Rattle.engine.specs.Knowing.{Known}

@@ -18,9 +18,9 @@ use Rattle.eb3.specs.Unfolding.{unfold-main}
 use Rattle.eb3.specs.Answers.{Answer, refused, answered, and-then, Sizes}
 use Rattle.eb3.specs.Operations.{admit, admit-in, sizes-needed}
 use Rattle.eb3.specs.Laws.Answers.{and-then-answered, answered-injective, pick-answered, not-both}
+use Rattle.weights.specs.declared.Limits.{Limits}
 use Rattle.engine.specs.declared.Admitted.{Admitted}
 use Rattle.engine.specs.declared.Admitted.the-variants.{Sizes as Admitted·sizes, Refused as Admitted·refused}
-use Rattle.engine.specs.declared.Limits.{Limits}
 use Rattle.engine.specs.Answering.{limits, admitted}
 
 refused-from : (a : Answer RuleSet) (k : ℕ) → Admitted·refused k ≡ admitted (and-then a λ R. answered (sizes-needed R)) → a ≡ refused k

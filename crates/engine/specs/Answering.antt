@@ -2,13 +2,12 @@
 use mathlib.Core.List.{List}
 use Prim.Native.Nat.{ℕ}
 use Rattle.eb3.specs.Limits.{edition-1}
-use Rattle.eb3.specs.Measures.{Measure}
 use Rattle.eb3.specs.RuleReading.{read-rules}
 use Rattle.eb3.specs.Answers.{Answer, refused, answered, Sizes}
 use Rattle.eb3.specs.Laws.Judging.{whole-of}
+use Rattle.weights.specs.declared.Limits.{Limits}
 use Rattle.engine.specs.declared.Admitted.{Admitted}
 use Rattle.engine.specs.declared.Admitted.the-variants.{Sizes as Admitted·sizes, Refused as Admitted·refused}
-use Rattle.engine.specs.declared.Limits.{Limits}
 
 abbrev pub limits : Sizes → Limits
 limits S = record { cells = S .cells; reach = S .reach; breadth = S .breadth; size = S .size }
@@ -17,9 +16,6 @@ limits S = record { cells = S .cells; reach = S .reach; breadth = S .breadth; si
 unfoldable pub admitted : Answer Sizes → Admitted
 admitted (refused k) = Admitted·refused k
 admitted (answered S) = Admitted·sizes (limits S)
-
-abbrev pub reported : ℕ → Measure → Limits
-reported cells m = record { cells = cells; reach = m .reach; breadth = m .breadth; size = m .size }
 
 -- The stream behind its first two words: read, ended, judged.
 abbrev pub read-whole : List ℕ → Admitted

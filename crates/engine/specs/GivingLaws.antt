@@ -18,10 +18,10 @@ use Rattle.eb3.specs.WellFormedness.{Form}
 use Rattle.eb3.specs.Answers.{Answer, refused, answered, and-then}
 use Rattle.eb3.specs.Laws.Answers.{and-then-answered, answered-injective, not-both}
 use Rattle.eb3.specs.Operations.{cells-needed, term-in}
+use Rattle.weights.specs.declared.Limits.{Limits}
 use Rattle.declarations.specs.Declaring.{Declares}
 use Rattle.cells.specs.Readying.{few}
 use Rattle.steps.specs.Storing.{Ruled}
-use Rattle.engine.specs.declared.Limits.{Limits}
 use Rattle.engine.specs.declared.giving.Given.{Given}
 use Rattle.engine.specs.declared.giving.Given.the-variants.{Term as Given·term, Refused}
 use Rattle.engine.specs.Knowing.{Known}

@@ -16,10 +16,10 @@ use Rattle.eb3.specs.Answers.{refused, answered, and-then}
 use Rattle.eb3.specs.Operations.{admit, sizes-needed}
 use Rattle.eb3.specs.Laws.Judging.{whole-of, admit-by-parts}
 use Rattle.eb3.specs.Laws.Admission.{admitted as admitted-form}
+use Rattle.weights.specs.declared.Limits.{Limits}
 use Rattle.declarations.specs.Directory.{Directory, row-width}
 use Rattle.engine.specs.declared.Admitted.{Admitted}
 use Rattle.engine.specs.declared.Admitted.the-variants.{Sizes as Admitted·sizes, Refused as Admitted·refused}
-use Rattle.engine.specs.declared.Limits.{Limits}
 use Rattle.engine.specs.Answering.{limits, admitted, read-whole}
 use Rattle.engine.specs.Admitting.{FileAdmitted}
 use Rattle.engine.specs.AdmissionLaws.{admission-refused, admission-answered, admission-taken}

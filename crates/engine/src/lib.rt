@@ -13,7 +13,7 @@ ghost use Rattle.eb3.specs.Operations.{admit};
 ghost use Rattle.rules.specs.Sections.{rules-weighed};
 ghost use Rattle.weights.specs.Weighing.{measure};
 ghost use Rattle.eb3.specs.Laws.Judging.{judged};
-ghost use Rattle.engine.specs.Answering.{admitted, reported, read-whole};
+ghost use Rattle.engine.specs.Answering.{admitted, read-whole};
 ghost use Rattle.engine.specs.Admitting.{WordsAdmitted, FileAdmitted};
 
 pub mod asking;
@@ -30,37 +30,12 @@ use blocks::open;
 use rules::Rules;
 use rules::read;
 use scan::last;
+use weights::Limits;
 use weights::Weight;
-
-// The numbers that a rule set is judged by, and those that are reported of one: C, G, W and the start term's size.
-pub struct Limits {
-    pub cells: u32,
-    pub reach: u32,
-    pub breadth: u32,
-    pub size: u32,
-}
 
 pub enum Admitted {
     Sizes(Limits),
     Refused(u8),
-}
-
-impl Limits {
-    pub const REACH: u32 = 8192;
-
-    pub const BREADTH: u32 = 65535;
-
-    // The reported sizes of a rule set with so many cells, whose main measures so.
-    pub fn new(cells: u32, w: Weight) -> Limits
-        ensures { λ r. ⌜ r ≡ reported cells (measure w) ⌝ }
-    {
-        Limits {
-            cells,
-            reach: w.reach,
-            breadth: w.breadth,
-            size: w.size,
-        }
-    }
 }
 
 // Refusal 7, then 8; else the sizes.

@@ -70,25 +70,25 @@ module _ (T s : List ℕ) where
       pub given-more : (n ≡ 0 → ⊥) → Wrong ≡ given (given-term edition-1 (declared T) s)
       given-more o = alone-more (whole .value) (whole .rest) (λ z. o (i ∙ whole .left ∙ z)) ∙ sym (by-reading _ (whole .read))
 
-      -- g is the reach and v is it, b the breadth and w is it
-      module _ (o : n ≡ 0) (g v : ℕ) (j : g ≡ p / 65536 % 131072) (k : v ≡ g) where
+      -- g is the reach, b the breadth
+      module _ (o : n ≡ 0) (g : ℕ) (j : g ≡ p / 65536 % 131072) where
         to-end : read-term (declared T) s ≡ taken (whole .value) []
         to-end = whole .read ∙ ap (taken (whole .value)) (nil-form (whole .rest) (sym (whole .left) ∙ sym i ∙ o))
 
-        reach-is : v ≡ sat cap (reach 1 (whole .value))
-        reach-is = k ∙ j ∙ ap (λ (m : Measure). m .reach) (whole .measured) ∙ reach-cut (whole .value)
+        reach-is : g ≡ sat cap (reach 1 (whole .value))
+        reach-is = j ∙ ap (λ (m : Measure). m .reach) (whole .measured) ∙ reach-cut (whole .value)
 
-        pub given-far : 8192 < v → Wrong ≡ given (given-term edition-1 (declared T) s)
+        pub given-far : 8192 < g → Wrong ≡ given (given-term edition-1 (declared T) s)
         given-far l = alone-far (whole .value) (omega (arith, reach-is)) ∙ sym (by-reading _ to-end)
 
-        module _ (r : v ≤ 8192) (b w : ℕ) (x : b ≡ p / 8589934592) (y : w ≡ b) where
-          breadth-is : w ≡ sat cap (breadth (whole .value))
-          breadth-is = y ∙ x ∙ ap (λ (m : Measure). m .breadth) (whole .measured) ∙ breadth-cut (whole .value)
+        module _ (r : g ≤ 8192) (b : ℕ) (x : b ≡ p / 8589934592) where
+          breadth-is : b ≡ sat cap (breadth (whole .value))
+          breadth-is = x ∙ ap (λ (m : Measure). m .breadth) (whole .measured) ∙ breadth-cut (whole .value)
 
-          pub given-broad : 65535 < w → Wrong ≡ given (given-term edition-1 (declared T) s)
+          pub given-broad : 65535 < b → Wrong ≡ given (given-term edition-1 (declared T) s)
           given-broad l = alone-broad (whole .value) (omega (arith, reach-is)) (omega (arith, breadth-is)) ∙ sym (by-reading _ to-end)
 
-          pub given-in : w ≤ 65535 → Running g b ≡ given (given-term edition-1 (declared T) s)
+          pub given-in : b ≤ 65535 → Running g b ≡ given (given-term edition-1 (declared T) s)
           given-in l =
               let c : g ≡ reach 1 (whole .value) = omega (arith, reach-is) in
               let d : b ≡ breadth (whole .value) = omega (arith, breadth-is) in

@@ -28,6 +28,7 @@ use scan::first;
 use scan::last;
 use scan::number;
 use scan::wide;
+use weights::Limits;
 use weights::Weight;
 use weights::choice;
 use weights::empty;
@@ -40,11 +41,6 @@ use weights::star;
 
 // Above every answer that says what was read.
 const WRONG: usize = 1152921504606846976;
-
-// What a given term may have; no term has more words than its reach.
-const REACH: usize = 8192;
-
-const BREADTH: usize = 65535;
 
 // A given term's reach and breadth; or that it is no running term within the limits.
 pub enum Given {
@@ -298,7 +294,8 @@ fn check_running(s: &[u16], tb: &[u32]) -> usize
 pub fn given_term(s: &[u16], tb: &[u32]) -> Given
     ensures { λ r. ⌜ r ≡ given (given-term edition-1 (declared (now (tb .entry))) (now (s .entry))) ⌝ }
 {
-    if REACH < s.len() {
+    // No term has more words than its reach.
+    if wide32(Limits::REACH) < s.len() {
         return Given::Wrong;
     }
     let p = check_running(s, tb);
@@ -310,10 +307,10 @@ pub fn given_term(s: &[u16], tb: &[u32]) -> Given
     }
     let g = reach(p);
     let b = breadth(p);
-    if REACH < wide32(g) {
+    if Limits::REACH < g {
         return Given::Wrong;
     }
-    if BREADTH < wide32(b) {
+    if Limits::BREADTH < b {
         return Given::Wrong;
     }
     Given::Running(g, b)

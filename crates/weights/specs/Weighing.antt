@@ -1,10 +1,10 @@
 -- A weight is a measure of the specification, cut off at 65,536.
 -- Document 01, "Unfolding, size and breadth"; refusals 7 and 8.
 use mathlib.Core.Bool.{Bool}
-use Prim.Native.Nat.{ℕ, zero, suc}
+use Prim.Native.Nat.{ℕ, zero, suc, _+_}
 use Rattle.eb3.specs.Measures.{sat, Measure, parallel-breadth-of, star-of}
 use Rattle.weights.specs.declared.Weight.{Weight}
-use Prim.Native.Nat.{_+_}
+use Rattle.weights.specs.declared.Limits.{Limits}
 
 abbrev pub cap : ℕ
 cap = 65536
@@ -14,6 +14,10 @@ measure w = record { size = w .size; reach = w .reach; breadth = w .breadth }
 
 abbrev pub weight : Measure → Weight
 weight m = record { size = m .size; reach = m .reach; breadth = m .breadth }
+
+-- What is reported of a rule set with so many cells, whose main measures so.
+abbrev pub reported : ℕ → Measure → Limits
+reported cells m = record { cells = cells; reach = m .reach; breadth = m .breadth; size = m .size }
 
 -- A parallel's measure from its sides', by whether its mask is zero.
 abbrev pub parallel-by : Bool → Measure → Measure → Measure

@@ -1,16 +1,42 @@
-// Size, reach and breadth of a term from those of its parts, each cut off at 65,536, which is above both limits
-// (document 01, "Unfolding, size and breadth"; refusals 7 and 8).
+// Size, reach and breadth of a term from those of its parts, each cut off at 65,536, which is above both limits; and the
+// limits (document 01, "Unfolding, size and breadth"; refusals 7 and 8).
 ghost use mathlib.Core.Path.{_≡_};
 ghost use mathlib.Core.Bool.{Bool};
 ghost use Prim.Native.Nat.{ℕ, _+_, _*_, _≤_, _<_, max, min};
 ghost use Rattle.eb3.specs.Unfolding.{right-nest};
 ghost use Rattle.eb3.specs.Measures.{sat, leaf, nothing, sequence-of, choice-of, star-of, parallel-breadth-of, guard-of};
-ghost use Rattle.weights.specs.Weighing.{measure, cap, parallel-by, stars-of};
+ghost use Rattle.weights.specs.Weighing.{measure, cap, reported, parallel-by, stars-of};
 
 pub struct Weight {
     pub size: u32,
     pub reach: u32,
     pub breadth: u32,
+}
+
+// The numbers that a rule set is judged by, and those that are reported of one: C, G, W and the start term's size.
+pub struct Limits {
+    pub cells: u32,
+    pub reach: u32,
+    pub breadth: u32,
+    pub size: u32,
+}
+
+impl Limits {
+    pub const REACH: u32 = 8192;
+
+    pub const BREADTH: u32 = 65535;
+
+    // The reported sizes of a rule set with so many cells, whose main measures so.
+    pub fn new(cells: u32, w: Weight) -> Limits
+        ensures { λ r. ⌜ r ≡ reported cells (measure w) ⌝ }
+    {
+        Limits {
+            cells,
+            reach: w.reach,
+            breadth: w.breadth,
+            size: w.size,
+        }
+    }
 }
 
 // So many words.
