@@ -41,6 +41,8 @@ pub record Demand-1-refusals (rules numbers term memory event next-term next-mem
   pub start-refused : RefusedAs 1 9 term memory (start rules term memory)
   pub count-refused : (j : ℕ) → count rules term memory ≡ refused j → (1 ≤ j) × (j ≤ 10)
   pub move-refused : RefusedAs 1 12 next-term next-memory (move rules term memory k next-term next-memory)
+  -- 11 is of events, and Move is given none.
+  pub move-no-stranger : move rules term memory k next-term next-memory .answer ≡ refused Refusal.stranger → ⊥
   pub present-refused : RefusedAs 1 12 next-term next-memory (present rules term memory event next-term next-memory)
   pub run-refused : RefusedAs 1 9 term memory (run rules numbers term memory spare-term spare-memory)
 

@@ -104,6 +104,40 @@ module _ (rules : List ℕ) where
       picked (RefusedAs 1 9 term memory) ((term-fits (main-reach R) term && memory-fits R memory) && (term-fits (main-reach R) spare-term && memory-fits R spare-memory)) _ _
       (λ t. done-as 1 9 term memory (ran edition-1 numbers term memory R) _ refl) (refused-as 1 9 term memory Refusal.space (omega arith) (omega arith)))
 
+-- ── Move never answers 11 ──
+
+abbrev NoStranger : {X : Type 0} → Answer X → Type 0
+NoStranger (refused k) = k ≡ 11 → ⊥
+NoStranger (answered x) = Unit
+
+from-within : {X : Type 0} (lo hi : ℕ) → hi ≤ 10 → (a : Answer X) → Within lo hi a → NoStranger a
+from-within lo hi h (refused k) w = λ e. let z : ⊥ = omega (arith, w .1, e) in z
+from-within lo hi h (answered x) w = tt
+
+stranger-not : {X : Type 0} (a : Answer X) → NoStranger a → a ≡ refused 11 → ⊥
+stranger-not {X} (refused k) n e = n (refused-injective {X = X} k 11 e)
+stranger-not (answered x) n e = not-both 11 x (sym e)
+
+writing-none : (term memory : List ℕ) {X Y : Type 0} (a : Answer Y) (f : Y → Written X) → NoStranger a → ((y : Y) → NoStranger (f y .answer)) → NoStranger (writing term memory a f .answer)
+writing-none term memory (refused k) f n h = n
+writing-none term memory (answered y) f n h = h y
+
+offer-none : {X : Type 0} (o : Option X) → NoStranger (or-refused Refusal.not-offered o)
+offer-none none = λ e. let z : ⊥ = omega (arith, e) in z
+offer-none (some x) = tt
+
+module _ (rules term memory : List ℕ) (k : ℕ) (next-term next-memory : List ℕ) where
+  chosen-none : (R : RuleSet) (E : Term) → NoStranger (chosen edition-1 R E memory next-term next-memory (λ xs. getElem? xs k) .answer)
+  chosen-none R E = picked (λ (w : Written Moved). NoStranger (w .answer)) (term-fits (reach (R .width) E) next-term && (memory-fits R memory && memory-fits R next-memory)) _ _
+      (λ t. writing-none next-term next-memory (or-refused Refusal.not-offered (getElem? (listed edition-1 R E memory) k)) (moved edition-1 R memory next-term next-memory)
+      (offer-none (getElem? (listed edition-1 R E memory) k)) (λ x. tt))
+      (λ e. let z : ⊥ = omega (arith, e) in z)
+
+  move-none : NoStranger (move rules term memory k next-term next-memory .answer)
+  unfolding move-in
+  move-none = writing-none next-term next-memory (admission edition-1 rules) _ (from-within 1 8 (omega arith) (admission edition-1 rules) (admission-within edition-1 rules)) (λ R.
+      writing-none next-term next-memory (term-in edition-1 R term) _ (from-within 10 10 (omega arith) (term-in edition-1 R term) (term-within R term)) (λ E. chosen-none R E))
+
 pub refusals : (rules numbers term memory event next-term next-memory spare-term spare-memory : List ℕ) (k : ℕ)
     → Demand-1-refusals rules numbers term memory event next-term next-memory spare-term spare-memory k
 refusals rules numbers term memory event next-term next-memory spare-term spare-memory k = record {
@@ -111,6 +145,7 @@ refusals rules numbers term memory event next-term next-memory spare-term spare-
   start-refused = start-as rules term memory;
   count-refused = refused-within 1 10 (count rules term memory) (count-within rules term memory);
   move-refused = move-as rules term memory k next-term next-memory;
+  move-no-stranger = stranger-not (move rules term memory k next-term next-memory .answer) (move-none rules term memory k next-term next-memory);
   present-refused = present-as rules term memory event next-term next-memory;
   run-refused = run-as rules numbers term memory spare-term spare-memory;
 }
