@@ -15,7 +15,7 @@ use Rattle.eb3.specs.Operations.{main-reach, cells-needed}
 use Rattle.declarations.specs.Directory.{Directory}
 use Rattle.runs.specs.Mains.{RunsMain}
 use Rattle.runs.specs.declared.mains.Totals.{Totals}
-use Rattle.engine.specs.declared.Limits.{Limits}
+use Rattle.weights.specs.declared.Limits.{Limits}
 use Rattle.engine.specs.declared.running.Ran.{Ran}
 use Rattle.engine.specs.declared.running.Ran.the-variants.{Ended, Refused}
 use Rattle.engine.specs.Knowing.{Known}

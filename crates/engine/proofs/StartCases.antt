@@ -24,10 +24,11 @@ use Rattle.eb3.specs.Operations.{main-reach, cells-needed}
 use Rattle.weights.specs.declared.Limits.{Limits}
 use Rattle.declarations.specs.Directory.{Directory}
 use Rattle.cells.specs.Readying.{few}
+use Rattle.steps.specs.RuledLaws.{tables-few}
 use Rattle.engine.specs.declared.starting.Started.{Started}
 use Rattle.engine.specs.declared.starting.Started.the-variants.{Size, Refused}
 use Rattle.engine.specs.Knowing.{Known}
-use Rattle.engine.specs.Memories.{Begun, tables-few}
+use Rattle.engine.specs.Memories.{Begun}
 use Rattle.engine.specs.Starting.{StartDone}
 use Rattle.engine.specs.StartLaws.{start-refused, start-short-term, start-short-memory, start-done}
 

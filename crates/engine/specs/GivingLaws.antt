@@ -22,10 +22,10 @@ use Rattle.weights.specs.declared.Limits.{Limits}
 use Rattle.declarations.specs.Declaring.{Declares}
 use Rattle.cells.specs.Readying.{few}
 use Rattle.steps.specs.Storing.{Ruled}
+use Rattle.steps.specs.RuledLaws.{tables-few, ruled-there}
 use Rattle.engine.specs.declared.giving.Given.{Given}
 use Rattle.engine.specs.declared.giving.Given.the-variants.{Term as Given·term, Refused}
 use Rattle.engine.specs.Knowing.{Known}
-use Rattle.engine.specs.Memories.{labels-there, functions-there, tables-few}
 use Rattle.engine.specs.Giving.{checked-as, TermChecked, given-in, given-as, Described, GivenDone}
 
 module _ (rules term words₀ : List ℕ) (n : ℕ) (words′ T D ws : List ℕ) (decoded : words′ ≡ stream rules ++ drop (254 * n) words₀) where
@@ -110,10 +110,4 @@ module _ (R : RuleSet) (E : Term) (t T D s : List ℕ) (d : Described R E t T D 
       (omega (arith, described-short), omega (arith, e, few R (d .form)), b .0, b .1)
 
   pub described-ruled : (w n c : ℕ) → w ≡ 3 + getD T 17 0 → n ≡ getD T 210 0 → c ≡ cells-needed R → Ruled R t T D w n c
-  described-ruled w n c ew en ec = record {
-    form = d .form;
-    directory = d .directory;
-    width-is = ew ∙ ap (λ x. 3 + x) (labels-there R (d .form) t T D (d .directory));
-    functions-are = en ∙ functions-there R (d .form) t T D (d .directory);
-    cells-are = ec;
-  }
+  described-ruled w n c ew en ec = ruled-there R (d .form) t T D (d .directory) w n c ew en ec

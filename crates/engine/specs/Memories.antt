@@ -17,26 +17,15 @@ use Rattle.eb3.specs.Spelling.{words}
 use Rattle.eb3.specs.Bytes.{word-count, written}
 use Rattle.eb3.specs.Memory.{cell-room, memory-words}
 use Rattle.eb3.specs.Operations.{cells-needed}
-use Rattle.arguments.specs.TableLaws.{labels-length}
 use Rattle.declarations.specs.Directory.{Directory, row-width}
 use Rattle.cells.specs.CellLaws.{cells-counted}
+use Rattle.steps.specs.RuledLaws.{labels-there, functions-there}
 use Rattle.cells.specs.Filling.{Filling, Filled}
 use Rattle.cells.specs.Preparing.{Prepared, Saved}
 use Rattle.cells.specs.MemoryLaws.{held-words}
 use Rattle.cells.specs.ReadyingFills.{start-filling}
 
 -- ── the start ──
-
--- What the tables say of a rule set that the directory describes.
-module _ (R : RuleSet) (form : Form edition-1 R) (t T D : List ℕ) (d : Directory t T D R) where
-  pub labels-there : getD T 17 0 ≡ length (R .labels)
-  labels-there = sym (labels-length T) ∙ ap length (d .declares .tables .heads .same-labels)
-
-  pub functions-there : getD T 210 0 ≡ length (R .functions)
-  functions-there = d .declares .tables .same-functions
-
-  pub tables-few : (getD T 17 0 ≤ 64) × (getD T 210 0 ≤ 16)
-  tables-few = (omega (arith, labels-there, form .label-count .1), omega (arith, functions-there, form .function-count))
 
 -- A lent memory of enough cells holds those of the start, for a rule set of c cells whose stream, tables and directory these are.
 abbrev pub MemoryStarted : List ℕ → List ℕ → List ℕ → ℕ → ℕ → List ℕ → List ℕ → Type 0

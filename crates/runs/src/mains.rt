@@ -2,11 +2,12 @@
 // (document 01, "Operations": Run writes the last term, zeros up to main's G, and the cells). One spare buffer is where successors are
 // built.
 ghost use mathlib.Core.Path.{_≡_};
-ghost use Prim.Native.Nat.{ℕ, _%_, _≤_};
+ghost use Prim.Native.Nat.{ℕ, _≤_};
 ghost use lib.ListN.{length, getD};
 ghost use Rattle.runs.specs.Mains.{RunsMain, Padded, Finished};
 use super::run_moves;
 use arguments::entry;
+use arguments::low32;
 use arguments::wide32;
 use cells::load;
 use cells::save;
@@ -21,12 +22,6 @@ pub struct Totals {
     pub visible: u64,
     pub internal: u64,
     pub refused: u64,
-}
-
-fn low32(x: usize) -> u32
-    ensures { λ r. ⌜ r ≡ x % 4294967296 ⌝ }
-{
-    (x % 4294967296) as u32
 }
 
 // Zeros from one word up to another.
