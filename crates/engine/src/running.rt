@@ -52,7 +52,17 @@ fn run_in(
                 return Ran::Refused(9);
             }
             let end = 254 * n;
-            Ran::Ended(run_main(numbers, &words[2..end], &tables, &dir, c, reach, term, memory, spare))
+            Ran::Ended(run_main(
+                numbers,
+                &words[2..end],
+                &tables,
+                &dir,
+                c,
+                reach,
+                term,
+                memory,
+                spare,
+            ))
         }
         Admitted::Refused(k) => Ran::Refused(k),
     }

@@ -2,7 +2,6 @@
 // stream", item 5; "Unfolding, size and breadth").
 ghost use mathlib.Core.Path.{_≡_};
 ghost use mathlib.Core.Bool.{Bool};
-
 ghost use Prim.Native.Nat.{_+_, _-_, _≤_, _<_};
 ghost use lib.ListN.{drop, take, getD, length};
 ghost use Rattle.eb3.specs.Limits.{edition-1};
