@@ -70,7 +70,7 @@ loaded-holds B M M′ at c small enough room loaded k h =
 
 -- ── words loaded to the front ──
 
-stored-is : (M : List ℕ) (i d : ℕ) → i < length M → stored M i ≡ getD M i d
+pub stored-is : (M : List ℕ) (i d : ℕ) → i < length M → stored M i ≡ getD M i d
 unfolding stored
 stored-is [] i d h = absurd (let z : ⊥ = omega arith in z)
 stored-is (x ∷ M) zero d h = refl
