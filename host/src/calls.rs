@@ -102,6 +102,10 @@ pub enum Operation {
     Run,
 }
 
+/// Each of them, Move with any number.
+pub const EVERY_OPERATION: [Operation; 5] =
+    [Operation::Start, Operation::Count, Operation::Move(0), Operation::Present, Operation::Run];
+
 #[derive(Clone, Debug)]
 pub struct Call {
     pub name: String,

@@ -1,16 +1,14 @@
 //! The engine behind its C interface (`eb3.h`), as safe Rust functions. Only there with the static
-//! library (cfg `cabinet`); the operations besides Admit and Start only with the feature `operations`.
+//! library (cfg `cabinet`); Run only with the feature `run`.
 //!
 //! Document 01, "Operations" and "A C host on the controller calls every operation with numbers and byte
 //! slices". Nothing checks these declarations against the engine's source but the tests.
 
-pub mod starting;
-
-#[cfg(feature = "operations")]
 mod operations;
+#[cfg(feature = "run")]
+mod running;
 
-#[cfg(feature = "operations")]
-pub use operations::{nothing, Cabinet};
+pub use operations::{answers, nothing, Cabinet};
 
 use crate::{Answer, Sizes};
 

@@ -4,6 +4,7 @@
 //! how a host would look for what its rules allow, and makes a great many calls of any implementation.
 
 use std::collections::HashSet;
+use std::hash::{DefaultHasher, Hash, Hasher};
 
 use crate::calls::Operations;
 use crate::Sizes;
@@ -12,6 +13,8 @@ use crate::Sizes;
 #[derive(Clone, Copy, Debug, Default, PartialEq, Eq)]
 pub struct Explored {
     pub states: usize,
+    /// A sum over the states, so that two explorations of other states are seen to be two.
+    pub sum: u64,
     /// Moves of all states together.
     pub moves: usize,
     /// States without a move.
@@ -43,6 +46,13 @@ pub fn explore(by: &dyn Operations, rules: &[u8], sizes: Sizes, most: usize) -> 
         }
     }
     explored.states = seen.len();
+    explored.sum = seen.iter().fold(0, |sum, state| sum.wrapping_add(hash(state)));
     explored.whole = seen.len() < most;
     explored
+}
+
+fn hash(state: &(Vec<u8>, Vec<u8>)) -> u64 {
+    let mut hasher = DefaultHasher::new();
+    state.hash(&mut hasher);
+    hasher.finish()
 }

@@ -14,6 +14,7 @@ pub mod explore;
 pub mod generate;
 pub mod guarded;
 pub mod listing;
+pub mod met;
 pub mod plain;
 pub mod rules;
 pub mod unfold;

@@ -4,12 +4,10 @@
 //!
 //! `ROUNDS=20` makes twenty times as many random cases.
 
-use std::collections::BTreeMap;
-use std::io::Write;
-
-use host::calls::{Call, Operation, Outcome, Plain, Reply};
+use host::calls::{Call, Outcome, Plain, Reply, EVERY_OPERATION};
 use host::generate::calls::every_call;
 use host::guarded::{Edge, Rooms};
+use host::met::Met;
 use host::{on_large_stack, plain};
 
 fn rounds() -> usize {
@@ -49,7 +47,7 @@ fn check(call: &Call, outcome: &Outcome) {
 
 #[test]
 fn every_call_is_answered() {
-    let mut met: BTreeMap<(&str, u8), usize> = BTreeMap::new();
+    let mut met = Met::default();
     on_large_stack(|| {
         let mut rooms = Rooms::new(65536);
         every_call(rounds(), &mut |call| {
@@ -57,38 +55,9 @@ fn every_call_is_answered() {
             check(&call, &outcome);
             let guarded = [Edge::Front, Edge::Back].map(|edge| rooms.outcome(&Plain, &call, edge));
             assert!(guarded.iter().all(|other| outcome.same(other)), "{}", call.name);
-            *met.entry((name(call.operation), outcome.reply.refusal())).or_default() += 1;
+            met.note(&call, &outcome.reply);
         });
     });
-    let mut output = std::io::stdout().lock();
-    writeln!(output, "{} calls; by operation and refusal (0: done):", met.values().sum::<usize>()).unwrap();
-    for operation in ["start", "count", "move", "present", "run"] {
-        let counts: Vec<String> = met
-            .iter()
-            .filter(|((name, _), _)| *name == operation)
-            .map(|((_, refusal), count)| format!("{refusal}: {count}"))
-            .collect();
-        writeln!(output, "{operation:8} {}", counts.join(", ")).unwrap();
-    }
-    drop(output);
-    let refusals = |operation, more: &[u8]| {
-        for refusal in (0..=8).chain(more.iter().copied()) {
-            assert!(met.contains_key(&(operation, refusal)), "no {operation} was answered {refusal}");
-        }
-    };
-    refusals("start", &[9]);
-    refusals("count", &[10, 9]);
-    refusals("move", &[10, 9, 12]);
-    refusals("present", &[10, 11, 9, 12]);
-    refusals("run", &[9]);
-}
-
-fn name(operation: Operation) -> &'static str {
-    match operation {
-        Operation::Start => "start",
-        Operation::Count => "count",
-        Operation::Move(_) => "move",
-        Operation::Present => "present",
-        Operation::Run => "run",
-    }
+    met.say("the plain interpreter");
+    met.require(&EVERY_OPERATION);
 }

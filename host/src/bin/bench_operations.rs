@@ -22,9 +22,9 @@ const BATCH: Duration = Duration::from_micros(500);
 /// So many numbers to a run; its time is told per number.
 const NUMBERS: usize = 1000;
 
-#[cfg(all(cabinet, feature = "operations"))]
+#[cfg(cabinet)]
 const ENGINE: Option<&dyn Operations> = Some(&host::engine::Cabinet);
-#[cfg(not(all(cabinet, feature = "operations")))]
+#[cfg(not(cabinet))]
 const ENGINE: Option<&dyn Operations> = None;
 
 fn main() {

@@ -1,12 +1,20 @@
-//! Start, Count, Move, Present and Run of the engine.
+//! Start, Count, Move and Present of the engine; Run is in `running`.
 //!
 //! Document 01, "Operations"; eb3.h: "`refusal` is 0 where the operation was done, else the number of
 //! document 01's table; then every other field is 0". A reply that is neither is a fault of the engine,
 //! and ends the test here.
 
-use super::starting;
-use crate::calls::Operations;
-use crate::{Action, Counted, Made, Moved, Ran, Started, Tally};
+#[cfg(feature = "run")]
+use super::running;
+use crate::calls::{Operation, Operations};
+use crate::{Action, Counted, Made, Moved, Ran, Started};
+
+/// `eb3_started`.
+#[repr(C)]
+struct StartReply {
+    refusal: u32,
+    size: u32,
+}
 
 /// `eb3_counted`.
 #[repr(C)]
@@ -27,17 +35,16 @@ struct MoveReply {
     second: u32,
 }
 
-/// `eb3_ran`.
-#[repr(C)]
-struct RunReply {
-    refusal: u32,
-    size: u32,
-    visible: u64,
-    internal: u64,
-    refused: u64,
-}
-
 extern "C" {
+    fn eb3_start(
+        rules: *const u8,
+        rules_len: usize,
+        term: *mut u8,
+        term_len: usize,
+        memory: *mut u8,
+        memory_len: usize,
+    ) -> StartReply;
+
     fn eb3_count(
         rules: *const u8,
         rules_len: usize,
@@ -75,25 +82,10 @@ extern "C" {
         next_memory: *mut u8,
         next_memory_len: usize,
     ) -> MoveReply;
-
-    fn eb3_run(
-        rules: *const u8,
-        rules_len: usize,
-        numbers: *const u8,
-        numbers_len: usize,
-        term: *mut u8,
-        term_len: usize,
-        memory: *mut u8,
-        memory_len: usize,
-        spare_term: *mut u8,
-        spare_term_len: usize,
-        spare_memory: *mut u8,
-        spare_memory_len: usize,
-    ) -> RunReply;
 }
 
 /// A refusal's number where there is one, from the table and with no other field set.
-fn refusal(number: u32, others: &[u64]) -> Result<(), u8> {
+pub(super) fn refusal(number: u32, others: &[u64]) -> Result<(), u8> {
     if number == 0 {
         return Ok(());
     }
@@ -123,17 +115,23 @@ impl MoveReply {
 /// The engine.
 pub struct Cabinet;
 
+/// Whether the library has the operation.
+pub fn answers(operation: Operation) -> bool {
+    operation != Operation::Run || cfg!(feature = "run")
+}
+
 /// Every operation given no bytes and no pointers, which eb3.h allows with length 0: the refusals.
-pub fn nothing() -> [u32; 5] {
+pub fn nothing() -> Vec<u32> {
     let (given, lent) = (std::ptr::null(), std::ptr::null_mut());
     // SAFETY: no byte is read or written through a pointer that comes with length 0.
     unsafe {
-        [
-            starting::eb3_start(given, 0, lent, 0, lent, 0).refusal,
+        vec![
+            eb3_start(given, 0, lent, 0, lent, 0).refusal,
             eb3_count(given, 0, given, 0, given, 0).refusal,
             eb3_move(given, 0, given, 0, given, 0, 0, lent, 0, lent, 0).refusal,
             eb3_present(given, 0, given, 0, given, 0, given, 0, lent, 0, lent, 0).refusal,
-            eb3_run(given, 0, given, 0, lent, 0, lent, 0, lent, 0, lent, 0).refusal,
+            #[cfg(feature = "run")]
+            running::eb3_run(given, 0, given, 0, lent, 0, lent, 0, lent, 0, lent, 0).refusal,
         ]
     }
 }
@@ -141,7 +139,18 @@ pub fn nothing() -> [u32; 5] {
 // SAFETY of all calls: eb3.h's slices are these, the lent ones borrowed alone; the engine keeps nothing.
 impl Operations for Cabinet {
     fn start(&self, rules: &[u8], term: &mut [u8], memory: &mut [u8]) -> Started {
-        starting::start(rules, term, memory)
+        let reply = unsafe {
+            eb3_start(
+                rules.as_ptr(),
+                rules.len(),
+                term.as_mut_ptr(),
+                term.len(),
+                memory.as_mut_ptr(),
+                memory.len(),
+            )
+        };
+        refusal(reply.refusal, &[u64::from(reply.size)])?;
+        Ok(reply.size)
     }
 
     fn count(&self, rules: &[u8], term: &[u8], memory: &[u8]) -> Counted {
@@ -207,6 +216,7 @@ impl Operations for Cabinet {
         reply.moved()
     }
 
+    #[cfg(feature = "run")]
     fn run(
         &self,
         rules: &[u8],
@@ -216,24 +226,11 @@ impl Operations for Cabinet {
         spare_term: &mut [u8],
         spare_memory: &mut [u8],
     ) -> Ran {
-        let reply = unsafe {
-            eb3_run(
-                rules.as_ptr(),
-                rules.len(),
-                numbers.as_ptr(),
-                numbers.len(),
-                term.as_mut_ptr(),
-                term.len(),
-                memory.as_mut_ptr(),
-                memory.len(),
-                spare_term.as_mut_ptr(),
-                spare_term.len(),
-                spare_memory.as_mut_ptr(),
-                spare_memory.len(),
-            )
-        };
-        let RunReply { size, visible, internal, refused, .. } = reply;
-        refusal(reply.refusal, &[u64::from(size), visible, internal, refused])?;
-        Ok(Tally { size, visible, internal, refused })
+        running::run(rules, numbers, term, memory, spare_term, spare_memory)
+    }
+
+    #[cfg(not(feature = "run"))]
+    fn run(&self, _: &[u8], _: &[u8], _: &mut [u8], _: &mut [u8], _: &mut [u8], _: &mut [u8]) -> Ran {
+        unreachable!("the library does not export Run")
     }
 }

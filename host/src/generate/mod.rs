@@ -8,6 +8,7 @@
 pub mod calls;
 pub mod clauses;
 pub mod damage;
+pub mod deep;
 pub mod ends;
 pub mod events;
 pub mod faults;

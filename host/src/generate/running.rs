@@ -185,6 +185,29 @@ pub fn measures(rules: &RuleSet, words: &[u16]) -> (u64, u64, u64) {
     }
 }
 
+/// How often done stands in a well-formed running term.
+pub fn dones(rules: &RuleSet, words: &[u16]) -> usize {
+    let (mut place, mut to_come, mut dones) = (0, 1usize, 0);
+    while to_come > 0 {
+        to_come -= 1;
+        let (here, operands) = match words[place] {
+            20 => (1, 0),
+            21 => (2 + 2 * rules.labels[usize::from(words[place + 1])].len(), 0),
+            22 | 23 => (1, 2),
+            24 => (1, 1),
+            25 => (5, 2),
+            26 => (1 + condition_size(&words[place + 1..]), 1),
+            _ => {
+                dones += 1;
+                (1, 0)
+            }
+        };
+        place += here;
+        to_come += operands;
+    }
+    dones
+}
+
 /// The words of the condition at the front.
 fn condition_size(words: &[u16]) -> usize {
     let (mut place, mut to_come) = (0, 1usize);

@@ -1,0 +1,162 @@
+//! States that nest as deep as the limits allow, with the rule sets that they belong to: what the
+//! recursion of Start, Count, Move and Present has to bear.
+//!
+//! Document 01 sets no limit on nesting but those on a running term's reach and breadth, and, for the
+//! expressions of functions, the stream's length. (`nesting` has what Admit has to bear.) Whoever makes
+//! these needs a large stack too.
+
+use super::running::State;
+use crate::blocks::{blocks_for, file_of, MOST_WORDS};
+use crate::calls::{Call, Operation};
+use crate::{bytes_of, examples, plain, Sizes, MOST_REACH};
+
+/// A worst case by name, with its depth in codes.
+#[derive(Clone, Debug)]
+pub struct Deep {
+    pub name: &'static str,
+    pub depth: usize,
+    pub file: Vec<u8>,
+    pub sizes: Sizes,
+    pub state: State,
+}
+
+/// Words that open a level, the innermost words, words that close a level.
+type Nest<'a> = (&'a [u16], &'a [u16], &'a [u16]);
+
+fn spelled((open, middle, close): Nest, depth: usize) -> Vec<u16> {
+    [&open.repeat(depth), middle, &close.repeat(depth)].concat()
+}
+
+/// As many levels as fit in so many words.
+fn levels((open, middle, close): Nest, words: usize) -> usize {
+    (words - middle.len()) / (open.len() + close.len())
+}
+
+/// A term given to the key cabinet.
+fn given(name: &'static str, depth: usize, words: &[u16]) -> Deep {
+    let file = examples::key_cabinet(2).file();
+    let sizes = plain::admit(&file).expect("the key cabinet is admitted");
+    Deep { name, depth, file, sizes, state: State { term: bytes_of(words), memory: vec![0; 4] } }
+}
+
+/// A nest of terms.
+fn term(name: &'static str, nest: Nest) -> Deep {
+    let depth = levels(nest, MOST_REACH as usize);
+    given(name, depth, &spelled(nest, depth))
+}
+
+/// A nest of conditions in a guard, which holds or not.
+fn guard(name: &'static str, nest: Nest) -> Deep {
+    let depth = levels(nest, MOST_REACH as usize - 2);
+    given(name, depth, &[&[26], &spelled(nest, depth)[..], &[20]].concat())
+}
+
+/// Stars: each reaches further than it is long, so that there cannot be more.
+fn stars() -> Deep {
+    given("stars", 125, &spelled((&[24], &[20], &[]), 125))
+}
+
+/// A rule set of one domain of one element, one label, these functions and this main, in as many blocks as
+/// it takes; and main, which has no call and no variable, as the term given to it.
+fn rule_set(name: &'static str, depth: usize, functions: &[u16], main: &[u16]) -> Deep {
+    let mut words = [&[1, 0, 1, 1, 1, 0], functions, &[1, 0], main].concat();
+    words[1] = blocks_for(words.len()) as u16;
+    let file = file_of(&words);
+    let sizes = plain::admit(&file).expect("a rule set within the limits");
+    let memory = vec![0; 2 * sizes.cells as usize];
+    Deep { name, depth, file, sizes, state: State { term: bytes_of(main), memory } }
+}
+
+/// One function, by its expressions for the empty trace and for the label; main is the label's action.
+fn function(name: &'static str, depth: usize, at_start: &[u16], at_label: &[u16]) -> Deep {
+    rule_set(name, depth, &[&[1, 0], at_start, at_label].concat(), &[21, 0])
+}
+
+/// Words that a stream has for one expression of one function beside another of one word.
+const EXPRESSION_WORDS: usize = MOST_WORDS - 13;
+
+/// A nest of data for the label, evaluated by Move and Present.
+fn at_label(name: &'static str, nest: Nest) -> Deep {
+    let depth = levels(nest, EXPRESSION_WORDS);
+    function(name, depth, &[0], &spelled(nest, depth))
+}
+
+/// A nest of data for the empty trace, evaluated by Start.
+fn at_start(name: &'static str, nest: Nest) -> Deep {
+    let depth = levels(nest, EXPRESSION_WORDS);
+    function(name, depth, &spelled(nest, depth), &[0])
+}
+
+/// Not within not, in an if: the deepest nest that an expression can be.
+fn nots(name: &'static str) -> Deep {
+    let depth = EXPRESSION_WORDS - 4;
+    function(name, depth, &[0], &[&[5], &spelled((&[12], &[13], &[]), depth)[..], &[0, 0]].concat())
+}
+
+/// A rule set whose main is a nest of terms, unfolded by Start.
+fn main_of(name: &'static str, nest: Nest) -> Deep {
+    let depth = levels(nest, MOST_REACH as usize);
+    rule_set(name, depth, &[0], &spelled(nest, depth))
+}
+
+/// The worst shapes there are.
+pub fn worst() -> Vec<Deep> {
+    let (step, done, take) = (&[20][..], &[30][..], &[21, 0, 1, 0][..]);
+    let beside = &[25, 0, 0, 0, 0][..];
+    // Masks of Take's label and of the other one; done on the other side, or there would be too many moves.
+    let (mask, other_mask) = (&[25, 1, 0, 0, 0][..], &[25, 2, 0, 0, 0][..]);
+    vec![
+        guard("not in a guard", (&[12], &[13], &[])),
+        guard("and in a guard, left", (&[10], &[13], &[13])),
+        guard("and in a guard, right", (&[10, 13], &[13], &[])),
+        guard("if in conditions in a guard", (&[8, 5], &[13], &[0, 0, 0])),
+        term("guards", (&[26, 13], step, &[])),
+        term("sequences, left", (&[22], step, step)),
+        term("sequences behind done", (&[22, 30], step, &[])),
+        term("choices, left", (&[23], step, step)),
+        term("choices, right", (&[23, 20], step, &[])),
+        stars(),
+        term("parallels, left", (beside, step, step)),
+        term("parallels, right", (&[beside, step].concat(), step, &[])),
+        term("parallels with a mask, left", (mask, step, done)),
+        term("parallels with a mask, right", (&[mask, done].concat(), step, &[])),
+        term("parallels with another mask", (&[other_mask, done].concat(), take, &[])),
+        at_label("add at a label, left", (&[3], &[0], &[0])),
+        at_label("add at a label, right", (&[3, 0], &[0], &[])),
+        at_label("before at a label", (&[7, 0], &[0], &[])),
+        at_label("if at a label, last operand", (&[5, 13, 0], &[0], &[])),
+        at_label("if at a label, middle operand", (&[5, 13], &[0], &[0])),
+        at_label("conditions in if at a label", (&[5, 8], &[0], &[0, 0, 0])),
+        nots("not at a label"),
+        at_start("add at the start, left", (&[3], &[0], &[0])),
+        at_start("conditions in if at the start", (&[5, 8], &[0], &[0, 0, 0])),
+        main_of("main of guards", (&[26, 13], step, &[])),
+        main_of("main of sequences, left", (&[22], step, step)),
+        main_of("main of parallels, right", (&[beside, step].concat(), step, &[])),
+    ]
+}
+
+impl Deep {
+    /// Start, Count, and the last move by its number and by its action; those that there are.
+    pub fn calls(&self) -> Vec<Call> {
+        let Deep { file, state: State { term, memory }, .. } = self;
+        let lent = vec![vec![0xa5; 2 * MOST_REACH as usize], vec![0x5a; memory.len()]];
+        let given = vec![file.clone(), term.clone(), memory.clone()];
+        let call = |operation, given: &[Vec<u8>], lent: &[Vec<u8>]| Call {
+            name: self.name.to_string(),
+            operation,
+            given: given.to_vec(),
+            lent: lent.to_vec(),
+            expected: Some(0),
+        };
+        let mut calls = vec![call(Operation::Start, &given[..1], &lent), call(Operation::Count, &given, &[])];
+        let count = plain::count(file, term, memory).expect("a right term");
+        let Some(last) = count.checked_sub(1).map(u64::from) else { return calls };
+        let (mut next_term, mut next_memory) = (lent[0].clone(), lent[1].clone());
+        let made = plain::make_move(file, term, memory, last, &mut next_term, &mut next_memory);
+        let event = bytes_of(&made.expect("the last move").action.words());
+        calls.push(call(Operation::Move(last), &given, &lent));
+        calls.push(call(Operation::Present, &[given, vec![event]].concat(), &lent));
+        calls
+    }
+}
