@@ -50,7 +50,9 @@ impl Met {
             let counts = self.0.iter().filter(|((name, _), _)| *name == operation);
             let counts: Vec<String> =
                 counts.map(|((_, refusal), count)| format!("{refusal}: {count}")).collect();
-            line(format!("{operation:8} {}", counts.join(", ")));
+            if !counts.is_empty() {
+                line(format!("{operation:8} {}", counts.join(", ")));
+            }
         }
     }
 

@@ -7,7 +7,7 @@
 use std::io::Write;
 
 use host::calls::{Call, Operation, Plain};
-use host::engine::Cabinet;
+use host::engine::{answers, Cabinet};
 use host::explore::explore;
 use host::generate::calls::Subject;
 use host::generate::deep;
@@ -88,6 +88,7 @@ fn ten_copies_move_alike() {
 fn deep_states_move_alike() {
     on_large_stack(|| {
         let mut rooms = Rooms::new(65536);
-        deep::worst().iter().flat_map(|deep| deep.calls()).for_each(|call| check(&mut rooms, &call));
+        let calls = deep::worst().into_iter().flat_map(|deep| deep.calls());
+        calls.filter(|call| answers(call.operation)).for_each(|call| check(&mut rooms, &call));
     });
 }

@@ -1,10 +1,12 @@
 //! How long Start, Count, Move, Present and Run take: the engine beside the plain interpreter, in one
 //! process, on the same bytes.
 //!
-//! Run it in a release build (`cargo run --release --features operations --bin bench_operations`). Each
-//! sample times a batch of calls; the figures are medians over the samples, plain and engine taking turns.
-//! Every call admits the rule set and checks the term anew. Without the feature, or without the static
-//! library, the plain interpreter stands alone.
+//! Run it in a release build (`cargo run --release --bin bench_operations`); with words as argument, only
+//! the rows that have them in their name, and with `plain` or `engine` behind them that side alone, for a
+//! profiler. Each sample times a batch of calls, plain and engine taking turns;
+//! the figures are the least over the samples, since whatever else the machine does only adds to them.
+//! Every call admits the rule set and checks the term anew. Without the static library, and for Run
+//! without the feature `run`, the plain interpreter stands alone.
 
 use std::hint::black_box;
 use std::time::{Duration, Instant};
@@ -16,16 +18,19 @@ use host::generate::running::{self, State};
 use host::rules::RuleSet;
 use host::{bytes_of, examples, on_large_stack, plain, words_of};
 
-const SAMPLES: usize = 101;
+const SAMPLES: usize = 201;
 /// A batch takes about this long, so that the clock's own time does not count.
 const BATCH: Duration = Duration::from_micros(500);
 /// So many numbers to a run; its time is told per number.
 const NUMBERS: usize = 1000;
 
-#[cfg(cabinet)]
-const ENGINE: Option<&dyn Operations> = Some(&host::engine::Cabinet);
-#[cfg(not(cabinet))]
-const ENGINE: Option<&dyn Operations> = None;
+/// The engine, where it has the operation.
+fn engine(operation: Operation) -> Option<&'static dyn Operations> {
+    #[cfg(cabinet)]
+    return host::engine::answers(operation).then_some(&host::engine::Cabinet);
+    #[cfg(not(cabinet))]
+    return None.filter(|_: &&dyn Operations| operation == Operation::Run);
+}
 
 fn main() {
     on_large_stack(|| {
@@ -36,6 +41,21 @@ fn main() {
         systems();
         terms();
     });
+}
+
+/// Whether a row is asked for.
+fn wanted(name: &str) -> bool {
+    std::env::args().nth(1).is_none_or(|word| name.contains(&word))
+}
+
+/// Whether a row of these rules may be: its name begins with theirs.
+fn may_be_wanted(name: &str) -> bool {
+    wanted(name) || std::env::args().nth(1).is_some_and(|word| word.starts_with(name))
+}
+
+/// Whether a side is asked for, `plain` or `engine`.
+fn side_wanted(side: &str) -> bool {
+    std::env::args().nth(2).is_none_or(|word| word == side)
 }
 
 fn subject(name: &str, rules: RuleSet) -> Subject {
@@ -52,7 +72,7 @@ fn systems() {
         ("library, 8 books, 8 members", examples::library(8, 8, 2)),
         ("ten copies", examples::copies_of_choice(10)),
     ];
-    for (name, rules) in systems {
+    for (name, rules) in systems.into_iter().filter(|(name, _)| may_be_wanted(name)) {
         let subject = subject(name, rules);
         let buffers = [subject.sizes.reach, subject.sizes.cells].map(|words| vec![0; 2 * words as usize]);
         let start = Call {
@@ -78,25 +98,33 @@ fn busy_state(subject: &Subject) -> State {
 
 /// Terms at the limits, given to the key cabinet.
 fn terms() {
-    let take = [21, 0, 1, 0];
-    let nested = |levels: usize, step: &dyn Fn(&[u16]) -> Vec<u16>| {
-        (0..levels).fold(take.to_vec(), |inner, _| step(&inner))
+    let (step, take, done) = (&[20][..], &[21, 0, 1, 0][..], &[30][..]);
+    let (beside, masked) = (&[25, 0, 0, 0, 0][..], &[25, 2, 0, 0, 0][..]);
+    let nested = |levels: usize, open: &[&[u16]], middle: &[u16], close: &[u16]| {
+        [&open.concat().repeat(levels), middle, &close.repeat(levels)].concat()
     };
-    let beside = |left: &[u16], right: &[u16]| [&[25, 0, 0, 0, 0], left, right].concat();
-    let masked = |left: &[u16], right: &[u16]| [&[25, 2, 0, 0, 0], left, right].concat();
     let terms = [
-        ("sequences to the left", nested(1600, &|inner| [&[22], inner, &take].concat())),
-        ("choices to the right", nested(1600, &|inner| [&[23], &take[..], inner].concat())),
-        ("parallels to the left", nested(900, &|inner| beside(inner, &take))),
-        ("parallels to the right", nested(900, &|inner| beside(&take, inner))),
-        ("masked parallels with done", nested(1300, &|inner| masked(&[30], inner))),
-        ("stars", nested(120, &|inner| [&[24], inner].concat())),
-        ("guards that read a cell", nested(900, &|inner| [&[26, 8, 6, 0, 1, 0, 1, 0], inner].concat())),
+        ("4,000 sequences to the left", nested(4000, &[&[22]], step, step)),
+        ("4,000 sequences behind done", nested(4000, &[&[22], done], step, &[])),
+        ("1,600 choices to the right", nested(1600, &[&[23], take], take, &[])),
+        ("900 parallels to the left", nested(900, &[beside], take, take)),
+        ("900 parallels to the right", nested(900, &[beside, take], take, &[])),
+        ("1,300 masked parallels with done", nested(1300, &[masked, done], take, &[])),
+        ("40 masked parallels with done, 2,500 moves", nested(40, &[masked, done], &many_moves(50), &[])),
+        ("120 stars", nested(120, &[&[24]], take, &[])),
+        ("4,000 guards", nested(4000, &[&[26, 13]], step, &[])),
+        ("900 guards that read a cell", nested(900, &[&[26, 8, 6, 0, 1, 0, 1, 0]], take, &[])),
     ];
-    for (name, words) in terms {
+    for (name, words) in terms.into_iter().filter(|(name, _)| may_be_wanted(name)) {
         let cabinet = subject(name, examples::key_cabinet(2));
         state_rows(&cabinet, &State { term: bytes_of(&words), memory: vec![0; 4] });
     }
+}
+
+/// Two choices of so many Takes in parallel with mask Take: the square of that number of moves.
+fn many_moves(takes: usize) -> Vec<u16> {
+    let choice = [&[23, 21, 0, 1, 0].repeat(takes - 1)[..], &[21, 0, 1, 0]].concat();
+    [&[25, 1, 0, 0, 0], &choice[..], &choice].concat()
 }
 
 /// Count, and the last move by number and by its event.
@@ -133,6 +161,9 @@ fn state_rows(subject: &Subject, state: &State) {
 
 /// A run of visible moves as far as there are any.
 fn run_row(subject: &Subject, buffers: [Vec<u8>; 2]) {
+    if !wanted(&format!("{}: run", subject.name)) {
+        return;
+    }
     let (mut random, mut list) = (Random::new(2), Vec::new());
     let mut state = running::start(&subject.file, subject.sizes);
     while list.len() < NUMBERS {
@@ -168,28 +199,33 @@ fn run_row(subject: &Subject, buffers: [Vec<u8>; 2]) {
 
 /// One line: the call so many times, its time divided by its parts.
 fn row(subject: &Subject, call: &Call, words: usize, moves: u32, parts: usize) {
+    let name = format!("{}: {}", subject.name, call.name);
+    if !wanted(&name) {
+        return;
+    }
     let given: Vec<&[u8]> = call.given.iter().map(Vec::as_slice).collect();
     let mut lent = call.lent.clone();
     let calls = calls_in_a_batch(&given, call.operation, &mut lent);
-    let (mut plain_times, mut engine_times) = (Vec::new(), Vec::new());
+    let engine = engine(call.operation);
+    let (mut plain_least, mut engine_least) = (f64::MAX, f64::MAX);
     for _ in 0..SAMPLES {
-        plain_times.push(sample(&Plain, &given, call.operation, &mut lent, calls));
-        if let Some(engine) = ENGINE {
-            engine_times.push(sample(engine, &given, call.operation, &mut lent, calls));
+        if side_wanted("plain") {
+            plain_least = plain_least.min(sample(&Plain, &given, call.operation, &mut lent, calls));
+        }
+        if let Some(engine) = engine.filter(|_| side_wanted("engine")) {
+            engine_least = engine_least.min(sample(engine, &given, call.operation, &mut lent, calls));
         }
     }
-    let plain = median(&mut plain_times) / parts as f64;
-    let (engine, ratio) = match ENGINE {
+    let (plain, told) = (plain_least / parts as f64, engine_least / parts as f64);
+    let (told, ratio) = match engine {
         Some(engine) => {
-            assert!(call.outcome(&Plain).same(&call.outcome(engine)), "{}: answers differ", subject.name);
-            let engine = median(&mut engine_times) / parts as f64;
-            (format!("{engine:.3}"), format!("{:.2}", engine / plain))
+            assert!(call.outcome(&Plain).same(&call.outcome(engine)), "{name}: answers differ");
+            (format!("{told:.3}"), format!("{:.2}", told / plain))
         }
         None => ("-".to_string(), "-".to_string()),
     };
-    let name = format!("{}: {}", subject.name, call.name);
     let moves = if moves == 0 { "-".to_string() } else { moves.to_string() };
-    println!("{name:46} {words:>7} {moves:>7} {plain:>10.3} {engine:>10} {ratio:>7}");
+    println!("{name:46} {words:>7} {moves:>7} {plain:>10.3} {told:>10} {ratio:>7}");
 }
 
 fn once(by: &dyn Operations, given: &[&[u8]], operation: Operation, lent: &mut [Vec<u8>]) {
@@ -224,9 +260,4 @@ fn sample(
         once(by, given, operation, lent);
     }
     start.elapsed().as_secs_f64() * 1e6 / f64::from(calls)
-}
-
-fn median(times: &mut [f64]) -> f64 {
-    times.sort_by(f64::total_cmp);
-    times[times.len() / 2]
 }

@@ -1,17 +1,20 @@
-//! The least stack on which Admit returns, for the worst nestings that 64 blocks can hold.
+//! The least stack on which each operation returns, for the worst nestings that there are: of rule sets
+//! that 64 blocks can hold for Admit, of states within the limits for the others.
 //!
 //! Each try runs in a child process, since an overflow kills it: a thread on a stack of so many KiB,
 //! with 64 MiB below it that may not be touched, so that a frame larger than a guard page cannot step
 //! over the end unseen. The least that passes is found by bisection. The figures include what the
 //! thread itself needs at its start (the C library asks for 16 KiB). The engine is measured where it is
-//! linked, and the plain reader too. For Linux.
+//! linked, and the plain interpreter too. For Linux.
 
 use std::ffi::{c_int, c_void};
 use std::process::{Command, ExitCode, Stdio};
-use std::{env, fs, ptr};
+use std::{env, ptr};
 
+use host::calls::{ask, Call, Operation, Operations, Plain};
+use host::generate::deep::{self, Deep};
 use host::generate::nesting;
-use host::{plain, Answer};
+use host::{on_large_stack, plain, Answer};
 
 /// The C library's least stack for a thread, the most that is tried, and the step, all in KiB.
 const LEAST: usize = 16;
@@ -21,45 +24,93 @@ const STEP: usize = 4;
 type Admit = fn(&[u8]) -> Answer;
 
 /// Who is measured.
-fn readers() -> Vec<(&'static str, Admit)> {
+#[derive(Clone, Copy)]
+struct Side {
+    name: &'static str,
+    admit: Admit,
+    operations: &'static (dyn Operations + Sync),
+    answers: fn(Operation) -> bool,
+}
+
+fn sides() -> Vec<Side> {
     vec![
         #[cfg(cabinet)]
-        ("engine", host::engine::admit as Admit),
-        ("plain", plain::admit as Admit),
+        Side {
+            name: "engine",
+            admit: host::engine::admit,
+            operations: &host::engine::Cabinet,
+            answers: host::engine::answers,
+        },
+        Side { name: "plain", admit: plain::admit, operations: &Plain, answers: |_| true },
     ]
+}
+
+/// The columns behind Admit's, in the order of eb3.h.
+const OPERATIONS: [&str; 5] = ["start", "count", "move", "present", "run"];
+
+fn column(operation: Operation) -> &'static str {
+    match operation {
+        Operation::Start => "start",
+        Operation::Count => "count",
+        Operation::Move(_) => "move",
+        Operation::Present => "present",
+        Operation::Run => "run",
+    }
+}
+
+/// The states that are measured.
+fn states() -> Vec<Deep> {
+    [vec![deep::shallow()], deep::worst()].concat()
 }
 
 fn main() -> ExitCode {
     let arguments: Vec<String> = env::args().collect();
-    if let [_, reader, kib, file] = &arguments[..] {
-        return attempt(reader, kib.parse().expect("a number of KiB"), file);
+    if let [_, side, operation, shape, kib] = &arguments[..] {
+        let number = |text: &str| text.parse().expect("a number");
+        return attempt(side, operation, number(shape), number(kib) * 1024);
     }
-    let names: Vec<&str> = readers().iter().map(|(name, _)| *name).collect();
-    println!(
-        "{:32} {:>7}  {}",
-        "least stack, KiB",
-        "depth",
-        names.iter().map(|name| format!("{name:>9}")).collect::<String>()
-    );
-    let folder = env::temp_dir().join(format!("eb3-stack-{}", std::process::id()));
-    fs::create_dir_all(&folder).expect("a folder for the files");
-    let file = folder.join("nesting.eb3");
-    for nesting in nesting::worst() {
-        fs::write(&file, &nesting.file).expect("the file is written");
-        let path = file.to_str().expect("a path in UTF-8");
-        let least: String = names.iter().map(|reader| format!("{:>9}", least_stack(reader, path))).collect();
-        println!("{:32} {:>7}  {least}", nesting.name, nesting.depth);
-    }
-    fs::remove_dir_all(&folder).expect("the folder is removed");
+    admit_table();
+    println!();
+    operations_table();
     ExitCode::SUCCESS
 }
 
+fn admit_table() {
+    let heads: String = sides().iter().map(|side| format!("{:>9}", side.name)).collect();
+    println!("{:32} {:>7}  {heads}", "admit: least stack, KiB", "depth");
+    for (shape, nesting) in nesting::worst().iter().enumerate() {
+        let least = sides().into_iter().map(|side| format!("{:>9}", least_stack(side.name, "admit", shape)));
+        println!("{:32} {:>7}  {}", nesting.name, nesting.depth, least.collect::<String>());
+    }
+}
+
+fn operations_table() {
+    let columns = OPERATIONS.map(|operation| format!("{operation:>8}")).concat();
+    let heads: String = sides().iter().map(|side| format!("  {:7}{columns}", side.name)).collect();
+    println!("{:32} {:>7}{heads}", "operations: least stack, KiB", "depth");
+    for (shape, deep) in on_large_stack(states).iter().enumerate() {
+        let calls = on_large_stack(|| deep.calls());
+        let there = |side: &Side, name: &str| {
+            calls.iter().any(|call| column(call.operation) == name && (side.answers)(call.operation))
+        };
+        let least = sides().into_iter().map(|side| {
+            let cell = |operation: &str| match there(&side, operation) {
+                true => least_stack(side.name, operation, shape),
+                false => "-".to_string(),
+            };
+            format!("  {:7}{}", "", OPERATIONS.map(|operation| format!("{:>8}", cell(operation))).concat())
+        });
+        println!("{:32} {:>7}{}", deep.name, deep.depth, least.collect::<String>());
+    }
+}
+
 /// Bisection over stacks of whole steps.
-fn least_stack(reader: &str, file: &str) -> String {
+fn least_stack(side: &str, operation: &str, shape: usize) -> String {
     let program = env::current_exe().expect("this program");
     let passes = |kib: usize| {
         let mut child = Command::new(&program);
-        child.args([reader, &kib.to_string(), file]).stdout(Stdio::null()).stderr(Stdio::null());
+        child.args([side, operation, &shape.to_string(), &kib.to_string()]);
+        child.stdout(Stdio::null()).stderr(Stdio::null());
         child.status().expect("a child process").success()
     };
     if !passes(MOST) {
@@ -80,23 +131,34 @@ fn least_stack(reader: &str, file: &str) -> String {
     passed.to_string()
 }
 
-/// In the child: admits the file on a stack of so many KiB. An overflow ends the process by a signal.
-fn attempt(reader: &str, kib: usize, file: &str) -> ExitCode {
-    let (_, admit) = *readers().iter().find(|(name, _)| *name == reader).expect("a reader's name");
-    let work = Work { admit, bytes: fs::read(file).expect("the file is read") };
-    run_on_stack(kib * 1024, &work);
+/// In the child: one call on a stack of so many bytes. An overflow ends the process by a signal.
+fn attempt(side: &str, operation: &str, shape: usize, bytes: usize) -> ExitCode {
+    let side = sides().into_iter().find(|known| known.name == side).expect("a side's name");
+    if operation == "admit" {
+        let file = &nesting::worst()[shape].file;
+        run_on_stack(bytes, &mut || {
+            std::hint::black_box((side.admit)(file)).expect("the worst nestings are admitted");
+        });
+        return ExitCode::SUCCESS;
+    }
+    let calls = on_large_stack(|| states()[shape].calls());
+    let call = calls.into_iter().find(|call| column(call.operation) == operation).expect("an operation");
+    let Call { operation, given, mut lent, .. } = call;
+    let given: Vec<&[u8]> = given.iter().map(Vec::as_slice).collect();
+    let mut lent: Vec<&mut [u8]> = lent.iter_mut().map(Vec::as_mut_slice).collect();
+    run_on_stack(bytes, &mut || {
+        let reply = ask(side.operations, operation, &given, &mut lent);
+        assert_eq!(0, std::hint::black_box(reply).refusal());
+    });
     ExitCode::SUCCESS
 }
 
-struct Work {
-    admit: Admit,
-    bytes: Vec<u8>,
-}
+type Work<'a> = &'a mut dyn FnMut();
 
-extern "C" fn admit_work(work: *mut c_void) -> *mut c_void {
+extern "C" fn do_work(work: *mut c_void) -> *mut c_void {
     // SAFETY: `run_on_stack` hands over a `Work` and waits for this thread.
-    let work = unsafe { &*work.cast::<Work>() };
-    std::hint::black_box((work.admit)(&work.bytes)).expect("the worst nestings are admitted");
+    let work = unsafe { &mut *work.cast::<Work>() };
+    work();
     ptr::null_mut()
 }
 
@@ -133,7 +195,7 @@ const BELOW: usize = 64 << 20;
 
 /// std's threads have one guard page; a stack of one's own can have as much forbidden room below it as
 /// one likes.
-fn run_on_stack(bytes: usize, work: &Work) {
+fn run_on_stack(bytes: usize, mut work: Work) {
     // SAFETY: the C library's functions by their manual pages; the stack stays mapped until the process
     // ends.
     unsafe {
@@ -145,8 +207,8 @@ fn run_on_stack(bytes: usize, work: &Work) {
         assert_eq!(0, pthread_attr_init(&mut attributes));
         assert_eq!(0, pthread_attr_setstack(&mut attributes, stack, bytes));
         let mut thread = 0usize;
-        let argument = ptr::from_ref(work).cast_mut().cast();
-        assert_eq!(0, pthread_create(&mut thread, &attributes, admit_work, argument));
+        let argument = ptr::from_mut(&mut work).cast();
+        assert_eq!(0, pthread_create(&mut thread, &attributes, do_work, argument));
         assert_eq!(0, pthread_join(thread, ptr::null_mut()));
     }
 }

@@ -5,7 +5,8 @@
 //! expressions of functions, the stream's length. (`nesting` has what Admit has to bear.) Whoever makes
 //! these needs a large stack too.
 
-use super::running::State;
+use super::nesting;
+use super::running::{self, State};
 use crate::blocks::{blocks_for, file_of, MOST_WORDS};
 use crate::calls::{Call, Operation};
 use crate::{bytes_of, examples, plain, Sizes, MOST_REACH};
@@ -51,20 +52,36 @@ fn guard(name: &'static str, nest: Nest) -> Deep {
     given(name, depth, &[&[26], &spelled(nest, depth)[..], &[20]].concat())
 }
 
+/// Not within not, so often that the guard holds.
+fn even_nots() -> Deep {
+    let depth = MOST_REACH as usize - 4;
+    given(
+        "not in a guard that holds",
+        depth,
+        &[&[26], &spelled((&[12], &[13], &[]), depth)[..], &[20]].concat(),
+    )
+}
+
 /// Stars: each reaches further than it is long, so that there cannot be more.
 fn stars() -> Deep {
     given("stars", 125, &spelled((&[24], &[20], &[]), 125))
 }
 
-/// A rule set of one domain of one element, one label, these functions and this main, in as many blocks as
-/// it takes; and main, which has no call and no variable, as the term given to it.
-fn rule_set(name: &'static str, depth: usize, functions: &[u16], main: &[u16]) -> Deep {
-    let mut words = [&[1, 0, 1, 1, 1, 0], functions, &[1, 0], main].concat();
+/// A rule set of one domain of one element, one label, and the functions and processes that these words are,
+/// in as many blocks as it takes; an internal step as the term given to it.
+fn stream(name: &'static str, depth: usize, rest: &[u16]) -> Deep {
+    let mut words = [&[1, 0, 1, 1, 1, 0], rest].concat();
     words[1] = blocks_for(words.len()) as u16;
     let file = file_of(&words);
     let sizes = plain::admit(&file).expect("a rule set within the limits");
     let memory = vec![0; 2 * sizes.cells as usize];
-    Deep { name, depth, file, sizes, state: State { term: bytes_of(main), memory } }
+    Deep { name, depth, file, sizes, state: State { term: bytes_of(&[20]), memory } }
+}
+
+/// The same with main as the one process and as the term: it has no call and no variable.
+fn rule_set(name: &'static str, depth: usize, functions: &[u16], main: &[u16]) -> Deep {
+    let deep = stream(name, depth, &[functions, &[1, 0], main].concat());
+    Deep { state: State { term: bytes_of(main), ..deep.state }, ..deep }
 }
 
 /// One function, by its expressions for the empty trace and for the label; main is the label's action.
@@ -99,6 +116,35 @@ fn main_of(name: &'static str, nest: Nest) -> Deep {
     rule_set(name, depth, &[0], &spelled(nest, depth))
 }
 
+/// The same behind as many quantifiers over one element as there can be, which add no word: 8 in each of 31
+/// processes.
+fn quantified_main_of(name: &'static str, nest: Nest) -> Deep {
+    let depth = levels(nest, MOST_REACH as usize);
+    let innermost = spelled(nest, depth);
+    let mut processes = [&[32, 0], &innermost[..]].concat();
+    for process in 0..31 {
+        processes.extend([&[0], &[27, 0].repeat(8)[..], &[29, process]].concat());
+    }
+    let deep = stream(name, depth + 31 * 8, &[&[0], &processes[..]].concat());
+    Deep { state: State { term: bytes_of(&innermost), ..deep.state }, ..deep }
+}
+
+/// A rule set that is as deep as Admit can meet, in a process that main does not call.
+fn unreached(name: &'static str, shape: &str) -> Deep {
+    let nesting =
+        nesting::worst().into_iter().find(|nesting| nesting.name == shape).expect("a worst nesting");
+    let sizes = plain::admit(&nesting.file).expect("the worst nestings are admitted");
+    let state = State { term: bytes_of(&[20]), memory: vec![0; 2 * sizes.cells as usize] };
+    Deep { name, depth: nesting.depth, file: nesting.file, sizes, state }
+}
+
+/// Nothing deep: what a call takes in any case.
+pub fn shallow() -> Deep {
+    let Deep { file, sizes, .. } = given("", 0, &[20]);
+    let state = running::start(&file, sizes);
+    Deep { name: "the key cabinet's start", depth: 5, file, sizes, state }
+}
+
 /// The worst shapes there are.
 pub fn worst() -> Vec<Deep> {
     let (step, done, take) = (&[20][..], &[30][..], &[21, 0, 1, 0][..]);
@@ -107,6 +153,7 @@ pub fn worst() -> Vec<Deep> {
     let (mask, other_mask) = (&[25, 1, 0, 0, 0][..], &[25, 2, 0, 0, 0][..]);
     vec![
         guard("not in a guard", (&[12], &[13], &[])),
+        even_nots(),
         guard("and in a guard, left", (&[10], &[13], &[13])),
         guard("and in a guard, right", (&[10, 13], &[13], &[])),
         guard("if in conditions in a guard", (&[8, 5], &[13], &[0, 0, 0])),
@@ -132,12 +179,17 @@ pub fn worst() -> Vec<Deep> {
         at_start("conditions in if at the start", (&[5, 8], &[0], &[0, 0, 0])),
         main_of("main of guards", (&[26, 13], step, &[])),
         main_of("main of sequences, left", (&[22], step, step)),
+        main_of("main of sequences, right", (&[22, 20], step, &[])),
+        main_of("main of choices, left", (&[23], step, step)),
         main_of("main of parallels, right", (&[beside, step].concat(), step, &[])),
+        quantified_main_of("main of quantifiers, sequences", (&[22], step, step)),
+        unreached("sequences that main does not call", "sequence, left"),
     ]
 }
 
 impl Deep {
-    /// Start, Count, and the last move by its number and by its action; those that there are.
+    /// Start, a run of one number, Count, and the last move by its number and by its action; those that
+    /// there are.
     pub fn calls(&self) -> Vec<Call> {
         let Deep { file, state: State { term, memory }, .. } = self;
         let lent = vec![vec![0xa5; 2 * MOST_REACH as usize], vec![0x5a; memory.len()]];
@@ -149,7 +201,11 @@ impl Deep {
             lent: lent.to_vec(),
             expected: Some(0),
         };
-        let mut calls = vec![call(Operation::Start, &given[..1], &lent), call(Operation::Count, &given, &[])];
+        let mut calls = vec![
+            call(Operation::Start, &given[..1], &lent),
+            call(Operation::Run, &[file.clone(), vec![0, 0]], &[lent.clone(), lent.clone()].concat()),
+            call(Operation::Count, &given, &[]),
+        ];
         let count = plain::count(file, term, memory).expect("a right term");
         let Some(last) = count.checked_sub(1).map(u64::from) else { return calls };
         let (mut next_term, mut next_memory) = (lent[0].clone(), lent[1].clone());
