@@ -40,7 +40,7 @@ use Rattle.steps.specs.RuledLaws.{ruled-there}
 use Rattle.runs.specs.Running.{Situated, Ended, Runs}
 use Rattle.runs.specs.Mains.{RunsMain, Padded, Finished}
 use Rattle.runs.specs.declared.Tally.{Tally}
-use Rattle.runs.proofs.StepCases.{loaded-front}
+use Rattle.runs.proofs.StepCases.{written-loaded}
 
 -- ── zeros up to main's reach ──
 
@@ -123,7 +123,7 @@ module _ (R : RuleSet) (well : WellFormed edition-1 R) where
   main-situated n spare spare₁ ws ws₁ M e buffer room loaded stored = record {
     running = main-there;
     size-is = e;
-    spelled = loaded-front (words 1 main) spare ws ws₁ n e main-small (omega (arith, main-size)) (subst (λ B. Loaded B ws ws₁ 0 n) buffer loaded);
+    spelled = written-loaded (words 1 main) spare ws ws₁ n e main-small (omega (arith, main-size)) (subst (λ B. Loaded B ws ws₁ 0 n) buffer loaded);
     stored = stored;
   }
 
