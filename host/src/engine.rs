@@ -1,14 +1,13 @@
 //! The engine behind its C interface (`eb3.h`), as safe Rust functions. Only there with the static
-//! library (cfg `cabinet`); Run only with the feature `run`.
+//! library (cfg `cabinet`).
 //!
 //! Document 01, "Operations" and "A C host on the controller calls every operation with numbers and byte
 //! slices". Nothing checks these declarations against the engine's source but the tests.
 
 mod operations;
-#[cfg(feature = "run")]
 mod running;
 
-pub use operations::{answers, nothing, Cabinet};
+pub use operations::{nothing, Cabinet};
 
 use crate::{Answer, Sizes};
 

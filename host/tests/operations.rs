@@ -1,6 +1,6 @@
 //! The engine's operations against the plain interpreter: every kind of call, between forbidden pages.
 //!
-//! Only where the engine is linked (cfg `cabinet`); Run only with the feature `run`. `ROUNDS=20` makes
+//! Only where the engine is linked (cfg `cabinet`). `ROUNDS=20` makes
 //! twenty times as many random cases. A touch of a forbidden page ends the process without a word: with
 //! `TRACE=1` each call is named before it is made.
 #![cfg(cabinet)]
@@ -8,7 +8,7 @@
 use std::io::Write;
 
 use host::calls::{Call, Operation, Operations, Outcome, Plain, EVERY_OPERATION};
-use host::engine::{answers, nothing, Cabinet};
+use host::engine::{nothing, Cabinet};
 use host::generate::calls::every_call;
 use host::generate::running;
 use host::guarded::{Edge, Rooms};
@@ -80,9 +80,6 @@ fn every_call_is_answered_alike() {
         let mut rooms = Rooms::new(65536);
         let trace = std::env::var_os("TRACE").is_some();
         every_call(rounds(), &mut |call| {
-            if !answers(call.operation) {
-                return;
-            }
             if trace {
                 say(&format!("{:?}: {}", call.operation, call.name));
             }
@@ -97,8 +94,7 @@ fn every_call_is_answered_alike() {
     });
     met.say("the engine and the plain interpreter, answered alike");
     kinds.check();
-    let asked: Vec<Operation> = EVERY_OPERATION.into_iter().filter(|&operation| answers(operation)).collect();
-    met.require(&asked);
+    met.require(&EVERY_OPERATION);
 }
 
 /// What a call whose two outcomes differ was, and how they do.

@@ -1,9 +1,9 @@
 //! The engine's Run against the plain interpreter, over cells and over histories: long runs with room in
 //! every buffer. (`operations` has the short ones, in buffers of every length.)
 //!
-//! Document 01, "Memory and the history machine". Only where the engine is linked (cfg `cabinet`) and has
-//! Run (feature `run`). `ROUNDS=20` makes twenty times as many random cases.
-#![cfg(all(cabinet, feature = "run"))]
+//! Document 01, "Memory and the history machine". Only where the engine is linked (cfg `cabinet`).
+//! `ROUNDS=20` makes twenty times as many random cases.
+#![cfg(cabinet)]
 
 use host::calls::{Operations, Plain};
 use host::engine::Cabinet;

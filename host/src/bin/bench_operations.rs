@@ -5,8 +5,8 @@
 //! the rows that have them in their name, and with `plain` or `engine` behind them that side alone, for a
 //! profiler. Each sample times a batch of calls, plain and engine taking turns;
 //! the figures are the least over the samples, since whatever else the machine does only adds to them.
-//! Every call admits the rule set and checks the term anew. Without the static library, and for Run
-//! without the feature `run`, the plain interpreter stands alone.
+//! Every call admits the rule set and checks the term anew. Without the static library the plain
+//! interpreter stands alone.
 
 use std::hint::black_box;
 use std::time::{Duration, Instant};
@@ -24,12 +24,12 @@ const BATCH: Duration = Duration::from_micros(500);
 /// So many numbers to a run; its time is told per number.
 const NUMBERS: usize = 1000;
 
-/// The engine, where it has the operation.
-fn engine(operation: Operation) -> Option<&'static dyn Operations> {
+/// The engine, where it is linked.
+fn engine() -> Option<&'static dyn Operations> {
     #[cfg(cabinet)]
-    return host::engine::answers(operation).then_some(&host::engine::Cabinet);
+    return Some(&host::engine::Cabinet);
     #[cfg(not(cabinet))]
-    return None.filter(|_: &&dyn Operations| operation == Operation::Run);
+    return None;
 }
 
 fn main() {
@@ -206,7 +206,7 @@ fn row(subject: &Subject, call: &Call, words: usize, moves: u32, parts: usize) {
     let given: Vec<&[u8]> = call.given.iter().map(Vec::as_slice).collect();
     let mut lent = call.lent.clone();
     let calls = calls_in_a_batch(&given, call.operation, &mut lent);
-    let engine = engine(call.operation);
+    let engine = engine();
     let (mut plain_least, mut engine_least) = (f64::MAX, f64::MAX);
     for _ in 0..SAMPLES {
         if side_wanted("plain") {

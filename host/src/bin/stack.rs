@@ -29,7 +29,6 @@ struct Side {
     name: &'static str,
     admit: Admit,
     operations: &'static (dyn Operations + Sync),
-    answers: fn(Operation) -> bool,
 }
 
 fn sides() -> Vec<Side> {
@@ -39,9 +38,8 @@ fn sides() -> Vec<Side> {
             name: "engine",
             admit: host::engine::admit,
             operations: &host::engine::Cabinet,
-            answers: host::engine::answers,
         },
-        Side { name: "plain", admit: plain::admit, operations: &Plain, answers: |_| true },
+        Side { name: "plain", admit: plain::admit, operations: &Plain },
     ]
 }
 
@@ -90,11 +88,9 @@ fn operations_table() {
     println!("{:32} {:>7}{heads}", "operations: least stack, KiB", "depth");
     for (shape, deep) in on_large_stack(states).iter().enumerate() {
         let calls = on_large_stack(|| deep.calls());
-        let there = |side: &Side, name: &str| {
-            calls.iter().any(|call| column(call.operation) == name && (side.answers)(call.operation))
-        };
+        let there = |name: &str| calls.iter().any(|call| column(call.operation) == name);
         let least = sides().into_iter().map(|side| {
-            let cell = |operation: &str| match there(&side, operation) {
+            let cell = |operation: &str| match there(operation) {
                 true => least_stack(side.name, operation, shape),
                 false => "-".to_string(),
             };

@@ -4,9 +4,8 @@
 //! document 01's table; then every other field is 0". A reply that is neither is a fault of the engine,
 //! and ends the test here.
 
-#[cfg(feature = "run")]
 use super::running;
-use crate::calls::{Operation, Operations};
+use crate::calls::Operations;
 use crate::{Action, Counted, Made, Moved, Ran, Started};
 
 /// `eb3_started`.
@@ -115,11 +114,6 @@ impl MoveReply {
 /// The engine.
 pub struct Cabinet;
 
-/// Whether the library has the operation.
-pub fn answers(operation: Operation) -> bool {
-    operation != Operation::Run || cfg!(feature = "run")
-}
-
 /// Every operation given no bytes and no pointers, which eb3.h allows with length 0: the refusals.
 pub fn nothing() -> Vec<u32> {
     let (given, lent) = (std::ptr::null(), std::ptr::null_mut());
@@ -130,7 +124,6 @@ pub fn nothing() -> Vec<u32> {
             eb3_count(given, 0, given, 0, given, 0).refusal,
             eb3_move(given, 0, given, 0, given, 0, 0, lent, 0, lent, 0).refusal,
             eb3_present(given, 0, given, 0, given, 0, given, 0, lent, 0, lent, 0).refusal,
-            #[cfg(feature = "run")]
             running::eb3_run(given, 0, given, 0, lent, 0, lent, 0, lent, 0, lent, 0).refusal,
         ]
     }
@@ -216,7 +209,6 @@ impl Operations for Cabinet {
         reply.moved()
     }
 
-    #[cfg(feature = "run")]
     fn run(
         &self,
         rules: &[u8],
@@ -227,10 +219,5 @@ impl Operations for Cabinet {
         spare_memory: &mut [u8],
     ) -> Ran {
         running::run(rules, numbers, term, memory, spare_term, spare_memory)
-    }
-
-    #[cfg(not(feature = "run"))]
-    fn run(&self, _: &[u8], _: &[u8], _: &mut [u8], _: &mut [u8], _: &mut [u8], _: &mut [u8]) -> Ran {
-        unreachable!("the library does not export Run")
     }
 }

@@ -1,4 +1,4 @@
-//! Run of the engine, where the library exports it (feature `run`).
+//! Run of the engine.
 //!
 //! Document 01, "Operations"; `eb3_run` of eb3.h.
 
