@@ -119,3 +119,13 @@ module _ {s M : List ℕ} {k : ℕ} {entry exit : List ℕ} {r : ℕ} (f : PathF
   pub there-taken : (P : Scope) (E : Term) → Whole s P E → size 1 E ≤ length entry → SuccessorFits (getElem? (moves (holding M) E) k) B
       → Took (getElem? (moves (holding M) E) k) B B′ (Made (b .action) (b .words))
   there-taken P E w g room = taken-at P E w g (getElem? (moves (holding M) E) k) refl room
+
+-- Sought again in the same room: of the array only its length counts.
+pub sought-again : (s M : List ℕ) (k : ℕ) (entry later exit : List ℕ) (n r : ℕ) → length later ≡ length entry → PathSought s M k later exit n r → PathSought s M k entry exit n r
+sought-again s M k entry later exit n r h p = record {
+  same-length = p .same-length ∙ h;
+  place-bounded = λ l. subst (λ z. r ≤ z) h (p .place-bounded l);
+  has-room = λ P E rest t a b. p .has-room P E rest t (subst (λ z. size 1 E ≤ z) (sym h) a) b;
+  found = p .found;
+  none-found = p .none-found;
+}

@@ -38,13 +38,29 @@ fn tally_more(s: &[u16], m: &[u16]) -> usize
     r
 }
 
-fn tally_most(s: &[u16], m: &[u16]) -> usize
+fn tally_in_most(s: &[u16], m: &[u16]) -> usize
     requires { ⌜ length (now s) ≤ 65535 ⌝ }
     ensures { λ r. ⌜ Tallied (now (s .entry)) (now (m .entry)) 131072 r ⌝ }
 {
     let mut acts = [0u32; 131072];
     let r = list(s, m, &mut acts);
     r
+}
+
+// It calls itself where there was no room, which never happens within the limits: a function that calls itself is not put into its
+// caller, so that a call with few numbers does not pay for a frame with many.
+fn tally_most(s: &[u16], m: &[u16], more: usize) -> usize
+    requires { ⌜ length (now s) ≤ 65535 ⌝ }
+    ensures { λ r. ⌜ Tallied (now (s .entry)) (now (m .entry)) 131072 r ⌝ }
+{
+    let r = tally_in_most(s, m);
+    if r < FULL {
+        return r;
+    }
+    if more == 0 {
+        return r;
+    }
+    tally_most(s, m, more - 1)
 }
 
 pub fn count_moves(s: &[u16], m: &[u16]) -> usize
@@ -59,7 +75,7 @@ pub fn count_moves(s: &[u16], m: &[u16]) -> usize
     if more < FULL {
         return more / 65536;
     }
-    tally_most(s, m) / 65536
+    tally_most(s, m, s.len()) / 65536
 }
 
 // ── the first with an action ──
@@ -108,13 +124,28 @@ fn first_more(s: &[u16], m: &[u16], code: u32) -> usize
     r
 }
 
-fn first_most(s: &[u16], m: &[u16], code: u32) -> usize
+fn first_in_most(s: &[u16], m: &[u16], code: u32) -> usize
     requires { ⌜ length (now s) ≤ 65535 ⌝ }
     ensures { λ r. ⌜ FirstSought (now (s .entry)) (now (m .entry)) code 131072 r ⌝ }
 {
     let mut acts = [0u32; 131072];
     let r = first_in(s, m, code, &mut acts);
     r
+}
+
+// As in counting, a function that calls itself.
+fn first_most(s: &[u16], m: &[u16], code: u32, more: usize) -> usize
+    requires { ⌜ length (now s) ≤ 65535 ⌝ }
+    ensures { λ r. ⌜ FirstSought (now (s .entry)) (now (m .entry)) code 131072 r ⌝ }
+{
+    let r = first_in_most(s, m, code);
+    if r < FULL {
+        return r;
+    }
+    if more == 0 {
+        return r;
+    }
+    first_most(s, m, code, more - 1)
 }
 
 // The number of the first move with this action, or NONE.
@@ -130,5 +161,5 @@ pub fn first_move(s: &[u16], m: &[u16], code: u32) -> usize
     if more < FULL {
         return more;
     }
-    first_most(s, m, code)
+    first_most(s, m, code, s.len())
 }

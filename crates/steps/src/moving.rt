@@ -45,13 +45,29 @@ fn path_more(s: &[u16], m: &[u16], k: usize, path: &mut [u16]) -> usize
     r
 }
 
-fn path_most(s: &[u16], m: &[u16], k: usize, path: &mut [u16]) -> usize
+fn path_in_most(s: &[u16], m: &[u16], k: usize, path: &mut [u16]) -> usize
     requires { ⌜ (length (now s) ≤ 65535) × (k < 65536) × (length (now path) ≤ 65535) ⌝ }
     ensures { λ r. ⌜ PathSought (now (s .entry)) (now (m .entry)) k (now (path .entry)) (now (path .exit)) 131072 r ⌝ }
 {
     let mut acts = [0u32; 131072];
     let r = derive(s, m, k, path, &mut acts);
     r
+}
+
+// It calls itself where there was no room, which never happens within the limits: a function that calls itself is not put into its
+// caller, so that a call with few numbers does not pay for a frame with many.
+fn path_most(s: &[u16], m: &[u16], k: usize, path: &mut [u16], more: usize) -> usize
+    requires { ⌜ (length (now s) ≤ 65535) × (k < 65536) × (length (now path) ≤ 65535) ⌝ }
+    ensures { λ r. ⌜ PathSought (now (s .entry)) (now (m .entry)) k (now (path .entry)) (now (path .exit)) 131072 r ⌝ }
+{
+    let r = path_in_most(s, m, k, path);
+    if r < FULL {
+        return r;
+    }
+    if more == 0 {
+        return r;
+    }
+    path_most(s, m, k, path, more - 1)
 }
 
 // The place in a lent array where move k's path begins; it goes to the array's end.
@@ -67,7 +83,7 @@ fn find_path(s: &[u16], m: &[u16], k: usize, path: &mut [u16]) -> usize
     if more < FULL {
         return more;
     }
-    path_most(s, m, k, path)
+    path_most(s, m, k, path, s.len())
 }
 
 // ── the move ──

@@ -1,9 +1,9 @@
 use Rattle.steps.proofs.TakeCases.{walked}
 use borrow.Author.Needs.{needs}
-use Rattle.steps.proofs.moving.path_most.Statement.{statement}
-use Rattle.steps.proofs.moving.path_most.Tie as tie
-use Rattle.steps.proofs.moving.path_most.Reads as reads
-use Rattle.steps.proofs.moving.path_most.Lts as lts
+use Rattle.steps.proofs.moving.path_in_most.Statement.{statement}
+use Rattle.steps.proofs.moving.path_in_most.Tie as tie
+use Rattle.steps.proofs.moving.path_in_most.Reads as reads
+use Rattle.steps.proofs.moving.path_in_most.Lts as lts
 use Rattle.deriving.proofs.derive.Reads as derive-reads
 
 -- src/moving.rt:53:35
@@ -22,5 +22,5 @@ same-length c = search needs
 returns : tie.Need-returns
 returns c = walked (c .before .before .before .derive .ensures .0) (c .before .before .before .derive .ensures .1)
 
-pub path-most-spec : {M : Type 1} → statement M
-path-most-spec = tie.close (tie.spec slice-aggregate-derive derive-requires same-length returns)
+pub path-in-most-spec : {M : Type 1} → statement M
+path-in-most-spec = tie.close (tie.spec slice-aggregate-derive derive-requires same-length returns)
