@@ -1,6 +1,7 @@
 -- The demands as statements about the operations on bytes (document 01, "Operations" and "Four questions about contracts"); they are proved in
--- Laws/DemandOne, Laws/DemandTwo and Laws/DemandThree. The operations are those that the exported contracts equal.
+-- Laws/DemandOne, Laws/Order, Laws/DemandTwo and Laws/DemandThree. The operations are those that the exported contracts equal.
 use mathlib.Core.Path.{_≡_}
+use mathlib.Core.Bool.{false, _&&_}
 use mathlib.Core.List.{List, [], _++_}
 use mathlib.Core.Option.{none, some}
 use Prim.Native.Nat.{ℕ, _+_, _-_, _*_, _≤_}
@@ -24,7 +25,7 @@ use Rattle.eb3.specs.Bytes.{words-in, word-count, written}
 use Rattle.eb3.specs.Memory.{cell-room, memory-words}
 use Rattle.eb3.specs.Answers.{Answer, refused, answered, Sizes, Moved, Ran, Written, unwritten}
 use Rattle.eb3.specs.Admission.{admission}
-use Rattle.eb3.specs.Operations.{cells-needed, sizes-needed, main-reach, term-in, event-in, cells-given, listed, admit, start, count, move, present, run}
+use Rattle.eb3.specs.Operations.{cells-needed, sizes-needed, main-reach, term-fits, memory-fits, term-in, event-in, cells-given, listed, admit, start, count, move, present, run}
 
 -- Buffers of the reported sizes.
 pub record Roomy (S : Sizes) (term memory : List ℕ) : Type 0 where
@@ -46,6 +47,24 @@ pub record Demand-1-refusals (rules numbers term memory event next-term next-mem
   pub present-refused : RefusedAs 1 12 next-term next-memory (present rules term memory event next-term next-memory)
   pub run-refused : RefusedAs 1 9 term memory (run rules numbers term memory spare-term spare-memory)
 
+-- The table's order: what admission refuses every operation refuses alike, whatever else is given; a wrong term comes before a wrong event, both before
+-- space, and space before a move that is not offered. (Of 1 to 8 the order is that of the tests in Blocks.open-blocks and Admission.admission.)
+pub record Demand-1-order (rules numbers term memory event next-term next-memory spare-term spare-memory : List ℕ) (k : ℕ) : Type 0 where
+  pub admission-first : (j : ℕ) → admission edition-1 rules ≡ refused j
+      → (admit rules ≡ refused j) × (start rules term memory ≡ unwritten term memory j) × (count rules term memory ≡ refused j)
+      × (move rules term memory k next-term next-memory ≡ unwritten next-term next-memory j)
+      × (present rules term memory event next-term next-memory ≡ unwritten next-term next-memory j)
+      × (run rules numbers term memory spare-term spare-memory ≡ unwritten term memory j)
+  pub term-next : (R : RuleSet) → admission edition-1 rules ≡ answered R → (j : ℕ) → term-in edition-1 R term ≡ refused j
+      → (count rules term memory ≡ refused j) × (move rules term memory k next-term next-memory ≡ unwritten next-term next-memory j)
+      × (present rules term memory event next-term next-memory ≡ unwritten next-term next-memory j)
+  pub event-next : (R : RuleSet) (E : Term) → admission edition-1 rules ≡ answered R → term-in edition-1 R term ≡ answered E → (j : ℕ) → event-in R event ≡ refused j
+      → present rules term memory event next-term next-memory ≡ unwritten next-term next-memory j
+  pub space-before-offer : (R : RuleSet) (E : Term) → admission edition-1 rules ≡ answered R → term-in edition-1 R term ≡ answered E
+      → (term-fits (reach (R .width) E) next-term && (memory-fits R memory && memory-fits R next-memory)) ≡ false
+      → (move rules term memory k next-term next-memory ≡ unwritten next-term next-memory Refusal.space)
+      × ((ρ : Action) → event-in R event ≡ answered ρ → present rules term memory event next-term next-memory ≡ unwritten next-term next-memory Refusal.space)
+
 -- An admitted rule set never lacks space in buffers of the reported sizes; a move from any given term never does in buffers of that term's G.
 pub record Demand-1-space (rules : List ℕ) (S : Sizes) : Type 0 where
   pub start-has-room : (term memory : List ℕ) → Roomy S term memory → start rules term memory .answer ≡ answered (S .size)
@@ -55,6 +74,9 @@ pub record Demand-1-space (rules : List ℕ) (S : Sizes) : Type 0 where
   pub move-has-room : (R : RuleSet) → admission edition-1 rules ≡ answered R → (E : Term) (term memory next-term next-memory : List ℕ) (k : ℕ)
       → term-in edition-1 R term ≡ answered E → reach (R .width) E ≤ word-count next-term → S .cells ≤ cell-room memory → S .cells ≤ cell-room next-memory
       → move rules term memory k next-term next-memory .answer ≡ refused Refusal.space → ⊥
+  pub present-has-room : (R : RuleSet) → admission edition-1 rules ≡ answered R → (E : Term) (term memory event next-term next-memory : List ℕ)
+      → term-in edition-1 R term ≡ answered E → reach (R .width) E ≤ word-count next-term → S .cells ≤ cell-room memory → S .cells ≤ cell-room next-memory
+      → present rules term memory event next-term next-memory .answer ≡ refused Refusal.space → ⊥
   -- What is reported is within the limits, and the start term is no larger than its reach.
   pub limits-kept : (S .reach ≤ 8192) × (S .breadth ≤ 65535) × (S .size ≤ S .reach)
 

@@ -1,4 +1,4 @@
--- The proofs. Demands 1 to 3 are in DemandOne, DemandTwo and DemandThree; what holds of every admitted rule set in Admitted; that every well-formed
+-- The proofs. Demands 1 to 3 are in DemandOne and Order, DemandTwo and DemandThree; what holds of every admitted rule set in Admitted; that every well-formed
 -- rule set that fits has a file which is admitted as it, in Files.
 
 -- Values, terms, moves; the listed moves are the derivations, in order (Derivations, Semantics).
@@ -53,4 +53,5 @@ pub mod Admitted
 pub mod DemandThree
 pub mod DemandTwo
 pub mod DemandOne
+pub mod Order
 pub mod Start

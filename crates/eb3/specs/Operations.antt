@@ -1,11 +1,12 @@
 -- The operations as total functions on byte lists, with the lent buffers afterwards (document 01, "Operations"). Each call admits the rule set and
 -- checks everything itself. The contracts of the exported functions are equations in these names.
+use mathlib.Core.Path.{_≡_}
 use mathlib.Core.Bool.{Bool, _&&_, not}
 use mathlib.Core.List.{List, [], _∷_, _++_}
 use mathlib.Core.Option.{Option, none, some}
-use Prim.Native.Nat.{ℕ, _-_, _%_}
+use Prim.Native.Nat.{ℕ, _-_, _*_, _%_}
 use lib.Dec.{eqb, leb}
-use lib.ListN.{length, getElem?, replicate}
+use lib.ListN.{length, getElem?, drop, replicate}
 use Rattle.eb3.specs.Refusal
 use Rattle.eb3.specs.Values.{Value}
 use Rattle.eb3.specs.Terms.{Term, Action}
@@ -140,7 +141,7 @@ module _ (L : Limits) where
         memory = written (memory-words L (all-values (attributes R) (h .state .state))) memory;
       }
 
-  -- The scratch buffers count by their room only; what they hold afterwards is free.
+  -- The scratch buffers count by their room only; what they hold afterwards is said by ScratchAfter.
   unfoldable pub run-in : List ℕ → List ℕ → List ℕ → List ℕ → List ℕ → List ℕ → Written Ran
   run-in rules numbers term memory spare-term spare-memory =
       writing term memory (admission L rules) λ R.
@@ -165,3 +166,8 @@ present = present-in edition-1
 
 abbrev pub run : List ℕ → List ℕ → List ℕ → List ℕ → List ℕ → List ℕ → Written Ran
 run = run-in edition-1
+
+-- A scratch buffer afterwards: a refusal writes nothing; else its words may be anything, and an odd last byte is kept.
+abbrev pub ScratchAfter : {X : Type 0} → Answer X → List ℕ → List ℕ → Type 0
+ScratchAfter (refused k) spare spare′ = spare′ ≡ spare
+ScratchAfter (answered x) spare spare′ = (length spare′ ≡ length spare) × (drop (2 * word-count spare) spare′ ≡ drop (2 * word-count spare) spare)

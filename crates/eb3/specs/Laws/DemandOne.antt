@@ -199,18 +199,38 @@ module _ (rules : List ℕ) (S : Sizes) (R : RuleSet) (a : admission edition-1 r
   offered next-term next-memory none f h e = not-space {X = Moved} Refusal.not-offered (λ p. omega arith) e
   offered next-term next-memory (some x) f h e = h x Refusal.space e
 
-  move-roomy : (E : Term) (term memory next-term next-memory : List ℕ) (k : ℕ) → term-in edition-1 R term ≡ answered E → reach (R .width) E ≤ word-count next-term
-      → S .cells ≤ cell-room memory → S .cells ≤ cell-room next-memory → move rules term memory k next-term next-memory .answer ≡ refused Refusal.space → ⊥
-  unfolding move-in
-  move-roomy E term memory next-term next-memory k given room₁ room₂ room₃ e =
-      let p : move rules term memory k next-term next-memory ≡ writing next-term next-memory (or-refused Refusal.not-offered (getElem? (listed edition-1 R E memory) k)) (moved edition-1 R memory next-term next-memory) =
-      ap (λ x. writing next-term next-memory x λ R. writing next-term next-memory (term-in edition-1 R term) λ E. chosen edition-1 R E memory next-term next-memory λ xs. getElem? xs k) a
-      ∙ (ap (λ x. writing next-term next-memory x λ E. chosen edition-1 R E memory next-term next-memory λ xs. getElem? xs k) given
-      ∙ pick-true _ _ (term-fits (reach (R .width) E) next-term && (memory-fits R memory && memory-fits R next-memory))
+  -- Where there is room, a choice among the moves is refused 12 or not at all.
+  chosen-roomy : (E : Term) (memory next-term next-memory : List ℕ) (choose : List Move → Option Move) → reach (R .width) E ≤ word-count next-term
+      → S .cells ≤ cell-room memory → S .cells ≤ cell-room next-memory → chosen edition-1 R E memory next-term next-memory choose .answer ≡ refused Refusal.space → ⊥
+  chosen-roomy E memory next-term next-memory choose room₁ room₂ room₃ e =
+      let p : chosen edition-1 R E memory next-term next-memory choose ≡ writing next-term next-memory (or-refused Refusal.not-offered (choose (listed edition-1 R E memory))) (moved edition-1 R memory next-term next-memory) =
+      pick-true _ _ (term-fits (reach (R .width) E) next-term && (memory-fits R memory && memory-fits R next-memory))
       (T-and (term-fits (reach (R .width) E) next-term) (memory-fits R memory && memory-fits R next-memory) (le→leb (reach (R .width) E) (word-count next-term) room₁)
-      (T-and (memory-fits R memory) (memory-fits R next-memory) (memory-roomy memory room₂) (memory-roomy next-memory room₃)))) in
-      offered next-term next-memory (getElem? (listed edition-1 R E memory) k) (moved edition-1 R memory next-term next-memory) (λ x j f. not-both j _ (sym f))
+      (T-and (memory-fits R memory) (memory-fits R next-memory) (memory-roomy memory room₂) (memory-roomy next-memory room₃))) in
+      offered next-term next-memory (choose (listed edition-1 R E memory)) (moved edition-1 R memory next-term next-memory) (λ x j f. not-both j _ (sym f))
       (ap (λ (w : Written Moved). w .answer) (sym p) ∙ e)
+
+  module _ (E : Term) (term memory next-term next-memory : List ℕ) (given : term-in edition-1 R term ≡ answered E) (room₁ : reach (R .width) E ≤ word-count next-term)
+      (room₂ : S .cells ≤ cell-room memory) (room₃ : S .cells ≤ cell-room next-memory) where
+    move-roomy : (k : ℕ) → move rules term memory k next-term next-memory .answer ≡ refused Refusal.space → ⊥
+    unfolding move-in
+    move-roomy k e =
+        let p : move rules term memory k next-term next-memory ≡ chosen edition-1 R E memory next-term next-memory (λ xs. getElem? xs k) =
+        ap (λ x. writing next-term next-memory x λ R. writing next-term next-memory (term-in edition-1 R term) λ E. chosen edition-1 R E memory next-term next-memory λ xs. getElem? xs k) a
+        ∙ ap (λ x. writing next-term next-memory x λ E. chosen edition-1 R E memory next-term next-memory λ xs. getElem? xs k) given in
+        chosen-roomy E memory next-term next-memory (λ xs. getElem? xs k) room₁ room₂ room₃ (ap (λ (w : Written Moved). w .answer) (sym p) ∙ e)
+
+    present-roomy : (event : List ℕ) → present rules term memory event next-term next-memory .answer ≡ refused Refusal.space → ⊥
+    unfolding present-in
+    present-roomy event e =
+        let p : present rules term memory event next-term next-memory ≡ writing next-term next-memory (event-in R event) (λ ρ. chosen edition-1 R E memory next-term next-memory (at-first ρ)) =
+        ap (λ x. writing next-term next-memory x λ R. writing next-term next-memory (term-in edition-1 R term) λ E. writing next-term next-memory (event-in R event) λ ρ. chosen edition-1 R E memory next-term next-memory (at-first ρ)) a
+        ∙ ap (λ x. writing next-term next-memory x λ E. writing next-term next-memory (event-in R event) λ ρ. chosen edition-1 R E memory next-term next-memory (at-first ρ)) given in
+        go (event-in R event) (event-within R event) (ap (λ (w : Written Moved). w .answer) (sym p) ∙ e)
+      where
+        go : (x : Answer Action) → Within 11 11 x → writing next-term next-memory x (λ ρ. chosen edition-1 R E memory next-term next-memory (at-first ρ)) .answer ≡ refused Refusal.space → ⊥
+        go (refused k) w f = not-space {X = Moved} k (λ p. omega (arith, w .0)) f
+        go (answered ρ) w f = chosen-roomy E memory next-term next-memory (at-first ρ) room₁ room₂ room₃ f
 
   limits-reported : (S .reach ≤ 8192) × (S .breadth ≤ 65535) × (S .size ≤ S .reach)
   limits-reported = let w : WellFormed edition-1 R = admitted edition-1 (omega arith) (omega arith) rules R a .0 in
@@ -223,7 +243,8 @@ space rules S e =
       start-has-room = start-roomy rules S (p .0) (p .1) (p .2);
       run-has-room = run-roomy rules S (p .0) (p .1) (p .2);
       count-has-room = count-roomy rules S (p .0) (p .1) (p .2);
-      move-has-room = λ R a. move-roomy rules S R a (reported R a (p .0) (p .1) (p .2));
+      move-has-room = λ R a E term memory next-term next-memory k t i j l. move-roomy rules S R a (reported R a (p .0) (p .1) (p .2)) E term memory next-term next-memory t i j l k;
+      present-has-room = λ R a E term memory event next-term next-memory t i j l. present-roomy rules S R a (reported R a (p .0) (p .1) (p .2)) E term memory next-term next-memory t i j l event;
       limits-kept = limits-reported rules S (p .0) (p .1) (p .2);
     }
   where
