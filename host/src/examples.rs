@@ -1,5 +1,5 @@
 //! The rule sets of document 01's examples, and the library of source document 002 (figure 3), with the
-//! names that their listings use.
+//! names that their listings use; and a cabinet that counts, for measurements.
 
 use crate::listing::Names;
 use crate::rules::{mask_of, Argument, Condition, Data, Function, Process, RuleSet, Term, NO_LABELS};
@@ -29,18 +29,41 @@ pub fn key_cabinet(keys: u16) -> RuleSet {
         at_start: Data::Constant(0),
         at_label: vec![where_same(1, Data::Constant(1), 0), where_same(1, Data::Constant(0), 0)],
     };
-    let inside = Condition::equal(Data::now(0, Data::Variable(0)), Data::Constant(0));
-    let taken = Term::guard(inside, Term::action(0, &[Variable(0)]));
-    let one_key = Term::star(Term::sequence(taken, Term::action(1, &[Variable(0)])));
     RuleSet {
         domains: vec![keys],
         labels: vec![vec![0], vec![0]],
         functions: vec![out],
-        processes: vec![
-            process(&[0], one_key),
-            process(&[], Term::parallel_over(0, NO_LABELS, Term::call(0, &[Variable(0)]))),
-        ],
+        processes: vec![process(&[], each_key(inside()))],
     }
+}
+
+/// The key cabinet with a second function, uses: how often the key has been taken. Its value needs the
+/// whole history, where out needs no event before the key's last one. Take also asks that uses is not
+/// below 0: this reads the count and always holds, even of an undefined one, past 65,534. So no list of
+/// events is too long, whatever the number of keys.
+pub fn counting_cabinet(keys: u16) -> RuleSet {
+    let uses = Function {
+        domain: 0,
+        at_start: Data::Constant(0),
+        at_label: vec![where_same(1, Data::plus(kept(1), Data::Constant(1)), 1), kept(1)],
+    };
+    let below_zero = Condition::less(Data::now(1, Data::Variable(0)), Data::Constant(0));
+    let mut rules = key_cabinet(keys);
+    rules.functions.push(uses);
+    rules.processes = vec![process(&[], each_key(Condition::and(inside(), Condition::negated(below_zero))))];
+    rules
+}
+
+/// The key of variable 0 is not out.
+fn inside() -> Condition {
+    Condition::equal(Data::now(0, Data::Variable(0)), Data::Constant(0))
+}
+
+/// All keys, none waiting for another: each taken where that may be, then brought back, again and again.
+fn each_key(may_be_taken: Condition) -> Term {
+    let taken = Term::guard(may_be_taken, Term::action(0, &[Variable(0)]));
+    let one_key = Term::star(Term::sequence(taken, Term::action(1, &[Variable(0)])));
+    Term::parallel_over(0, NO_LABELS, one_key)
 }
 
 /// Document 01's copies of P11's choice, in parallel with mask a: ten have W 59,048, eleven are refused
@@ -165,7 +188,7 @@ pub fn key_cabinet_names() -> Names {
         domains: strings(&["Key"]),
         labels: strings(&["Take", "Bring"]),
         functions: strings(&["out"]),
-        processes: strings(&["key", "main"]),
+        processes: strings(&["main"]),
     }
 }
 

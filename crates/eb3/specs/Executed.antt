@@ -34,12 +34,12 @@ use Rattle.eb3.specs.Admission.{all-zero, ended, within-limits, admissio
 use Rattle.eb3.specs.Operations.{admit-in, start-in, count-in, move-in, present-in, run-in, admit, start, count, move, present, run}
 use Rattle.eb3.specs.KeyCabinet.{cabinet-of, cabinet, copies}
 
--- The key cabinet's stream behind its first two words: domains, labels, the function, the processes.
+-- The key cabinet's stream behind its first two words: domains, labels, the function, main.
 pub cabinet-words : rules-words cabinet
     ≡ 1 ∷ 2 ∷
     2 ∷ 1 ∷ 0 ∷ 1 ∷ 0 ∷
     1 ∷ 0 ∷ 1 ∷ 0 ∷ 5 ∷ 8 ∷ 2 ∷ 0 ∷ 2 ∷ 1 ∷ 1 ∷ 1 ∷ 7 ∷ 0 ∷ 2 ∷ 0 ∷ 5 ∷ 8 ∷ 2 ∷ 0 ∷ 2 ∷ 1 ∷ 1 ∷ 0 ∷ 7 ∷ 0 ∷ 2 ∷ 0 ∷
-    2 ∷ 1 ∷ 0 ∷ 24 ∷ 22 ∷ 26 ∷ 8 ∷ 6 ∷ 0 ∷ 2 ∷ 0 ∷ 1 ∷ 0 ∷ 21 ∷ 0 ∷ 2 ∷ 0 ∷ 21 ∷ 1 ∷ 2 ∷ 0 ∷ 0 ∷ 28 ∷ 0 ∷ 0 ∷ 0 ∷ 0 ∷ 0 ∷ 29 ∷ 0 ∷ 2 ∷ 0 ∷ []
+    1 ∷ 0 ∷ 28 ∷ 0 ∷ 0 ∷ 0 ∷ 0 ∷ 0 ∷ 24 ∷ 22 ∷ 26 ∷ 8 ∷ 6 ∷ 0 ∷ 2 ∷ 0 ∷ 1 ∷ 0 ∷ 21 ∷ 0 ∷ 2 ∷ 0 ∷ 21 ∷ 1 ∷ 2 ∷ 0 ∷ []
 unfolding rules-words function-words process-words rule-words argument-words data-words number-words
 cabinet-words = refl
 
@@ -73,7 +73,7 @@ memory-buffer = replicate 5 7
 
 pub record Examples-on-bytes : Type 0 where
   -- Block 0 begins with its number and its sums.
-  pub block-header : take 6 cabinet-file ≡ 0 ∷ 0 ∷ 11 ∷ 99 ∷ 1 ∷ 0 ∷ []
+  pub block-header : take 6 cabinet-file ≡ 0 ∷ 0 ∷ 233 ∷ 33 ∷ 1 ∷ 0 ∷ []
   -- C 2, G 77, W 4, start size 41.
   pub figures : admit cabinet-file ≡ answered (record { cells = 2; reach = 77; breadth = 4; size = 41 })
   -- One fault each: no whole block; a content byte changed; a later edition; a wrong count of blocks; a word behind the end; a domain of 65; a label that is not there;

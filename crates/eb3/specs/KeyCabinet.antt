@@ -19,7 +19,7 @@ use Rattle.eb3.specs.Semantics.{Sem-M, system}
 use Rattle.eb3.specs.Machines.{machine, memory-start, memory-run}
 use Rattle.eb3.specs.Sizes.{cond-size, arguments-size, size, reach, breadth, zero-mask, parallel-breadth}
 use Rattle.eb3.specs.Limits.{edition-1}
-use Rattle.eb3.specs.RuleSets.{variable-argument, rule-perform, rule-sequence, rule-choice, rule-star, rule-guard, parallel-over, call, Process, RuleSet, domain-size, label, process, attributes}
+use Rattle.eb3.specs.RuleSets.{variable-argument, rule-perform, rule-sequence, rule-choice, rule-star, rule-guard, parallel-over, Process, RuleSet, domain-size, label, process, attributes}
 use Rattle.eb3.specs.Unfolding.{argument-value, instantiate-cond, right-nest, unfold-term, unfold-below, unfold-main}
 use Rattle.eb3.specs.Measures.{whole, sat, measure-term, table, measure-main}
 use Rattle.eb3.specs.WellFormedness.{domains-defined, allowed, FunctionFits, WellFormed, Running}
@@ -30,15 +30,12 @@ use Rattle.eb3.specs.Examples.{mask-zero, mask-a}
 abbrev out-or : ℕ → Data
 out-or v = If (Equal (Variable 0) (Variable 1)) (Constant v) (Before 0 (Cons (Variable 0) Nil))
 
--- Process 0 is one key's life; main runs it for all keys.
-abbrev one-key : Process
-one-key = record {
-  parameters = 0 ∷ [];
-  term = rule-star (rule-sequence (rule-guard (Equal (Now 0 (Cons (Variable 0) Nil)) (Constant 0)) (rule-perform 0 (variable-argument 0 ∷ []))) (rule-perform 1 (variable-argument 0 ∷ [])));
-}
-
+-- Main, the one process: each key's life, for all keys.
 abbrev all-keys : Process
-all-keys = record { parameters = []; term = parallel-over 0 mask-zero (call 0 (variable-argument 0 ∷ [])) }
+all-keys = record {
+  parameters = [];
+  term = parallel-over 0 mask-zero (rule-star (rule-sequence (rule-guard (Equal (Now 0 (Cons (Variable 0) Nil)) (Constant 0)) (rule-perform 0 (variable-argument 0 ∷ []))) (rule-perform 1 (variable-argument 0 ∷ []))));
+}
 
 abbrev pub cabinet-of : ℕ → RuleSet
 cabinet-of keys = record {
@@ -47,7 +44,7 @@ cabinet-of keys = record {
   domains = keys ∷ [];
   labels = (0 ∷ []) ∷ (0 ∷ []) ∷ [];
   functions = record { parameters = 0 ∷ []; at-start = Constant 0; at-label = out-or 1 ∷ out-or 0 ∷ [] } ∷ [];
-  processes = one-key ∷ all-keys ∷ [];
+  processes = all-keys ∷ [];
 }
 
 abbrev pub cabinet : RuleSet
@@ -148,10 +145,13 @@ cabinet-well-formed = record {
     function-count = omega arith;
     function-forms = at-one (λ f. FunctionFits edition-1 cabinet f) out-fits;
     process-count = (omega arith, omega arith);
-    process-heads = at-two (λ p. (length (process cabinet p .parameters) ≤ 4) × domains-defined cabinet (process cabinet p .parameters)) (omega arith, (omega arith, tt)) (omega arith, tt);
-    process-terms = at-two (λ p. allowed edition-1 cabinet p (process cabinet p .parameters) (process cabinet p .term))
-        ((((omega arith, (0, refl, omega arith, refl)), omega arith), (omega arith, ((omega arith, refl), tt))), (omega arith, ((omega arith, refl), tt)))
-        (omega arith, omega arith, (refl, (omega arith, (omega arith, (omega arith, (omega arith, tt))))), (omega arith, ((omega arith, refl), tt)));
+    process-heads = at-one (λ p. (length (process cabinet p .parameters) ≤ 4) × domains-defined cabinet (process cabinet p .parameters)) (omega arith, tt);
+    process-terms = at-one (λ p. allowed edition-1 cabinet p (process cabinet p .parameters) (process cabinet p .term)) (
+      omega arith,
+      omega arith,
+      (refl, (omega arith, (omega arith, (omega arith, (omega arith, tt))))),
+      ((((omega arith, (0, refl, omega arith, refl)), omega arith), (omega arith, ((omega arith, refl), tt))), (omega arith, ((omega arith, refl), tt))),
+    );
     main-parameters = refl;
   };
   reach-limit = omega arith;
