@@ -1,19 +1,21 @@
 -- A case for each way that these functions return; the premises have the form of what the code tells there, so that `search` finds them.
-use mathlib.Core.Path.{_≡_, refl, sym, ap, _∙_}
+use mathlib.Core.Path.{_≡_, refl, sym, ap, _∙_, subst}
 use mathlib.Core.Bool.{false, cond}
 use mathlib.Core.List.{List, [], _∷_, _++_}
 use Prim.Native.Nat.{ℕ, _+_, _-_, _*_, _/_, _%_, _^_, _≤_, _<_}
 use native.Mathlib.Omega.{arith}
+use native.Mathlib.Nat.{mod-eq-of-lt}
 use lib.Dec.{eqb, lit<}
 use lib.ListN.{length, getD, length-append, List·getD-eq-default}
 use borrow.Author.Tests.{eq-eqb, ne-eqb}
 use Rattle.eb3.specs.Generic.AllLists.{All}
-use Rattle.eb3.specs.Terms.{VisibleAction, visible, Mask, bit}
+use Rattle.eb3.specs.Terms.{VisibleAction, visible, Mask}
 use Rattle.eb3.specs.Spelling.{number-words, arguments-words}
 use Rattle.eb3.specs.Laws.Sizes.{arguments-double}
 use Rattle.eb3.specs.Laws.Spelling.{arguments-length}
 use Rattle.actions.specs.Codes.{arguments-code, action-code, Small, Closed, ActionAt}
-use Rattle.actions.specs.CodesLaws.{label-in, masked-code, label-back, arguments-back, visible-positive}
+use Rattle.actions.specs.CodesLaws.{label-in, label-back, arguments-back, visible-positive}
+use Rattle.actions.specs.Sets.{bit-at, in-set, mask-word, mask-set}
 
 pub word-none : (t : List ℕ) (i : ℕ) → length t ≤ i → _≡_ {A = ℕ} 0 (getD t i 0) × (0 < 65536)
 word-none t i h = (sym (List·getD-eq-default t 0 h), lit< tt)
@@ -148,16 +150,28 @@ module _ (t : List ℕ) (n l : ℕ) (counts : Counts t n) (isl : l ≡ getD t 0 
         let q : getD t 4 0 ≡ getD (a .arguments) 1 0 = words-second (a .label) (a .arguments) rest t (omega arith) (s .spelled) in
         omega (arith, isl, isx, isy, label-at s, number-two (a .arguments) k)
 
--- ── masks ──
+-- ── sets of labels ──
 
-pub masked-none : (Δ : Mask) (code : ℕ) → code ≡ 0 → false ≡ masked-code Δ code
-unfolding masked-code
-masked-none Δ code e = sym (ap (λ b. cond b false (bit Δ (label-in code))) (eq-eqb code 0 e))
+pub word-in-mask : (Δ : Mask) (i w : ℕ) → w ≡ getD Δ i 0 → w < 65536 → (w ≡ mask-word Δ i) × (w < 65536)
+unfolding mask-word
+word-in-mask Δ i w e h = (e ∙ sym (mod-eq-of-lt (subst (λ n. n < 65536) e h)), h)
 
-pub masked-some : (Δ : Mask) (code w i : ℕ) → (code ≡ 0 → ⊥) → i ≡ (code - 1) % 64 / 16 → w ≡ getD Δ i 0
-    → eqb (w / 2 ^ ((code - 1) % 64 % 16) % 2) 1 ≡ masked-code Δ code
-unfolding masked-code label-in bit
-masked-some Δ code w i h e f = rw (ne-eqb code 0 h, f, e)
+pub word-not-there : (Δ : Mask) (i : ℕ) → length Δ ≤ i → _≡_ {A = ℕ} 0 (mask-word Δ i) × (0 < 65536)
+unfolding mask-word
+word-not-there Δ i h = (sym (ap (λ n. n % 65536) (List·getD-eq-default Δ 0 h)), lit< tt)
+
+pub set-made : (Δ : Mask) (a b c d : ℕ) → a ≡ mask-word Δ 3 → b ≡ mask-word Δ 2 → c ≡ mask-word Δ 1 → d ≡ mask-word Δ 0
+    → ((a * 65536 + b) * 65536 + c) * 65536 + d ≡ mask-set Δ
+unfolding mask-set
+set-made Δ a b c d e f g h = rw (e, f, g, h)
+
+pub set-none : (x code : ℕ) → code ≡ 0 → false ≡ in-set x code
+unfolding in-set
+set-none x code e = sym (ap (λ b. cond b false (bit-at x (label-in code))) (eq-eqb code 0 e))
+
+pub set-some : (x code : ℕ) → (code ≡ 0 → ⊥) → eqb (x / 2 ^ ((code - 1) % 64) % 2) 1 ≡ in-set x code
+unfolding in-set label-in
+set-some x code h = rw (ne-eqb code 0 h)
 
 -- ── a number taken apart ──
 
@@ -233,4 +247,4 @@ module _ (code q : ℕ) (number : Number code q) where
 pub found-none : (code i : ℕ) → (i ≡ 0 → ⊥) → (i ≡ 1 → ⊥) → (a : VisibleAction) → Small (visible a) → code ≡ action-code (visible a) → 0 ≡ getD (a .arguments) i 0
 found-none code i z o a h e = sym (List·getD-eq-default (a .arguments) 0 (omega (arith, h .1)))
 
-pub ruleset cases = (word-none, count-none-short, count-none, count-one-short, count-one, count-two, behind-some, behind-none, code-none, code-one, code-two, masked-none, masked-some, label-none, label-some, arguments-none, arguments-some, counted-none, counted-one, counted-two, found-first, found-second, found-none)
+pub ruleset cases = (word-none, count-none-short, count-none, count-one-short, count-one, count-two, behind-some, behind-none, code-none, code-one, code-two, word-in-mask, word-not-there, set-made, set-none, set-some, label-none, label-some, arguments-none, arguments-some, counted-none, counted-one, counted-two, found-first, found-second, found-none)

@@ -3,3 +3,4 @@
 pub mod Codes
 pub mod CodesLaws
 pub mod ActionLaws
+pub mod Sets

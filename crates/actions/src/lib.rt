@@ -6,7 +6,8 @@ ghost use Prim.Native.Nat.{ℕ, _+_, _*_, _-_, _≤_, _<_};
 ghost use lib.ListN.{length, getD};
 ghost use Rattle.eb3.specs.Terms.{VisibleAction, visible};
 ghost use Rattle.actions.specs.Codes.{arguments-code, action-code, Small, ActionAt};
-ghost use Rattle.actions.specs.CodesLaws.{masked-code};
+ghost use Rattle.actions.specs.Sets.{in-set, mask-word, mask-set};
+ghost use lib.Bits.{bitOr};
 
 // The word at a place, or 0 where there is none.
 fn word(t: &[u16], i: usize) -> u32
@@ -22,12 +23,6 @@ fn wide(x: u16) -> u32
     ensures { λ r. ⌜ (r ≡ x) × (r < 65536) ⌝ }
 {
     x as u32
-}
-
-fn place(x: u32) -> usize
-    ensures { λ r. ⌜ r ≡ x ⌝ }
-{
-    x as usize
 }
 
 // How many arguments stand behind a label: none, one or two.
@@ -77,17 +72,47 @@ pub fn code_at(t: &[u16]) -> u32
     1 + label + 64 * (1 + x + 65 * (1 + y))
 }
 
-// Whether a number is that of a visible action whose label's bit is set in the mask: of any number, so that a loop over numbers needs to know
-// nothing of actions.
-pub fn masked(mask: &[u16], code: u32) -> bool
-    ensures { λ r. ⌜ r ≡ masked-code (now (mask .entry)) code ⌝ }
+// ── sets of labels ──
+
+fn wide64(x: u16) -> u64
+    ensures { λ r. ⌜ (r ≡ x) × (r < 65536) ⌝ }
+{
+    x as u64
+}
+
+// A word of a mask, or 0 where there is none.
+fn mask_word(d: &[u16], i: usize) -> u64
+    ensures { λ r. ⌜ (r ≡ mask-word (now (d .entry)) i) × (r < 65536) ⌝ }
+{
+    if i < d.len() {
+        return wide64(d[i]);
+    }
+    0
+}
+
+// The mask in front as a set.
+pub fn mask_set(d: &[u16]) -> u64
+    ensures { λ r. ⌜ r ≡ mask-set (now (d .entry)) ⌝ }
+{
+    ((mask_word(d, 3) * 65536 + mask_word(d, 2)) * 65536 + mask_word(d, 1)) * 65536
+        + mask_word(d, 0)
+}
+
+// Whether a number is that of a visible action whose label is in the set: of any number, so that a loop over numbers needs to know nothing
+// of actions.
+pub fn in_set(x: u64, code: u32) -> bool
+    ensures { λ r. ⌜ r ≡ in-set x code ⌝ }
 {
     if code == 0 {
         return false;
     }
-    let label = (code - 1) % 64;
-    let w = word(mask, place(label / 16));
-    (w >> (label % 16)) % 2 == 1
+    (x >> ((code - 1) % 64)) % 2 == 1
+}
+
+pub fn join(x: u64, y: u64) -> u64
+    ensures { λ r. ⌜ r ≡ bitOr x y ⌝ }
+{
+    x | y
 }
 
 // ── a number taken apart ──
