@@ -3,4 +3,6 @@
 pub mod Paths
 pub mod SeekLaws
 pub mod SmallLaws
+pub mod FilterLaws
+pub mod ShownLaws
 pub mod PathLaws

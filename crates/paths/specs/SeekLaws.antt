@@ -9,10 +9,9 @@ use native.Mathlib.Omega.{arith}
 use lib.Dec.{eqb, eqb·suc-zero}
 use lib.ListN.{length, getElem?, length-map}
 use Rattle.eb3.specs.Generic.Lists.{filter, concat-map}
-use Rattle.eb3.specs.Terms.{Mask}
 use Rattle.eb3.specs.Reading.{pick}
 use Rattle.eb3.specs.Laws.TransitionSystems.{getElem?-unmap}
-use Rattle.paths.specs.Paths.{Sought, at, beyond, one-on, seek, Sides, left-alone, right-alone, together, nowhere, code-in-mask, pair-from, seek-pair}
+use Rattle.paths.specs.Paths.{Sought, at, beyond, one-on, seek, Sides, left-alone, right-alone, together, nowhere, pair-from, seek-pair}
 
 -- ── entries of lists put together ──
 
@@ -102,13 +101,13 @@ module _ {A : Type 0} (c : A → ℕ) (inside : A → Bool) (same : A → A → 
   paired-step false x xs ys r n k v s go h ih e =
       paired-later x xs ys n v (go k) (ih k (subst (λ l. getElem? (map (made x) l ++ r) k ≡ some v) (filter-none ys) e))
 
-  pub pair-seen : (Δ : Mask) (xs ys : List A) → ((i : ℕ) (x : A) → getElem? xs i ≡ some x → code-in-mask Δ (c x) ≡ inside x)
+  pub pair-seen : (q : ℕ → Bool) (xs ys : List A) → ((i : ℕ) (x : A) → getElem? xs i ≡ some x → q (c x) ≡ inside x)
       → ((i j : ℕ) (x y : A) → getElem? xs i ≡ some x → getElem? ys j ≡ some y → eqb (c x) (c y) ≡ same x y)
-      → (n k : ℕ) (v : A) → getElem? (concat-map (row ys) xs) k ≡ some v → Paired xs ys n v (seek-pair Δ n (map c xs) (map c ys) k)
+      → (n k : ℕ) (v : A) → getElem? (concat-map (row ys) xs) k ≡ some v → Paired xs ys n v (seek-pair q n (map c xs) (map c ys) k)
   unfolding seek-pair
-  pair-seen Δ [] ys h s n k v e = absurd (Option·none-ne-some v e)
-  pair-seen Δ (x ∷ xs) ys h s n k v e =
+  pair-seen q [] ys h s n k v e = absurd (Option·none-ne-some v e)
+  pair-seen q (x ∷ xs) ys h s n k v e =
       rw (h zero x refl)
-      (paired-step (inside x) x xs ys (concat-map (row ys) xs) n k v (seek (eqb (c x)) (map c ys) k) (seek-pair Δ (suc n) (map c xs) (map c ys))
+      (paired-step (inside x) x xs ys (concat-map (row ys) xs) n k v (seek (eqb (c x)) (map c ys) k) (seek-pair q (suc n) (map c xs) (map c ys))
       (seek-seen c (eqb (c x)) (same x) ys (λ j y f. s zero j x y refl f) k)
-      (λ j f. pair-seen Δ xs ys (λ i z g. h (suc i) z g) (λ i l z y g f. s (suc i) l z y g f) (suc n) j v f) e)
+      (λ j f. pair-seen q xs ys (λ i z g. h (suc i) z g) (λ i l z y g f. s (suc i) l z y g f) (suc n) j v f) e)

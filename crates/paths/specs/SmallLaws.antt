@@ -1,5 +1,5 @@
--- Small actions, those of rule sets of edition 1: an action's number says whether it is in a mask. Each action that a
--- move of a term performs is one of the term's, so that the actions of a term with small actions are small as long as it runs.
+-- Small actions, those of rule sets of edition 1. Each action that a move of a term performs is one of the term's, so that the actions of a term with small
+-- actions are small as long as it runs.
 -- Document 01, "Moves, in order".
 use mathlib.Core.Path.{_≡_, refl}
 use mathlib.Core.Bool.{Bool, true, false}
@@ -19,7 +19,6 @@ use Rattle.eb3.specs.Sizes.{zero-mask}
 use Rattle.eb3.specs.Derivations.{DataState, Step, S-1, S-1′, S-2, S-3, S-4-left, S-4-right, S-5, S-6, S-7, S-8, S-9-left, S-9-right, S-10}
 use Rattle.eb3.specs.Laws.Semantics.{move-stepped}
 use Rattle.actions.specs.Codes.{arguments-code, action-code, Small}
-use Rattle.paths.specs.Paths.{code-in-mask}
 
 abbrev pub SmallActions : Term → Type 0
 SmallActions Done = Unit
@@ -69,34 +68,3 @@ move-small g E k x e w = step-small (move-stepped g E k x e) w
 
 pub move-action-small : (g : Cond → Bool) (E : Term) (k : ℕ) (x : Move) → getElem? (moves g E) k ≡ some x → SmallActions E → Small (x .action)
 move-action-small g E k x e w = step-action-small (move-stepped g E k x e) w
-
--- ── numbers of small actions ──
-
-pub small-in-mask : (Δ : Mask) (ρ : Action) → Small ρ → code-in-mask Δ (action-code ρ) ≡ in-mask Δ ρ
-unfolding code-in-mask action-code in-mask
-small-in-mask Δ internal h = refl
-small-in-mask Δ (visible a) h =
-    let l : a .label < 64 = h .0 in
-    let s : 1 + a .label + 64 * arguments-code (a .arguments) ≡ suc (a .label + 64 * arguments-code (a .arguments)) = omega arith in
-    let m : (suc (a .label + 64 * arguments-code (a .arguments)) - 1) % 64 ≡ a .label = omega arith in
-    rw (s, eqb·suc-zero (a .label + 64 * arguments-code (a .arguments)), m)
-
--- ── a mask of zeros has no action ──
-
-zero-words : (Δ : Mask) → T (zero-mask Δ) → (i : ℕ) → getD Δ i 0 ≡ 0
-unfolding zero-mask
-zero-words [] t i = refl
-zero-words (w ∷ Δ) t zero = eqb→eq w 0 (T-fst (eqb w 0) (zero-mask Δ) t)
-zero-words (w ∷ Δ) t (suc i) = zero-words Δ (T-snd (eqb w 0) (zero-mask Δ) t) i
-
-pub zero-mask-bit : (Δ : Mask) → T (zero-mask Δ) → (label : ℕ) → bit Δ label ≡ false
-unfolding bit
-zero-mask-bit Δ t label = rw (zero-words Δ t (label / 16)) (rw zero-div refl)
-
-either-false : (b : Bool) {c : Bool} → c ≡ false → pick b false c ≡ false
-either-false true e = refl
-either-false false e = e
-
-pub zero-mask-code : (Δ : Mask) → T (zero-mask Δ) → (c : ℕ) → code-in-mask Δ c ≡ false
-unfolding code-in-mask
-zero-mask-code Δ t c = either-false (eqb c 0) (zero-mask-bit Δ t ((c - 1) % 64))
