@@ -68,6 +68,10 @@ module _ {o : List ℕ} {e : ℕ} {x y : List ℕ} {at : ℕ} (w : Written o e x
             ∙ append-assoc (take e x) o (p ++ drop r x) ∙ ap (λ l. take e x ++ l) (sym (append-assoc o p (drop r x)));
       }
 
+-- a test of what was read is one of what stood there at first
+pub test-kept : (p : ℕ → Bool) (a b : ℕ) {r v : Bool} → r ≡ p a → a ≡ b → r ≡ v → p b ≡ v
+test-kept p a b e f g = ap p (sym f) ∙ sym e ∙ g
+
 -- ── on the way ──
 
 -- Of all that is to be written, todo is still to be.

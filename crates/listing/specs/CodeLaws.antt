@@ -2,7 +2,7 @@
 -- Document 01, "Moves, in order".
 use mathlib.Core.Path.{_≡_, refl, sym, ap, _∙_, subst}
 use mathlib.Core.Bool.{Bool, true, false, not, _&&_, cond}
-use mathlib.Core.List.{List, [], _∷_, _++_, map, append-nil}
+use mathlib.Core.List.{List, [], _∷_, _++_, map}
 use Prim.Native.Nat.{ℕ, zero, suc, _/_, _%_, _^_}
 use native.Mathlib.Nat.{zero-div}
 use lib.Dec.{T, eqb, eqb→eq, eqb-refl}
@@ -19,6 +19,7 @@ use Rattle.actions.specs.Codes.{action-code, Small}
 use Rattle.actions.specs.CodesLaws.{label-in, masked-code, masked-is, same-code}
 use Rattle.listing.specs.Listing.{Fits, code-of, codes}
 use Rattle.listing.specs.Combining.{outside, equal-to, pairs, combined}
+use Rattle.listing.specs.OutsideLaws.{combined-none}
 
 abbrev pub Smalls : List Move → Type 0
 Smalls l = All (λ x. Small (x .action)) l
@@ -188,7 +189,7 @@ module _ (g : Cond → Bool) where
 
 -- ── a mask that is zero: no action is in it ──
 
-zero-word : (Δ : Mask) → T (zero-mask Δ) → (i : ℕ) → getD Δ i 0 ≡ 0
+pub zero-word : (Δ : Mask) → T (zero-mask Δ) → (i : ℕ) → getD Δ i 0 ≡ 0
 unfolding zero-mask
 zero-word [] t i = refl
 zero-word (w ∷ Δ) t zero = eqb→eq w 0 (T-fst (eqb w 0) (zero-mask Δ) t)
@@ -205,19 +206,5 @@ none-masked Δ z n =
     go true c h = refl
     go false c h = h
 
-module _ (p : ℕ → Bool) (h : (n : ℕ) → p n ≡ false) where
-  outside-all : (l : List ℕ) → outside p l ≡ l
-  unfolding outside
-  outside-all [] = refl
-  outside-all (x ∷ l) = ap (λ b. cond b (outside p l) (x ∷ outside p l)) (h x) ∙ ap (λ t. x ∷ t) (outside-all l)
-
-  pairs-none : (l ys : List ℕ) → pairs p l ys ≡ []
-  unfolding pairs
-  pairs-none [] ys = refl
-  pairs-none (x ∷ l) ys = ap (λ b. cond b (equal-to x ys) [] ++ pairs p l ys) (h x) ∙ pairs-none l ys
-
 pub combined-zero : (Δ : Mask) (l ys : List ℕ) → zero-mask Δ ≡ true → combined (masked-code Δ) l ys ≡ l ++ ys
-unfolding combined
-combined-zero Δ l ys z =
-    let n = none-masked Δ z in
-    (λ i. outside-all (masked-code Δ) n l i ++ (outside-all (masked-code Δ) n ys i ++ pairs-none (masked-code Δ) n l ys i)) ∙ ap (λ t. l ++ t) (append-nil ys)
+combined-zero Δ l ys z = combined-none (masked-code Δ) (none-masked Δ z) l ys

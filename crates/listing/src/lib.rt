@@ -7,22 +7,27 @@ ghost use lib.ListN.{length, take, drop, getD};
 ghost use Rattle.eb3.specs.Scopes.{Scope};
 ghost use mathlib.Core.Bool.{_&&_};
 ghost use Rattle.eb3.specs.Terms.{Term, done?};
+ghost use Rattle.eb3.specs.Sizes.{breadth};
+ghost use lib.Dec.{eqb};
 ghost use Rattle.listing.specs.Positions.{TwoAt};
-ghost use Rattle.listing.specs.Arms.{OneListed, TwoListed, MaskedListed};
+ghost use Rattle.listing.specs.Arms.{OneListed, ShownListed, TwoListed, SideListed, MaskedListed};
 ghost use Rattle.listing.specs.Listing.{TermAt, Listed};
-ghost use lib.Seq.{slice};
-ghost use Rattle.actions.specs.CodesLaws.{masked-code};
-ghost use Rattle.listing.specs.Combining.{outside, equal-to, pairs, combined, Wrote, Combined};
-ghost use Rattle.listing.specs.Counting.{operand-count, more-words};
+ghost use Rattle.listing.specs.Rows.{RowAt};
+ghost use Rattle.listing.specs.Counting.{operand-count, more-words, moving-code};
 use actions::behind_action;
 use actions::code_at;
-use actions::masked;
-use arguments::mask_zero;
+use actions::in_set;
+use actions::join;
+use actions::mask_set;
+use combining::FULL;
+use combining::combine;
 use expressions::eval_cond;
 use scan::behind;
 use scan::first;
 use scan::last;
 use scan::wide;
+
+mod combining;
 
 // ── skipping ──
 
@@ -50,14 +55,14 @@ fn words_behind(w: usize) -> usize
     (ONE_MORE >> w) % 2 + 4 * ((FOUR_MORE >> w) % 2)
 }
 
-// The words left behind the term at the front. One loop over codes, which says nothing about values: `due` counts the terms, data and
+// The words left behind n terms in a row. One loop over codes, which says nothing about values: `due` counts the terms, data and
 // conditions that are still to come.
-pub fn skip(s: &[u16]) -> usize
-    requires { ⌜ length (now s) ≤ 65535 ⌝ }
-    ensures { λ r. ⌜ (r ≤ length (now (s .entry))) × ((P : Scope) (E : Term) (rest : List ℕ) → TermAt (now (s .entry)) P E rest → r ≡ length rest) ⌝ }
+pub fn skip_row(s: &[u16], n: usize) -> usize
+    requires { ⌜ (length (now s) ≤ 65535) × (n ≤ 65535) ⌝ }
+    ensures { λ r. ⌜ (r ≤ length (now (s .entry))) × ((P : Scope) (Es : List Term) (rest : List ℕ) → RowAt (now (s .entry)) P Es rest → n ≡ length Es → r ≡ length rest) ⌝ }
 {
     let mut at: usize = 0;
-    let mut due: usize = 1;
+    let mut due = n;
     while 0 < due {
         if s.len() <= at {
             return 0;
@@ -81,112 +86,47 @@ pub fn skip(s: &[u16]) -> usize
     0
 }
 
-// ── combining both sides' moves ──
-
-// An answer that says that there was no room.
-const FULL: usize = 1099511627776;
-
-// Writes from e on those of the numbers between two places that are outside the mask.
-fn put_outside(d: &[u16], from: usize, to: usize, e: usize, acts: &mut [u32]) -> usize
-    requires { ⌜ (from ≤ to) × (to ≤ e) × (e ≤ length (now acts)) × (length (now acts) ≤ 131072) ⌝ }
-    ensures { λ r. ⌜ Wrote (outside (masked-code (now (d .entry))) (slice from to (now (acts .entry)))) e (now (acts .entry)) (now (acts .exit)) r ⌝ }
+// The words left behind the term at the front.
+pub fn skip(s: &[u16]) -> usize
+    requires { ⌜ length (now s) ≤ 65535 ⌝ }
+    ensures { λ r. ⌜ (r ≤ length (now (s .entry))) × ((P : Scope) (E : Term) (rest : List ℕ) → TermAt (now (s .entry)) P E rest → r ≡ length rest) ⌝ }
 {
-    let mut i = from;
-    let mut at = e;
-    while i < to {
-        let a = acts[i];
-        if masked(d, a) {
-            i = i + 1;
-            continue;
-        }
-        if acts.len() <= at {
-            return FULL;
-        }
-        acts[at] = a;
-        at = at + 1;
-        i = i + 1;
-    }
-    at
+    skip_row(s, 1)
 }
 
-// Writes a number from e on, once for each between two places that equals it.
-fn put_equal(a: u32, from: usize, to: usize, e: usize, acts: &mut [u32]) -> usize
-    requires { ⌜ (from ≤ to) × (to ≤ e) × (e ≤ length (now acts)) × (length (now acts) ≤ 131072) ⌝ }
-    ensures { λ r. ⌜ Wrote (equal-to a (slice from to (now (acts .entry)))) e (now (acts .entry)) (now (acts .exit)) r ⌝ }
+// The codes with which a term begins that has a move whatever its operands are: an internal move, an action, a star, a parallel.
+const MOVING: usize = 53477376;
+
+fn moving(w: usize) -> bool
+    requires { ⌜ w ≤ 30 ⌝ }
+    ensures { λ r. ⌜ r ≡ moving-code w ⌝ }
 {
-    let mut i = from;
-    let mut at = e;
-    while i < to {
-        if acts[i] == a {
-            if acts.len() <= at {
-                return FULL;
-            }
-            acts[at] = a;
-            at = at + 1;
-            i = i + 1;
-            continue;
+    (MOVING >> w) % 2 == 1
+}
+
+// Whether the term at the front can never move: no such code stands in it. Where one does the loop ends at the first.
+pub fn idle(s: &[u16]) -> bool
+    requires { ⌜ length (now s) ≤ 65535 ⌝ }
+    ensures { λ r. ⌜ ((P : Scope) (E : Term) (rest : List ℕ) → TermAt (now (s .entry)) P E rest → r ≡ eqb (breadth E) 0) ⌝ }
+{
+    let mut at: usize = 0;
+    let mut due: usize = 1;
+    while 0 < due {
+        if s.len() <= at {
+            return false;
         }
-        i = i + 1;
-    }
-    at
-}
-
-// Writes from e on the pairs of a number before n with an equal one from n to b, of those in the mask.
-fn put_pairs(d: &[u16], n: usize, b: usize, e: usize, acts: &mut [u32]) -> usize
-    requires { ⌜ (n ≤ b) × (b ≤ e) × (e ≤ length (now acts)) × (length (now acts) ≤ 131072) ⌝ }
-    ensures { λ r. ⌜ Wrote (pairs (masked-code (now (d .entry))) (slice 0 n (now (acts .entry))) (slice n b (now (acts .entry)))) e (now (acts .entry)) (now (acts .exit)) r ⌝ }
-{
-    let mut i: usize = 0;
-    let mut at = e;
-    while i < n {
-        let x = acts[i];
-        if masked(d, x) {
-            let r = put_equal(x, n, b, at, acts);
-            if FULL <= r {
-                return FULL;
-            }
-            at = r;
-            i = i + 1;
-            continue;
+        let w = wide(s[at]);
+        if 30 < w {
+            return false;
         }
-        i = i + 1;
+        if moving(w) {
+            return false;
+        }
+        let next = at + 1;
+        at = next + words_behind(w);
+        due = due - 1 + operands_behind(w);
     }
-    at
-}
-
-// Copies what stands from b to e to the front.
-fn shift(b: usize, e: usize, acts: &mut [u32])
-    requires { ⌜ (b ≤ e) × (e ≤ length (now acts)) ⌝ }
-    ensures { λ _. ⌜ (length (now (acts .exit)) ≡ length (now (acts .entry))) × (take (e - b) (now (acts .exit)) ≡ slice b e (now (acts .entry))) ⌝ }
-{
-    let n = e - b;
-    let mut i: usize = 0;
-    while i < n {
-        acts[i] = acts[b + i];
-        i = i + 1;
-    }
-}
-
-// Of the n numbers in front and the k behind them, those of the parallel, in front. They are made behind both lists, which are read to the end.
-fn combine(d: &[u16], n: usize, k: usize, acts: &mut [u32]) -> usize
-    requires { ⌜ (n + k ≤ length (now acts)) × (length (now acts) ≤ 131072) ⌝ }
-    ensures { λ r. ⌜ Combined (combined (masked-code (now (d .entry))) (slice 0 n (now (acts .entry))) (slice n (n + k) (now (acts .entry)))) (n + k) (now (acts .entry)) (now (acts .exit)) r ⌝ }
-{
-    let b = n + k;
-    let p = put_outside(d, 0, n, b, acts);
-    if FULL <= p {
-        return FULL;
-    }
-    let q = put_outside(d, n, b, p, acts);
-    if FULL <= q {
-        return FULL;
-    }
-    let e = put_pairs(d, n, b, q, acts);
-    if FULL <= e {
-        return FULL;
-    }
-    shift(b, e, acts);
-    e - b
+    true
 }
 
 // ── listing ──
@@ -224,34 +164,57 @@ pub fn both_done(t: &[u16]) -> bool
     false
 }
 
+// An action's move, or none where its label is in x.
+fn list_action(t: &[u16], x: u64, acts: &mut [u32]) -> usize
+    requires { ⌜ length (now t) ≤ 65535 ⌝ }
+    ensures { λ r. ⌜ ((M : List ℕ) → ShownListed x (21 ∷ now (t .entry)) M (now (acts .entry)) (now (acts .exit)) r) ⌝ }
+{
+    let a = code_at(t);
+    let n = behind_action(t);
+    if in_set(x, a) {
+        return n;
+    }
+    list_one(a, n, acts)
+}
+
 // The moves of the term at the front: how many there are, 65,536 times, and the words left behind it.
 pub fn list(s: &[u16], m: &[u16], acts: &mut [u32]) -> usize
     requires { ⌜ (length (now s) ≤ 65535) × (length (now acts) ≤ 131072) ⌝ }
     ensures { λ r. ⌜ Listed (now (s .entry)) (now (m .entry)) (now (acts .entry)) (now (acts .exit)) r ⌝ }
 {
+    list_shown(s, m, 0, acts)
+}
+
+// Those whose labels are not in x. The set goes down with the masks above, so that a parallel beside a side that can never move takes nothing away
+// from a list that is made, which would be a copy of it at every such parallel.
+fn list_shown(s: &[u16], m: &[u16], x: u64, acts: &mut [u32]) -> usize
+    requires { ⌜ (length (now s) ≤ 65535) × (length (now acts) ≤ 131072) ⌝ }
+    ensures { λ r. ⌜ ShownListed x (now (s .entry)) (now (m .entry)) (now (acts .entry)) (now (acts .exit)) r ⌝ }
+{
     let w = first(s);
     let t = behind(s);
     match w {
         20 => list_one(0, t.len(), acts),
-        21 => list_one(code_at(t), behind_action(t), acts),
-        22 => list_sequence(t, m, acts),
-        23 => list_two(t, m, acts),
-        24 => list_star(t, m, acts),
-        25 => list_parallel(t, m, acts),
-        26 => list_guard(t, m, acts),
+        21 => list_action(t, x, acts),
+        22 => list_sequence(t, m, x, acts),
+        23 => list_two(t, m, x, acts),
+        24 => list_star(t, m, x, acts),
+        25 => list_parallel(t, m, x, acts),
+        26 => list_guard(t, m, x, acts),
         _ => t.len(),
     }
 }
 
 // The left term's moves, or the right's where the left is done.
-fn list_sequence(t: &[u16], m: &[u16], acts: &mut [u32]) -> usize
+fn list_sequence(t: &[u16], m: &[u16], x: u64, acts: &mut [u32]) -> usize
     requires { ⌜ (length (now t) ≤ 65535) × (length (now acts) ≤ 131072) ⌝ }
-    ensures { λ r. ⌜ Listed (22 ∷ now (t .entry)) (now (m .entry)) (now (acts .entry)) (now (acts .exit)) r ⌝ }
+    ensures { λ r. ⌜ ShownListed x (22 ∷ now (t .entry)) (now (m .entry)) (now (acts .entry)) (now (acts .exit)) r ⌝ }
 {
-    if first(t) == 30 {
-        return list(behind(t), m, acts);
+    let w = first(t);
+    if w == 30 {
+        return list_shown(behind(t), m, x, acts);
     }
-    let l = list(t, m, acts);
+    let l = list_shown(t, m, x, acts);
     if FULL <= l {
         return FULL;
     }
@@ -259,16 +222,16 @@ fn list_sequence(t: &[u16], m: &[u16], acts: &mut [u32]) -> usize
 }
 
 // The moves of two terms, the second's behind the first's.
-fn list_two(t: &[u16], m: &[u16], acts: &mut [u32]) -> usize
+fn list_two(t: &[u16], m: &[u16], x: u64, acts: &mut [u32]) -> usize
     requires { ⌜ (length (now t) ≤ 65535) × (length (now acts) ≤ 131072) ⌝ }
-    ensures { λ r. ⌜ TwoListed (now (t .entry)) (now (m .entry)) (now (acts .entry)) (now (acts .exit)) r ⌝ }
+    ensures { λ r. ⌜ TwoListed x (now (t .entry)) (now (m .entry)) (now (acts .entry)) (now (acts .exit)) r ⌝ }
 {
-    let l = list(t, m, acts);
+    let l = list_shown(t, m, x, acts);
     if FULL <= l {
         return FULL;
     }
     let n = l / 65536;
-    let r = list(last(t, l % 65536), m, &mut acts[n..]);
+    let r = list_shown(last(t, l % 65536), m, x, &mut acts[n..]);
     if FULL <= r {
         return FULL;
     }
@@ -276,53 +239,84 @@ fn list_two(t: &[u16], m: &[u16], acts: &mut [u32]) -> usize
 }
 
 // An internal move, and the term's moves behind it.
-fn list_star(t: &[u16], m: &[u16], acts: &mut [u32]) -> usize
+fn list_star(t: &[u16], m: &[u16], x: u64, acts: &mut [u32]) -> usize
     requires { ⌜ (length (now t) ≤ 65535) × (length (now acts) ≤ 131072) ⌝ }
-    ensures { λ r. ⌜ Listed (24 ∷ now (t .entry)) (now (m .entry)) (now (acts .entry)) (now (acts .exit)) r ⌝ }
+    ensures { λ r. ⌜ ShownListed x (24 ∷ now (t .entry)) (now (m .entry)) (now (acts .entry)) (now (acts .exit)) r ⌝ }
 {
     if acts.len() == 0 {
         return FULL;
     }
     acts[0] = 0;
-    let r = list(t, m, &mut acts[1..]);
+    let r = list_shown(t, m, x, &mut acts[1..]);
     if FULL <= r {
         return FULL;
     }
     r + 65536
 }
 
-// Both sides' moves; with a mask that is zero they are those of a choice, since no action is in it.
-fn list_parallel(d: &[u16], m: &[u16], acts: &mut [u32]) -> usize
+// Both sides' moves; where the mask adds no label to x they are those of a choice, since no action that is shown is in it.
+fn list_parallel(d: &[u16], m: &[u16], x: u64, acts: &mut [u32]) -> usize
     requires { ⌜ (length (now d) ≤ 65535) × (length (now acts) ≤ 131072) ⌝ }
-    ensures { λ r. ⌜ Listed (25 ∷ now (d .entry)) (now (m .entry)) (now (acts .entry)) (now (acts .exit)) r ⌝ }
+    ensures { λ r. ⌜ ShownListed x (25 ∷ now (d .entry)) (now (m .entry)) (now (acts .entry)) (now (acts .exit)) r ⌝ }
 {
     let t = behind_mask(d);
     if both_done(t) {
         let v = behind(behind(t));
         return list_one(0, v.len(), acts);
     }
-    if mask_zero(d) {
-        return list_two(t, m, acts);
+    let y = join(x, mask_set(d));
+    if y == x {
+        return list_two(t, m, x, acts);
     }
-    list_masked(d, m, acts)
+    list_masked(d, m, x, acts)
+}
+
+// Both sides' moves by the mask in front; beside a side that can never move, the other's outside the mask. That the left side is skipped before it
+// is listed costs little: of parallels within one another, beside such a side x gains one of 64 labels, and where both sides can move the breadth doubles.
+fn list_masked(d: &[u16], m: &[u16], x: u64, acts: &mut [u32]) -> usize
+    requires { ⌜ (length (now d) ≤ 65535) × (length (now acts) ≤ 131072) ⌝ }
+    ensures { λ r. ⌜ MaskedListed x (now (d .entry)) (now (m .entry)) (now (acts .entry)) (now (acts .exit)) r ⌝ }
+{
+    let t = behind_mask(d);
+    let u = last(t, skip(t));
+    let y = join(x, mask_set(d));
+    if idle(t) {
+        return list_shown(u, m, y, acts);
+    }
+    if idle(u) {
+        return list_side(t, m, y, skip(u), acts);
+    }
+    list_combined(d, m, x, acts)
+}
+
+// The moves of the term in front, of a whole behind which other words are left.
+fn list_side(t: &[u16], m: &[u16], x: u64, left: usize, acts: &mut [u32]) -> usize
+    requires { ⌜ (length (now t) ≤ 65535) × (length (now acts) ≤ 131072) × (left ≤ 65535) ⌝ }
+    ensures { λ r. ⌜ SideListed x (now (t .entry)) (now (m .entry)) left (now (acts .entry)) (now (acts .exit)) r ⌝ }
+{
+    let l = list_shown(t, m, x, acts);
+    if FULL <= l {
+        return FULL;
+    }
+    l / 65536 * 65536 + left
 }
 
 // Both sides' moves, combined by the mask in front.
-fn list_masked(d: &[u16], m: &[u16], acts: &mut [u32]) -> usize
+fn list_combined(d: &[u16], m: &[u16], x: u64, acts: &mut [u32]) -> usize
     requires { ⌜ (length (now d) ≤ 65535) × (length (now acts) ≤ 131072) ⌝ }
-    ensures { λ r. ⌜ MaskedListed (now (d .entry)) (now (m .entry)) (now (acts .entry)) (now (acts .exit)) r ⌝ }
+    ensures { λ r. ⌜ MaskedListed x (now (d .entry)) (now (m .entry)) (now (acts .entry)) (now (acts .exit)) r ⌝ }
 {
     let t = behind_mask(d);
-    let l = list(t, m, acts);
+    let l = list_shown(t, m, x, acts);
     if FULL <= l {
         return FULL;
     }
     let n = l / 65536;
-    let r = list(last(t, l % 65536), m, &mut acts[n..]);
+    let r = list_shown(last(t, l % 65536), m, x, &mut acts[n..]);
     if FULL <= r {
         return FULL;
     }
-    let c = combine(d, n, r / 65536, acts);
+    let c = combine(mask_set(d), n, r / 65536, acts);
     if FULL <= c {
         return FULL;
     }
@@ -330,14 +324,14 @@ fn list_masked(d: &[u16], m: &[u16], acts: &mut [u32]) -> usize
 }
 
 // The term's moves where the condition holds, else none.
-fn list_guard(t: &[u16], m: &[u16], acts: &mut [u32]) -> usize
+fn list_guard(t: &[u16], m: &[u16], x: u64, acts: &mut [u32]) -> usize
     requires { ⌜ (length (now t) ≤ 65535) × (length (now acts) ≤ 131072) ⌝ }
-    ensures { λ r. ⌜ Listed (26 ∷ now (t .entry)) (now (m .entry)) (now (acts .entry)) (now (acts .exit)) r ⌝ }
+    ensures { λ r. ⌜ ShownListed x (26 ∷ now (t .entry)) (now (m .entry)) (now (acts .entry)) (now (acts .exit)) r ⌝ }
 {
     let c = eval_cond(t, m);
     let u = last(t, c / 65536);
     if c % 65536 == 0 {
         return skip(u);
     }
-    list(u, m, acts)
+    list_shown(u, m, x, acts)
 }

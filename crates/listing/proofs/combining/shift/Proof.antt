@@ -4,10 +4,10 @@ use Prim.Native.Nat.{ℕ, _<_, _≤_, _+_, _-_}
 use lib.ListN.{length, getD, length-set}
 use mathlib.Core.Path.{_≡_}
 use native.Mathlib.Omega.{arith}
-use Rattle.listing.proofs.shift.Statement.{statement}
-use Rattle.listing.proofs.shift.Tie as tie
-use Rattle.listing.proofs.shift.Reads as reads
-use Rattle.listing.proofs.shift.Lts as lts
+use Rattle.listing.proofs.combining.shift.Statement.{statement}
+use Rattle.listing.proofs.combining.shift.Tie as tie
+use Rattle.listing.proofs.combining.shift.Reads as reads
+use Rattle.listing.proofs.combining.shift.Lts as lts
 
 abbrev Inv-loop : tie.InvT-loop
 Inv-loop b e acts₀ n i₀ acts i = (n ≡ e - b) × (i ≤ n) × (length acts ≡ length acts₀) × ((j : ℕ) → j < i → getD acts j 0 ≡ getD acts₀ (b + j) 0) × ((j : ℕ) → i ≤ j → getD acts j 0 ≡ getD acts₀ j 0)

@@ -6,10 +6,10 @@ use Rattle.listing.specs.Combining.{equal-to}
 use Rattle.listing.proofs.Writing.{Writing, writing-start, writing-pass, writing-one, writing-lost, writing-ends, read-kept, equal-one, equal-none, equal-end}
 use native.Mathlib.Omega.{arith}
 use borrow.Author.Needs.{needs}
-use Rattle.listing.proofs.put_equal.Statement.{statement}
-use Rattle.listing.proofs.put_equal.Tie as tie
-use Rattle.listing.proofs.put_equal.Reads as reads
-use Rattle.listing.proofs.put_equal.Lts as lts
+use Rattle.listing.proofs.combining.put_equal.Statement.{statement}
+use Rattle.listing.proofs.combining.put_equal.Tie as tie
+use Rattle.listing.proofs.combining.put_equal.Reads as reads
+use Rattle.listing.proofs.combining.put_equal.Lts as lts
 
 abbrev Inv-loop : tie.InvT-loop
 Inv-loop a from to e acts₀ i₀ at₀ acts i at = (i ≤ to) × (e ≤ at) × (at ≤ length acts₀) × (length acts ≡ length acts₀) × Writing (equal-to a (slice from to acts₀)) e acts₀ acts at (equal-to a (slice i to acts₀))
