@@ -1,7 +1,7 @@
 -- Answers of the search for a path, put together and taken apart.
-use mathlib.Core.Path.{_≡_, refl, sym, ap, _∙_}
+use mathlib.Core.Path.{_≡_, refl, sym, ap, _∙_, subst}
 use mathlib.Core.Bool.{Bool, true, false}
-use mathlib.Core.List.{List, [], _∷_}
+use mathlib.Core.List.{List, [], _∷_, _++_}
 use Prim.Native.Nat.{ℕ, suc, _+_, _-_, _≤_, _<_}
 use native.Mathlib.Nat.{le-refl}
 use native.Mathlib.Numerals.{add-one}
@@ -17,22 +17,22 @@ use Rattle.expressions.specs.Answering.{answer}
 use Rattle.listing.specs.Listing.{TermAt, holding, room}
 use Rattle.paths.specs.Paths.{path}
 use Rattle.paths.specs.PathLaws.{path-length}
-use Rattle.deriving.specs.Derived.{passed, full, move-count, Derived}
+use Rattle.deriving.specs.Derived.{passed, full, shown-count, DerivedShown}
 use Rattle.deriving.specs.Arms.{Sound, Outcome, Decided}
 use Rattle.listing.specs.Operands.{answer-is}
 
 -- ── a decision ──
 
-pub decided-kept : (c r : ℕ) (entry : List ℕ) → r ≤ full → passed ≤ r → Decided c r entry entry r
-decided-kept c r entry b h = record { same-length = refl; bounded = b; kept = λ k. refl; lost = λ l k. absurd (omega arith); wrote = λ l k. absurd (omega arith) }
+pub decided-kept : (o : List ℕ) (r : ℕ) (entry : List ℕ) → r ≤ full → passed ≤ r → Decided o r entry entry r
+decided-kept o r entry b h = record { same-length = refl; bounded = b; kept = λ k. refl; lost = λ l k. absurd (omega arith); wrote = λ l k. absurd (omega arith) }
 
-pub decided-lost : (c r : ℕ) (entry : List ℕ) → r < passed → r ≡ 0 → Decided c r entry entry full
-decided-lost c r entry b h = record { same-length = refl; bounded = le-refl full; kept = λ k. absurd (omega arith); lost = λ l k. h; wrote = λ l k. absurd (omega (arith, k)) }
+pub decided-lost : (c r : ℕ) (entry : List ℕ) → r < passed → r ≡ 0 → Decided (c ∷ []) r entry entry full
+decided-lost c r entry b h = record { same-length = refl; bounded = le-refl full; kept = λ k. absurd (omega arith); lost = λ l k. omega arith; wrote = λ l k. absurd (omega (arith, k)) }
 
 drop-set : (n c : ℕ) (x : List ℕ) → n < length x → drop n (set x n c) ≡ c ∷ drop (n + 1) x
 drop-set n c x h = rw add-one (ap (drop n) (set-split x n c h) ∙ drop-at (take n x) (c ∷ drop (suc n) x) n (length-take-le n x (omega arith)))
 
-pub decided-made : (c r : ℕ) (entry : List ℕ) → r < passed → (r ≡ 0 → ⊥) → r ≤ length entry → Decided c r entry (set entry (r - 1) c) (r - 1)
+pub decided-made : (c r : ℕ) (entry : List ℕ) → r < passed → (r ≡ 0 → ⊥) → r ≤ length entry → Decided (c ∷ []) r entry (set entry (r - 1) c) (r - 1)
 decided-made c r entry b h l = record {
   same-length = length-set entry (r - 1) c;
   bounded = omega arith;
@@ -51,6 +51,30 @@ by-order {A} r n f g = go (ltb r n) refl
     go : (b : Bool) → ltb r n ≡ b → A
     go true e = f (ltb-true r n e)
     go false e = g (ltb-false r n e)
+
+-- the left operand's size, and the decision in front of it
+pub decided-twice : {c n r q p : ℕ} {entry mid exit : List ℕ} → Decided (n ∷ []) r entry mid q → Decided (c ∷ []) q mid exit p → Decided (c ∷ n ∷ []) r entry exit p
+decided-twice {c} {n} {r} {q} {p} {entry} {mid} {exit} f g = record {
+  same-length = g .same-length ∙ f .same-length;
+  bounded = g .bounded;
+  kept = λ k. g .kept (omega (arith, f .kept k)) ∙ f .kept k;
+  lost = λ l k. by-order q passed (λ y. omega (arith, g .lost y k, f .wrote l (omega arith) .0)) (λ y. omega (arith, f .lost l (omega (arith, g .kept y))));
+  wrote = λ l k.
+      by-order q passed
+      (λ y.
+      let a = f .wrote l (omega arith) in
+      let b = g .wrote y k in
+      (omega (arith, a .0, b .0), b .1 ∙ ap (λ x. c ∷ x) (a .1)))
+      (λ y. absurd (omega (arith, g .kept y, f .wrote l (omega (arith, g .kept y)) .0)));
+}
+
+pub sized : {c n m r q : ℕ} {entry exit : List ℕ} → n ≡ m → Decided (c ∷ n ∷ []) r entry exit q → Decided (c ∷ m ∷ []) r entry exit q
+sized {c} {n} {m} {r} {q} {entry} {exit} e h = subst (λ i. Decided (c ∷ i ∷ []) r entry exit q) e h
+
+-- the place of a decision lies in the array
+pub placed-on : {c r q : ℕ} {entry mid : List ℕ} → Decided (c ∷ []) r entry mid q → (r < passed → r ≤ length entry) → q < passed → q ≤ length mid
+placed-on {c} {r} {q} {entry} {mid} f g z =
+    by-order r passed (λ y. omega (arith, f .wrote y (omega arith) .0, g y, f .same-length)) (λ y. absurd (omega (arith, f .kept y)))
 
 pub never-full : {A : Type 0} → full < full → A
 never-full z = absurd (omega (arith, z))
@@ -73,14 +97,14 @@ sound-passed n k l left j r e a b c d = record {
   passed-bounded = λ y z. omega (arith, answer-is left j, answer-is n k);
 }
 
-pub sound-of : {s M : List ℕ} {k : ℕ} {entry exit : List ℕ} {n r : ℕ} → Derived s M k entry exit n r → Sound (length s) k (length entry) r
+pub sound-of : {x : ℕ} {s M : List ℕ} {k : ℕ} {entry exit : List ℕ} {n r : ℕ} → DerivedShown x s M k entry exit n r → Sound (length s) k (length entry) r
 sound-of h = record { bounded = h .bounded; place-bounded = h .place-bounded; passed-bounded = h .passed-bounded }
 
 -- of what is known of every term that may stand there
-pub derived-of : {s M : List ℕ} {k : ℕ} {entry exit : List ℕ} {n r : ℕ} → Sound (length s) k (length entry) r
+pub derived-of : {x : ℕ} {s M : List ℕ} {k : ℕ} {entry exit : List ℕ} {n r : ℕ} → Sound (length s) k (length entry) r
     → ((P : Scope) (E : Term) (rest : List ℕ) → TermAt s P E rest
-    → (size 1 E ≤ length entry → room (holding M) E ≤ n → r < full) × (r < full → Outcome (move-count M E) (path (holding M) E k) (length rest) k exit r))
-    → Derived s M k entry exit n r
+    → (size 1 E ≤ length entry → room (holding M) E ≤ n → r < full) × (r < full → Outcome (shown-count x M E) (path x (holding M) E k) (length rest) k exit r))
+    → DerivedShown x s M k entry exit n r
 derived-of h f = record {
   bounded = h .bounded;
   place-bounded = h .place-bounded;
@@ -90,8 +114,8 @@ derived-of h f = record {
   none-found = λ P E rest t z. f P E rest t .1 z .none-found;
 }
 
-pub outcome-of : {s M : List ℕ} {k : ℕ} {entry exit : List ℕ} {n r : ℕ} → Derived s M k entry exit n r → (P : Scope) (E : Term) (rest : List ℕ) → TermAt s P E rest → r < full
-    → Outcome (move-count M E) (path (holding M) E k) (length rest) k exit r
+pub outcome-of : {x : ℕ} {s M : List ℕ} {k : ℕ} {entry exit : List ℕ} {n r : ℕ} → DerivedShown x s M k entry exit n r → (P : Scope) (E : Term) (rest : List ℕ) → TermAt s P E rest → r < full
+    → Outcome (shown-count x M E) (path x (holding M) E k) (length rest) k exit r
 outcome-of h P E rest t z = record { found = h .found P E rest t z; none-found = h .none-found P E rest t z }
 
 -- ── outcomes ──
@@ -137,7 +161,7 @@ sound-single n k left r l f g a b c d = by-order k 1
 
 -- ── a decision in front ──
 
-module _ {c r q : ℕ} {mid exit : List ℕ} (h : Decided c r mid exit q) where
+module _ {o : List ℕ} {r q : ℕ} {mid exit : List ℕ} (h : Decided o r mid exit q) where
   pub decided-sound : {n k : ℕ} (l : ℕ) → Sound n k l r → Sound n k l q
   decided-sound l s = record {
     bounded = h .bounded;
@@ -148,23 +172,23 @@ module _ {c r q : ℕ} {mid exit : List ℕ} (h : Decided c r mid exit q) where
   pub before-full : q < full → r < full
   before-full z = by-order r passed (λ y. omega arith) (λ y. omega (arith, h .kept y))
 
-  pub decided-room : r < full → (r < passed → 1 ≤ r) → q < full
+  pub decided-room : r < full → (r < passed → length o ≤ r) → q < full
   decided-room z f = by-order q full (λ y. y) (λ y. by-order r passed (λ w. absurd (omega (arith, h .lost w y, f w))) (λ w. omega (arith, h .kept w)))
 
-  pub decided-outcome : {count left k : ℕ} {p : List ℕ} → q < full → Outcome count p left k mid r → Outcome count (c ∷ p) left k exit q
-  decided-outcome z o = record {
+  pub decided-outcome : {count left k : ℕ} {p : List ℕ} → q < full → Outcome count p left k mid r → Outcome count (o ++ p) left k exit q
+  decided-outcome z e = record {
     found = λ l.
-        let w = h .wrote (o .found l .0) z in
-        (omega (arith, w .0, o .found l .0), w .1 ∙ ap (λ x. c ∷ x) (o .found l .1));
-    none-found = λ l. h .kept (omega (arith, o .none-found l)) ∙ o .none-found l;
+        let w = h .wrote (e .found l .0) z in
+        (omega (arith, w .0, e .found l .0), w .1 ∙ ap (λ x. o ++ x) (e .found l .1));
+    none-found = λ l. h .kept (omega (arith, e .none-found l)) ∙ e .none-found l;
   }
 
--- A path that is shorter than the array leaves room for a decision.
-pub place-room : (r : ℕ) (x p : List ℕ) → r ≤ length x → drop r x ≡ p → length p < length x → 1 ≤ r
-place-room r x p a e l = omega (arith, ap length e, length-drop r x)
+-- A path that is w words shorter than the array leaves room for so many.
+pub place-room : (w r : ℕ) (x p : List ℕ) → r ≤ length x → drop r x ≡ p → w + length p ≤ length x → w ≤ r
+place-room w r x p a e l = omega (arith, ap length e, length-drop r x)
 
--- there is room in front of the path of a term that is shorter than the array
-pub derived-room : {s M : List ℕ} {k : ℕ} {entry exit : List ℕ} {n r : ℕ} → Derived s M k entry exit n r → length exit ≡ length entry → (P : Scope) (E : Term) (rest : List ℕ) → TermAt s P E rest
-    → 1 + size 1 E ≤ length entry → r < passed → 1 ≤ r
-derived-room {s} {M} {k} {entry} {exit} {n} {r} h e P E rest t l z =
-    place-room r exit (path (holding M) E k) (omega (arith, h .place-bounded z)) (outcome-place (outcome-of h P E rest t (omega arith)) z .1) (omega (arith, path-length (holding M) E k))
+-- there is room in front of the path of a term that is so much shorter than the array
+pub derived-room : {x : ℕ} {s M : List ℕ} {k : ℕ} {entry exit : List ℕ} {n r : ℕ} → DerivedShown x s M k entry exit n r → length exit ≡ length entry → (P : Scope) (E : Term) (rest : List ℕ) → TermAt s P E rest
+    → (w : ℕ) → w + size 1 E ≤ length entry → r < passed → w ≤ r
+derived-room {x} {s} {M} {k} {entry} {exit} {n} {r} h e P E rest t w l z =
+    place-room w r exit (path x (holding M) E k) (omega (arith, h .place-bounded z)) (outcome-place (outcome-of h P E rest t (omega arith)) z .1) (omega (arith, path-length x (holding M) E k))

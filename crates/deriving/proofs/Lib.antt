@@ -1,3 +1,4 @@
+mod Lists
 mod Searches
 mod Places
 mod Locating
@@ -5,5 +6,6 @@ mod Answers
 mod Counts
 mod Arms
 mod Sides
-mod Masked
+mod Listed
+mod Idle
 mod Parallels

@@ -9,9 +9,8 @@ use lib.ListN.{length, length-append}
 use borrow.Author.Tests.{eqb-true, eqb-false, lt-ltb, le-ltb}
 use Rattle.eb3.specs.Generic.Lists.{filter}
 use Rattle.eb3.specs.Reading.{pick}
-use Rattle.eb3.specs.Terms.{Mask}
 use Rattle.listing.specs.Combining.{equal-to, pairs}
-use Rattle.paths.specs.Paths.{Sought, at, beyond, one-on, seek, Sides, together, code-in-mask, pair-from, seek-pair}
+use Rattle.paths.specs.Paths.{Sought, at, beyond, one-on, seek, Sides, together, pair-from, seek-pair}
 use Rattle.deriving.specs.Derived.{passed}
 use Rattle.deriving.specs.Searching.{nth-place, pair-or, nth-pair}
 
@@ -89,7 +88,7 @@ pair-later {i} {m} {n} {count} {k} {r} {s} f j h (pair-here a b e l o g z) =
     pair-here (suc a) b (e ∙ ap (λ x. x * 131072 + b) q) (omega arith) o (g ∙ ap (λ x. together x b) q) (omega arith)
 pair-later f j h (pair-past b e g) = pair-past b e (omega arith)
 
-module _ (p : ℕ → Bool) (Δ : Mask) (same : (c : ℕ) → p c ≡ code-in-mask Δ c) (ys : List ℕ) (few : length ys ≤ 131072) where
+module _ (p : ℕ → Bool) (ys : List ℕ) (few : length ys ≤ 131072) where
   pair-row : {i m count k r : ℕ} {s : Sought} (f : ℕ) (go : ℕ → ℕ) (go′ : ℕ → Sides) → Placed 0 (length ys) f k r s
       → ((j : ℕ) → PairPlaced (i + 1) m (length ys) count j (go j) (go′ j)) → PairPlaced i (suc m) (length ys) (f + count) k (pair-or i r go) (pair-from i s go′)
   pair-row {i} {m} {count} {k} {r} {s} f go go′ (here j e l g z) ih =
@@ -116,9 +115,9 @@ module _ (p : ℕ → Bool) (Δ : Mask) (same : (c : ℕ) → p c ≡ code-in-ma
       let q : 0 + count ≡ length o = omega arith in
       subst (λ n. PairPlaced i (suc m) (length ys) n k (go k) (go′ k)) q (pair-later 0 k (omega arith) (ih k))
 
-  pub pair-placed : (i : ℕ) (xs : List ℕ) (k : ℕ) → PairPlaced i (length xs) (length ys) (length (pairs p xs ys)) k (nth-pair p i xs ys k) (seek-pair Δ i xs ys k)
+  pub pair-placed : (i : ℕ) (xs : List ℕ) (k : ℕ) → PairPlaced i (length xs) (length ys) (length (pairs p xs ys)) k (nth-pair p i xs ys k) (seek-pair p i xs ys k)
   unfolding nth-pair seek-pair pairs
   pair-placed i [] k = pair-past k refl (omega arith)
   pair-placed i (x ∷ xs) k =
       let s : suc i ≡ i + 1 = omega arith in
-      rw (← same x, s) (pair-step (p x) x (nth-pair p (i + 1) xs ys) (seek-pair Δ (i + 1) xs ys) (pairs p xs ys) refl (λ j. pair-placed (i + 1) xs j))
+      rw s (pair-step (p x) x (nth-pair p (i + 1) xs ys) (seek-pair p (i + 1) xs ys) (pairs p xs ys) refl (λ j. pair-placed (i + 1) xs j))

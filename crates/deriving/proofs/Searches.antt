@@ -1,6 +1,6 @@
 -- Searching numbers step by step, as the loops do it.
-use mathlib.Core.Path.{_≡_, sym, ap, _∙_}
-use mathlib.Core.Bool.{Bool, true, false, cond}
+use mathlib.Core.Path.{_≡_, refl, sym, ap, _∙_}
+use mathlib.Core.Bool.{Bool, true, false, not, _&&_, cond}
 use mathlib.Core.List.{List, [], _∷_}
 use Prim.Native.Nat.{ℕ, _+_, _-_, _*_, _≤_, _<_}
 use native.Mathlib.Numerals.{add-one}
@@ -9,6 +9,8 @@ use lib.Dec.{eqb}
 use lib.ListN.{length, getD}
 use lib.Seq.{slice, slice-cons, slice-empty}
 use borrow.Author.Tests.{eq-eqb, ne-eqb, lt-ltb, le-ltb}
+use Rattle.actions.specs.Sets.{in-set}
+use Rattle.paths.specs.Paths.{paired}
 use Rattle.deriving.specs.Derived.{passed}
 use Rattle.deriving.specs.Searching.{nth-place, pair-or, nth-pair}
 
@@ -70,3 +72,20 @@ module _ (i to : ℕ) (x : List ℕ) (h : i < to) (l : to ≤ length x) where
 -- the place counts on from where it began
 pub next-place : (from i : ℕ) → from ≤ i → i - from + 1 ≡ i + 1 - from
 next-place from i h = omega arith
+
+-- ── the test for pairs ──
+
+module _ (x δ c : ℕ) {a : Bool} (e : a ≡ in-set x c) where
+  both-test : a ≡ true → (b : Bool) → (b && not (in-set x c)) ≡ false
+  both-test h true = ap not (sym e ∙ h)
+  both-test h false = refl
+
+  pub not-together : a ≡ true → false ≡ paired x δ c
+  not-together h = sym (both-test h (in-set δ c))
+
+  kept-test : (b : Bool) → (b && true) ≡ b
+  kept-test true = refl
+  kept-test false = refl
+
+  pub together-in : a ≡ false → {b : Bool} → b ≡ in-set δ c → b ≡ paired x δ c
+  together-in h f = f ∙ sym (ap (λ t. in-set δ c && not t) (sym e ∙ h) ∙ kept-test (in-set δ c))

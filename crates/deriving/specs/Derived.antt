@@ -11,7 +11,7 @@ use Rattle.eb3.specs.Moves.{moves}
 use Rattle.eb3.specs.Sizes.{size}
 use Rattle.expressions.specs.Answering.{answer}
 use Rattle.listing.specs.Listing.{TermAt, holding, room}
-use Rattle.paths.specs.Paths.{path}
+use Rattle.paths.specs.Paths.{shown, path}
 
 abbrev pub passed : ℕ
 passed = 1099511627776
@@ -28,5 +28,18 @@ pub record Derived (s M : List ℕ) (k : ℕ) (entry exit : List ℕ) (n r : ℕ
   pub place-bounded : r < passed → r ≤ length entry
   pub passed-bounded : passed ≤ r → r < full → r ≤ passed + answer (length s) k
   pub has-room : (P : Scope) (E : Term) (rest : List ℕ) → TermAt s P E rest → size 1 E ≤ length entry → room (holding M) E ≤ n → r < full
-  pub found : (P : Scope) (E : Term) (rest : List ℕ) → TermAt s P E rest → r < full → k < move-count M E → (r < passed) × (drop r exit ≡ path (holding M) E k)
+  pub found : (P : Scope) (E : Term) (rest : List ℕ) → TermAt s P E rest → r < full → k < move-count M E → (r < passed) × (drop r exit ≡ path 0 (holding M) E k)
   pub none-found : (P : Scope) (E : Term) (rest : List ℕ) → TermAt s P E rest → r < full → move-count M E ≤ k → r ≡ passed + answer (length rest) (k - move-count M E)
+
+-- ── below masks that hide the labels of x, of the moves that show ──
+
+abbrev pub shown-count : ℕ → List ℕ → Term → ℕ
+shown-count x M E = length (shown x (holding M) E)
+
+pub record DerivedShown (x : ℕ) (s M : List ℕ) (k : ℕ) (entry exit : List ℕ) (n r : ℕ) : Type 0 where
+  pub bounded : r ≤ full
+  pub place-bounded : r < passed → r ≤ length entry
+  pub passed-bounded : passed ≤ r → r < full → r ≤ passed + answer (length s) k
+  pub has-room : (P : Scope) (E : Term) (rest : List ℕ) → TermAt s P E rest → size 1 E ≤ length entry → room (holding M) E ≤ n → r < full
+  pub found : (P : Scope) (E : Term) (rest : List ℕ) → TermAt s P E rest → r < full → k < shown-count x M E → (r < passed) × (drop r exit ≡ path x (holding M) E k)
+  pub none-found : (P : Scope) (E : Term) (rest : List ℕ) → TermAt s P E rest → r < full → shown-count x M E ≤ k → r ≡ passed + answer (length rest) (k - shown-count x M E)

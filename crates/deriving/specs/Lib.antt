@@ -3,3 +3,4 @@
 pub mod Derived
 pub mod Searching
 pub mod Arms
+pub mod FitLaws

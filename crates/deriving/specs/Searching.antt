@@ -2,13 +2,14 @@
 -- a place, from `passed` on it says how much of k is left.
 use mathlib.Core.Path.{_≡_}
 use mathlib.Core.Bool.{Bool, cond}
-use mathlib.Core.List.{List, [], _∷_}
+use mathlib.Core.List.{List, [], _∷_, _++_}
 use Prim.Native.Nat.{ℕ, _+_, _-_, _*_, _/_, _%_, _≤_, _<_}
+use lib.Bits.{bitOr}
 use lib.Dec.{eqb, ltb}
 use lib.ListN.{length}
-use Rattle.actions.specs.CodesLaws.{masked-code}
-use Rattle.listing.specs.Combining.{combined}
-use Rattle.paths.specs.Paths.{Sides, left-alone, right-alone, together, nowhere, locate}
+use Rattle.actions.specs.Sets.{in-set}
+use Rattle.listing.specs.Combining.{outside, pairs}
+use Rattle.paths.specs.Paths.{Sides, left-alone, right-alone, together, nowhere, alone, paired, locate}
 use Rattle.deriving.specs.Derived.{passed}
 
 -- The k-th that passes a test; i is the place of the first.
@@ -26,7 +27,7 @@ nth-pair p i (x ∷ xs) ys k = cond (p x) (pair-or i (nth-place (eqb x) 0 ys k) 
 
 -- Sides in one number: a place on the left, a place on the right from 131,072 on, a pair of places from 262,144 on.
 unfoldable pub sides-of : ℕ → Sides
-sides-of x = cond (ltb x 131072) (left-alone x) (cond (ltb x 262144) (right-alone (x - 131072)) (together ((x - 262144) / 131072) ((x - 262144) % 131072)))
+sides-of z = cond (ltb z 131072) (left-alone z) (cond (ltb z 262144) (right-alone (z - 131072)) (together ((z - 262144) / 131072) ((z - 262144) % 131072)))
 
 -- The first number that tells no pair of places in arrays of 131,072.
 abbrev pub sides-end : ℕ
@@ -39,9 +40,13 @@ Within m n (right-alone j) = j < n
 Within m n (together i j) = (i < m) × (j < n)
 Within m n nowhere = ⊥
 
--- x tells the sides of move k, or how much of k is left once the moves are passed. The mask stands in front of d.
-pub record LocatedBy (d xs ys : List ℕ) (k x : ℕ) : Type 0 where
-  pub bounded : x ≤ passed + k
-  pub low : x < passed → x < sides-end
-  pub found : x < passed → (k < length (combined (masked-code d) xs ys)) × Within (length xs) (length ys) (sides-of x) × (locate d xs ys k ≡ sides-of x)
-  pub none-found : passed ≤ x → (length (combined (masked-code d) xs ys) ≤ k) × (x ≡ passed + (k - length (combined (masked-code d) xs ys)))
+-- The numbers of a parallel's moves that show below masks with the labels of x, made of both sides' numbers; δ is the mask's set.
+unfoldable pub shown-combined : ℕ → ℕ → List ℕ → List ℕ → List ℕ
+shown-combined x δ xs ys = outside (in-set (bitOr x δ)) xs ++ (outside (in-set (bitOr x δ)) ys ++ pairs (paired x δ) xs ys)
+
+-- z tells the sides of move k, or how much of k is left once the moves that show are passed.
+pub record LocatedBy (x δ : ℕ) (xs ys : List ℕ) (k z : ℕ) : Type 0 where
+  pub bounded : z ≤ passed + k
+  pub low : z < passed → z < sides-end
+  pub found : z < passed → (k < length (shown-combined x δ xs ys)) × Within (length xs) (length ys) (sides-of z) × (locate (alone x δ) (paired x δ) xs ys k ≡ sides-of z)
+  pub none-found : passed ≤ z → (length (shown-combined x δ xs ys) ≤ k) × (z ≡ passed + (k - length (shown-combined x δ xs ys)))

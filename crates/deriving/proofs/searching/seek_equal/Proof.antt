@@ -9,8 +9,8 @@ use lib.ListN.{getD}
 use lib.Seq.{slice}
 use lib.Dec.{eqb}
 use Rattle.deriving.specs.Searching.{nth-place}
-use Rattle.deriving.proofs.seek_equal.Statement.{statement}
-use Rattle.deriving.proofs.seek_equal.Tie as tie
+use Rattle.deriving.proofs.searching.seek_equal.Statement.{statement}
+use Rattle.deriving.proofs.searching.seek_equal.Tie as tie
 
 abbrev Inv-loop : tie.InvT-loop
 Inv-loop a from to k acts i₀ due₀ i due = (from ≤ i) × (i ≤ to) × (due ≤ k) × (nth-place (eqb a) 0 (slice from to acts) k ≡ nth-place (eqb a) (i - from) (slice i to acts) due)
