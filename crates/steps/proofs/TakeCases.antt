@@ -16,15 +16,16 @@ use Rattle.eb3.specs.Spelling.{words}
 use Rattle.eb3.specs.Bytes.{written}
 use Rattle.eb3.specs.Laws.Sizes.{moves-below-breadth}
 use Rattle.actions.specs.Codes.{action-code}
+use Rattle.listing.specs.FitLaws.{fits-length}
 use Rattle.listing.specs.Listing.{holding}
 use Rattle.listing.specs.RoomLaws.{room-below-breadth}
-use Rattle.paths.specs.Paths.{path, Followed, follow, followed}
+use Rattle.paths.specs.Paths.{path, Followed, follow, followed, marked}
 use Rattle.paths.specs.PathLaws.{follow-path}
 use Rattle.deriving.specs.Derived.{passed, full, move-count, Derived}
 use Rattle.successors.specs.declared.Built.{Built}
 use Rattle.successors.specs.Building.{built-words, Building, BuiltRight}
 use Rattle.steps.specs.Counting.{Whole}
-use Rattle.steps.specs.FitLaws.{small-actions, fits-length}
+use Rattle.steps.specs.FitLaws.{small-actions}
 use Rattle.steps.specs.Taking.{PathSought, PathFound, taken-as, built-over, SuccessorFits, Took}
 use Rattle.steps.specs.declared.moving.Taken.the-variants.{Made, NotOffered}
 
@@ -93,7 +94,7 @@ module _ (p : List ℕ) (E : Term) (x : Move) (leads : follow E p ≡ followed (
   same-words : built-words E p ≡ words 1 (x .successor)
   same-words = ap (λ (y : Followed). words 1 (y .successor)) leads
 
-  built-taken : {B B′ : List ℕ} {b : Built} → BuiltRight E p [] B B′ b → Took (some x) B B′ (Made (b .action) (b .words))
+  built-taken : {B B′ : List ℕ} {b : Built} → BuiltRight E p B B′ b → Took (some x) B B′ (Made (b .action) (b .words))
   unfolding taken-as built-over
   built-taken {B} {B′} {b} q = record {
     answer = ap (λ n. Made n (b .words)) (q .action ∙ ap (λ (y : Followed). action-code (y .action)) leads) ∙ ap (Made (action-code (x .action))) (q .size ∙ ap length same-words);
@@ -106,15 +107,17 @@ module _ (p : List ℕ) (E : Term) (x : Move) (leads : follow E p ≡ followed (
 -- A path that was found, and the successor built along it.
 module _ {s M : List ℕ} {k : ℕ} {entry exit : List ℕ} {r : ℕ} (f : PathFound s M k entry exit r) (h : r < passed) {p B B′ : List ℕ} {b : Built} (part : p ≡ drop r exit) (q : Building s p B B′ b) where
   leads-to : (P : Scope) (E : Term) → Whole s P E → size 1 E ≤ length entry → (x : Move) → getElem? (moves (holding M) E) k ≡ some x → k < move-count M E
-      → follow E p ≡ followed (x .action) (x .successor) []
+      → (follow E p ≡ followed (x .action) (x .successor) []) × (marked E p ≡ true)
   leads-to P E w b x e l =
-      ap (follow E) (part ∙ f .found P E w b l .1 ∙ sym (append-nil (path (holding M) E k))) ∙ follow-path (holding M) E (small-actions P E (w .there .fits)) k x e []
+      let q : p ≡ path 0 (holding M) E k ++ [] = part ∙ f .found P E w b l .1 ∙ sym (append-nil (path 0 (holding M) E k)) in
+      let h = follow-path (holding M) E (small-actions P E (w .there .fits)) k x e [] in
+      (ap (follow E) q ∙ h .0, ap (marked E) q ∙ h .1)
 
   taken-at : (P : Scope) (E : Term) → Whole s P E → size 1 E ≤ length entry → (o : Option Move) → getElem? (moves (holding M) E) k ≡ o → SuccessorFits o B → Took o B B′ (Made (b .action) (b .words))
   taken-at P E w g none e room = let z : ⊥ = omega (arith, f .none-found P E w g (none-beyond (moves (holding M) E) k e)) in absurd z
   taken-at P E w g (some x) e room =
       let leads = leads-to P E w g x e (some-within (moves (holding M) E) k x e) in
-      built-taken p E x leads (q .right P E [] (w .there) (q .has-room P E [] (w .there) (fitting p E x leads B room)))
+      built-taken p E x (leads .0) (q .right P E (w .there) (leads .1) (q .has-room P E (w .there) (leads .1) (fitting p E x (leads .0) B room)))
 
   pub there-taken : (P : Scope) (E : Term) → Whole s P E → size 1 E ≤ length entry → SuccessorFits (getElem? (moves (holding M) E) k) B
       → Took (getElem? (moves (holding M) E) k) B B′ (Made (b .action) (b .words))

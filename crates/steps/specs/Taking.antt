@@ -26,14 +26,14 @@ pub record PathSought (s M : List ℕ) (k : ℕ) (entry exit : List ℕ) (n r : 
   pub same-length : length exit ≡ length entry
   pub place-bounded : r < passed → r ≤ length entry
   pub has-room : (P : Scope) (E : Term) (rest : List ℕ) → TermAt s P E rest → size 1 E ≤ length entry → room (holding M) E ≤ n → r < full
-  pub found : (P : Scope) (E : Term) (rest : List ℕ) → TermAt s P E rest → r < full → k < move-count M E → (r < passed) × (drop r exit ≡ path (holding M) E k)
+  pub found : (P : Scope) (E : Term) (rest : List ℕ) → TermAt s P E rest → r < full → k < move-count M E → (r < passed) × (drop r exit ≡ path 0 (holding M) E k)
   pub none-found : (P : Scope) (E : Term) (rest : List ℕ) → TermAt s P E rest → r < full → move-count M E ≤ k → passed ≤ r
 
 -- Sought in as much room as it takes: there is always an answer.
 pub record PathFound (s M : List ℕ) (k : ℕ) (entry exit : List ℕ) (r : ℕ) : Type 0 where
   pub same-length : length exit ≡ length entry
   pub place-bounded : r < passed → r ≤ length entry
-  pub found : (P : Scope) (E : Term) → Whole s P E → size 1 E ≤ length entry → k < move-count M E → (r < passed) × (drop r exit ≡ path (holding M) E k)
+  pub found : (P : Scope) (E : Term) → Whole s P E → size 1 E ≤ length entry → k < move-count M E → (r < passed) × (drop r exit ≡ path 0 (holding M) E k)
   pub none-found : (P : Scope) (E : Term) → Whole s P E → size 1 E ≤ length entry → move-count M E ≤ k → passed ≤ r
 
 -- ── the move ──

@@ -1,9 +1,10 @@
 -- The laws that the proofs of the building share.
+mod Ends
 mod Terms
 mod Follows
 mod Writes
 mod Passes
 mod Made
+mod Begun
 mod Cases
-mod Heads
-mod Rounds
+mod Parallels

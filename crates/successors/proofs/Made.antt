@@ -1,132 +1,177 @@
--- What a part answers, carried over to the whole: bounds, the lack of room, and the term known by its first word.
+-- Words written whole, and what began with them closed: a case for each way that the writing of words returns.
 use mathlib.Core.Path.{_≡_, refl, sym, ap, _∙_, subst}
 use mathlib.Core.Bool.{Bool, true, false}
-use mathlib.Core.List.{List, [], _∷_, _++_}
-use Prim.Native.Nat.{ℕ, _+_, _*_, _≤_}
+use mathlib.Core.List.{List, _++_, append-assoc}
+use Prim.Native.Nat.{ℕ, _+_, _-_, _*_, _≤_, _<_}
 use native.Mathlib.Omega.{arith}
-use lib.ListN.{length, take, drop, getD, length-append, length-drop}
-use lib.Seq.{length-take-le}
-use Rattle.eb3.specs.Expressions.{Cond}
+use lib.ListN.{length, take, drop, length-append, length-drop}
 use Rattle.eb3.specs.Scopes.{Scope}
-use Rattle.eb3.specs.Terms.{Term, Done, Internal, Perform, Sequence, Choice, Star, Parallel, Guard, VisibleAction, Mask, internal}
-use Rattle.eb3.specs.Spelling.{words}
-use Rattle.actions.specs.Codes.{action-code}
-use Rattle.listing.specs.Listing.{TermAt}
-use Rattle.listing.specs.Positions.{code-in-front, term-front}
-use Rattle.listing.specs.ByCode.{by-perform as of-perform, by-sequence as of-sequence, by-choice as of-choice, by-star as of-star, by-parallel as of-parallel, by-guard as of-guard}
-use Rattle.paths.specs.Paths.{followed, follow}
-use Rattle.successors.specs.Building.{Building}
-use Rattle.successors.specs.Sides.{Bounded, Made, Unbuilt, Ended, MadeOf, Siding}
+use Rattle.eb3.specs.Bytes.{written}
+use Rattle.scan.specs.Checking.{last-of}
+use Rattle.scan.specs.Laws.{part}
+use Rattle.writing.specs.Wrote.{Wrote}
+use Rattle.successors.specs.Parts.{Bounded, Unbuilt, Made, Whole, Added, Begun, with-right, Closed}
 use Rattle.successors.specs.declared.Built.{Built}
-use Rattle.successors.proofs.Writes.{never}
+use Rattle.successors.proofs.Ends.{last-split, between-length, same-before}
+use Rattle.successors.proofs.Writes.{never, had-room, room-there, written-behind, lent, back, back-rest, back-length}
 
-pub bounded-within : {n m n′ m′ : ℕ} {x y : List ℕ} {r : Built} → Bounded n m x y r → n ≤ n′ → m ≤ m′ → Bounded n′ m′ x y r
-bounded-within b h k = record {
-  same-length = b .same-length;
+pub bounded-within : {n m n′ m′ : ℕ} {x y z : List ℕ} {r : Built} → Bounded n m y z r → length y ≡ length x → n ≤ n′ → m ≤ m′ → Bounded n′ m′ x z r
+bounded-within b e h k = record {
+  same-length = b .same-length ∙ e;
   left-bounded = omega (arith, b .left-bounded);
+  due-bounded = omega (arith, b .due-bounded);
   path-bounded = omega (arith, b .path-bounded);
-  size-bounded = b .size-bounded;
+  size-bounded = omega (arith, b .size-bounded);
 }
+
+-- With the right operand one more term is due.
+pub right-bounded : {n m m′ : ℕ} {x y : List ℕ} {X : Built} → Bounded n m x y X → X .due + 1 ≤ n → m ≤ m′ → Bounded n m′ x y (with-right X)
+right-bounded b h k = record { same-length = b .same-length; left-bounded = b .left-bounded; due-bounded = h; path-bounded = omega (arith, b .path-bounded); size-bounded = b .size-bounded }
 
 pub unbuilt-bounded : (n m : ℕ) {x y : List ℕ} {r : Built} → length y ≡ length x → Unbuilt r → Bounded n m x y r
-unbuilt-bounded n m e u = record { same-length = e; left-bounded = omega (arith, u .left); path-bounded = omega (arith, u .path-left); size-bounded = omega (arith, u .words) }
+unbuilt-bounded n m e u = record { same-length = e; left-bounded = omega (arith, u .left); due-bounded = omega (arith, u .due); path-bounded = omega (arith, u .path-left); size-bounded = omega (arith, u .words) }
 
-pub unbuilt-made : {o : List ℕ} {a n m : ℕ} {x y : List ℕ} {r : Built} → (2 * length o ≤ length x → ⊥) → Unbuilt r → Made o a n m x y r
+unbuilt-made : {o : List ℕ} {a n m : ℕ} {x y : List ℕ} {r : Built} → (2 * length o ≤ length x → ⊥) → Unbuilt r → Made o a n m x y r
 unbuilt-made f u = record { has-room = λ h. absurd (f h); right = λ k. absurd (never k (u .ok)) }
 
--- ── the whole answer and a side's ──
-
-pub built-bounds : {s p x y : List ℕ} {r : Built} → Building s p x y r → Bounded (length s) (length p) x y r
-built-bounds b = record { same-length = b .same-length; left-bounded = b .left-bounded; path-bounded = b .path-bounded; size-bounded = b .size-bounded }
-
-pub built-made : {s p x y : List ℕ} {r : Built} → Building s p x y r → (P : Scope) (E : Term) (rest : List ℕ) → TermAt s P E rest → MadeOf (follow E p) rest x y r
-built-made b P E rest t = record {
-  has-room = λ h. b .has-room P E rest t h;
+-- The same words, with another number of words left.
+pub made-left : {o : List ℕ} {a n m : ℕ} {x y : List ℕ} {r : Built} (left : ℕ) → Made o a n m x y r
+    → Made o a left m x y (record { ok = r .ok; action = r .action; words = r .words; left = left; due = 0; «path_left» = r .«path_left» })
+made-left left g = record {
+  has-room = g .has-room;
   right = λ k.
-      let w = b .right P E rest t k in
-      record { action = w .action; size = w .size; left = w .left; path-left = w .path-left; written-there = w .written-there };
+      let f = g .right k in
+      record { action = f .action; size = f .size; left = refl; due = refl; path-left = f .path-left; written-there = f .written-there };
 }
 
-pub built : {s p x y : List ℕ} {r : Built} → Siding true s p x y r → Building s p x y r
-built h = record {
-  same-length = h .bounds .same-length;
-  left-bounded = h .bounds .left-bounded;
-  path-bounded = h .bounds .path-bounded;
-  size-bounded = h .bounds .size-bounded;
-  has-room = λ P E rest t k. h .made P E rest t .has-room k;
-  right = λ P E rest t k.
-      let w = h .made P E rest t .right k in
-      record { action = w .action; size = w .size; left = w .left; path-left = w .path-left; written-there = w .written-there };
+-- ── words at the front ──
+
+module _ (o x y : List ℕ) (a n m : ℕ) (b : Bool) (h : Wrote o x y b) where
+  pub wrote-whole : b ≡ true → Whole o a n m x y (record { ok = true; action = a; words = length o; left = n; due = 0; «path_left» = m })
+  wrote-whole e = record {
+    bounds = record { same-length = h .same-length; left-bounded = omega arith; due-bounded = omega arith; path-bounded = omega arith; size-bounded = had-room o x y b h e };
+    made = record { has-room = λ _. refl; right = λ _. record { action = refl; size = refl; left = refl; due = refl; path-left = refl; written-there = h .right e } };
+  }
+
+  pub whole-lost : (f : Built) → b ≡ false → Unbuilt f → Whole o a n m x y f
+  whole-lost f e u = record {
+    bounds = unbuilt-bounded n m (h .same-length) u;
+    made = unbuilt-made (λ k. never (room-there o x y b h k) e) u;
+  }
+
+-- ── words behind others ──
+
+pub added-none : (w : List ℕ) (X : Built) (x : List ℕ) (f : Built) → X .ok ≡ false → Unbuilt f → Added w X x x f
+added-none w X x f e u = record {
+  bounds = unbuilt-bounded (X .left) (X .«path_left») refl u;
+  has-room = λ k _. absurd (never k e);
+  right = λ k. absurd (never k (u .ok));
 }
 
-pub side-goes : (s p x y : List ℕ) (goes : Bool) (r : Built) → goes ≡ true → Building s p x y r → Siding goes s p x y r
-side-goes s p x y goes r e b = rw e (record { bounds = built-bounds b; made = λ P E rest t. built-made b P E rest t })
+module _ (w : List ℕ) (X : Built) (x z : List ℕ) (b : Bool) (room : 2 * X .words ≤ length x) (ok : X .ok ≡ true) (given : Wrote w (lent (2 * X .words) x) z b) where
+  here : Wrote w (drop (2 * X .words) x) z b
+  here = subst (λ l. Wrote w l z b) (part (2 * X .words) x) given
 
-pub side-stays : (s p x y : List ℕ) (goes : Bool) (r : Built) → goes ≡ false → Siding false s p x y r → Siding goes s p x y r
-side-stays s p x y goes r e h = rw e h
+  rest-length : length (drop (2 * X .words) x) ≡ length x - 2 * X .words
+  rest-length = length-drop (2 * X .words) x
 
--- ── the term known by its first word ──
+  same : length (back (2 * X .words) x z) ≡ length x
+  same = back-length x z (2 * X .words) room (here .same-length)
 
-module _ (s p x y : List ℕ) (r : Built) (b : Bounded (length s) (length p) x y r) where
-  abbrev Led : Scope → List ℕ → Term → Type 0
-  Led P rest G = TermAt s P G rest → MadeOf (follow G p) rest x y r
-
-  pub by-action : getD s 0 0 ≡ 21 → ((P : Scope) (a : VisibleAction) (rest : List ℕ) → TermAt s P (Perform a) rest → MadeOf (follow (Perform a) p) rest x y r) → Siding true s p x y r
-  by-action e f = record { bounds = b; made = λ P G rest t. of-perform (Led P rest) (λ a. f P a rest) G (sym e ∙ term-front s P G rest t) t }
-
-  pub by-sequence : getD s 0 0 ≡ 22 → ((P : Scope) (E F : Term) (rest : List ℕ) → TermAt s P (Sequence E F) rest → MadeOf (follow (Sequence E F) p) rest x y r) → Siding true s p x y r
-  by-sequence e f = record {
-    bounds = b;
-    made = λ P G rest t. of-sequence (Led P rest) (λ E F. f P E F rest) G (sym e ∙ term-front s P G rest t) t;
+  pub added : b ≡ true → Added w X x (back (2 * X .words) x z) (record { ok = true; action = X .action; words = X .words + length w; left = X .left; due = 0; «path_left» = X .«path_left» })
+  added e = record {
+    bounds = record {
+      same-length = same;
+      left-bounded = omega arith;
+      due-bounded = omega arith;
+      path-bounded = omega arith;
+      size-bounded = omega (arith, had-room w (drop (2 * X .words) x) z b here e, rest-length, room);
+    };
+    has-room = λ _ _. refl;
+    right = λ _. record {
+      before = ok;
+      action = refl;
+      size = refl;
+      left = refl;
+      due = refl;
+      path-left = refl;
+      written-there = back-rest x z (2 * X .words) ∙ ap (λ l. take (2 * X .words) x ++ l) (here .right e);
+    };
   }
 
-  pub by-choice : getD s 0 0 ≡ 23 → ((P : Scope) (E F : Term) (rest : List ℕ) → TermAt s P (Choice E F) rest → MadeOf (follow (Choice E F) p) rest x y r) → Siding true s p x y r
-  by-choice e f = record {
-    bounds = b;
-    made = λ P G rest t. of-choice (Led P rest) (λ E F. f P E F rest) G (sym e ∙ term-front s P G rest t) t;
+  pub added-lost : (f : Built) → b ≡ false → Unbuilt f → Added w X x (back (2 * X .words) x z) f
+  added-lost f e u = record {
+    bounds = unbuilt-bounded (X .left) (X .«path_left») same u;
+    has-room = λ _ k. absurd (never (room-there w (drop (2 * X .words) x) z b here (omega (arith, rest-length))) e);
+    right = λ k. absurd (never k (u .ok));
   }
 
-  pub by-star : getD s 0 0 ≡ 24 → ((P : Scope) (E : Term) (rest : List ℕ) → TermAt s P (Star E) rest → MadeOf (follow (Star E) p) rest x y r) → Siding true s p x y r
-  by-star e f = record { bounds = b; made = λ P G rest t. of-star (Led P rest) (λ E. f P E rest) G (sym e ∙ term-front s P G rest t) t }
+-- Words behind others that were written whole are written whole with them.
+pub added-made : (o w b x y : List ℕ) (a n m : ℕ) (X r : Built) → length x ≡ length b → 2 * X .words ≤ length x → Made o a n m b x X → Added w X x y r → Made (o ++ w) a n m b y r
+added-made o w b x y a n m X r same fits M A = record {
+  has-room = λ k.
+      let l : length (o ++ w) ≡ length o + length w = length-append o w in
+      let ok : X .ok ≡ true = M .has-room (omega arith) in
+      let s : X .words ≡ length o = M .right ok .size in
+      A .has-room ok (omega (arith, l, s, same));
+  right = λ ok.
+      let g = A .right ok in
+      let f = M .right (g .before) in
+      let s : X .words ≡ length o = f .size in
+      record {
+        action = g .action ∙ f .action;
+        size = omega (arith, g .size, s, length-append o w);
+        left = g .left ∙ f .left;
+        due = g .due;
+        path-left = g .path-left ∙ f .path-left;
+        written-there = g .written-there ∙ written-behind o w b x (2 * X .words) (omega (arith, s, fits, same)) (omega (arith, s)) (f .written-there);
+      };
+}
 
-  pub by-parallel : getD s 0 0 ≡ 25 → ((P : Scope) (Δ : Mask) (E F : Term) (rest : List ℕ) → TermAt s P (Parallel Δ E F) rest → MadeOf (follow (Parallel Δ E F) p) rest x y r) → Siding true s p x y r
-  by-parallel e f = record {
-    bounds = b;
-    made = λ P G rest t. of-parallel (Led P rest) (λ Δ E F. f P Δ E F rest) G (sym e ∙ term-front s P G rest t) t;
+-- ── what began, closed ──
+
+module _ (t : List ℕ) (X : Built) (e : ℕ) (x : List ℕ) (inside : X .left ≤ length t) (room : 2 * X .words ≤ length x) where
+  pub closed-none : (f : Built) → X .left < e → Unbuilt f → Closed t X e x x f
+  closed-none f h u = record {
+    bounds = unbuilt-bounded e (X .«path_left») refl u;
+    before = λ k. absurd (never k (u .ok));
+    made = λ P o rest b a m same B i j. unbuilt-made (λ k. let g : length rest ≤ X .left = B .right (B .has-room k) .behind in omega (arith, g, h, j)) u;
   }
 
-  pub by-guard : getD s 0 0 ≡ 26 → ((P : Scope) (C : Cond) (E : Term) (rest : List ℕ) → TermAt s P (Guard C E) rest → MadeOf (follow (Guard C E) p) rest x y r) → Siding true s p x y r
-  by-guard e f = record {
-    bounds = b;
-    made = λ P G rest t. of-guard (Led P rest) (λ C E. f P C E rest) G (sym e ∙ term-front s P G rest t) t;
+  abbrev between : List ℕ
+  between = take ((length t - e) - (length t - X .left)) (drop (length t - X .left) t)
+
+  pub closed : (y : List ℕ) (Y : Built) → e ≤ X .left → Added between X x y Y → Closed t X e x y (record { ok = Y .ok; action = Y .action; words = Y .words; left = e; due = 0; «path_left» = Y .«path_left» })
+  closed y Y h A = record {
+    bounds = record { same-length = A .bounds .same-length; left-bounded = omega arith; due-bounded = omega arith; path-bounded = A .bounds .path-bounded; size-bounded = A .bounds .size-bounded };
+    before = λ k. A .right k .before;
+    made = λ P o rest b a m same B i j.
+        let l : length between ≡ X .left - e = between-length t (X .left) e h inside in
+        record {
+          has-room = λ k.
+              let ok : X .ok ≡ true = B .has-room k in
+              let q : o ≡ B .right ok .part ++ between = whole P o rest b a m B i ok in
+              let s : X .words ≡ length (B .right ok .part) = B .right ok .size in
+              A .has-room ok (omega (arith, s, ap length q, length-append (B .right ok .part) between, same));
+          right = λ k.
+              let g = A .right k in
+              let f = B .right (g .before) in
+              let q : o ≡ f .part ++ between = whole P o rest b a m B i (g .before) in
+              let s : X .words ≡ length (f .part) = f .size in
+              record {
+                action = g .action ∙ f .action;
+                size = omega (arith, g .size, s, ap length q, length-append (f .part) between);
+                left = refl;
+                due = refl;
+                path-left = g .path-left ∙ f .path-left;
+                written-there = g .written-there ∙ (written-behind (f .part) between b x (2 * X .words) (omega (arith, s, room, same)) (omega (arith, s)) (f .written-there) ∙ ap (λ z. written z b) (sym q));
+              };
+        };
   }
-
--- The other terms, Done and the internal action, have one word and lead to Done.
-leaf : (G : Term) → (code-in-front G ≡ 21 → ⊥) → (code-in-front G ≡ 22 → ⊥) → (code-in-front G ≡ 23 → ⊥) → (code-in-front G ≡ 24 → ⊥) → (code-in-front G ≡ 25 → ⊥) → (code-in-front G ≡ 26 → ⊥)
-    → (p rest : List ℕ) → (follow G p ≡ followed internal Done p) × (drop 1 (words 1 G ++ rest) ≡ rest)
-unfolding follow words code-in-front
-leaf Done a b c d e f p rest = (refl, refl)
-leaf Internal a b c d e f p rest = (refl, refl)
-leaf (Perform v) a b c d e f p rest = absurd (a refl)
-leaf (Sequence E F) a b c d e f p rest = absurd (b refl)
-leaf (Choice E F) a b c d e f p rest = absurd (c refl)
-leaf (Star E) a b c d e f p rest = absurd (d refl)
-leaf (Parallel Δ E F) a b c d e f p rest = absurd (e refl)
-leaf (Guard C E) a b c d e f p rest = absurd (f refl)
-
-pub by-leaf : (s p x y : List ℕ) (r : Built) (w : ℕ) → w ≡ getD s 0 0 → (w ≡ 21 → ⊥) → (w ≡ 22 → ⊥) → (w ≡ 23 → ⊥) → (w ≡ 24 → ⊥) → (w ≡ 25 → ⊥) → (w ≡ 26 → ⊥)
-    → (t : List ℕ) → t ≡ drop 1 s → Ended 0 (length t) (length p) x y r → Building s p x y r
-unfolding words action-code
-by-leaf s p x y r w e a b c d g f t h m = built (record {
-  bounds = bounded-within (m .bounds) (omega (arith, ap length h, length-drop 1 s)) (omega arith);
-  made = λ P G rest k.
-      let q : w ≡ code-in-front G = e ∙ term-front s P G rest k in
-      let v = leaf G (λ i. a (q ∙ i)) (λ i. b (q ∙ i)) (λ i. c (q ∙ i)) (λ i. d (q ∙ i)) (λ i. g (q ∙ i)) (λ i. f (q ∙ i)) p rest in
-      let l : length t ≡ length rest = ap length (h ∙ (ap (drop 1) (k .spelled) ∙ v .1)) in
-      subst (λ z. MadeOf z rest x y r) (sym (v .0)) (subst (λ n. Made (30 ∷ []) 0 n (length p) x y r) l (m .made));
-})
-
--- ── a buffer whose rest was lent and came back ──
-
-pub back-length : (x z : List ℕ) (w : ℕ) → w ≤ length x → length z ≡ length (drop w x) → length (take w x ++ z) ≡ length x
-back-length x z w h e = omega (arith, length-append (take w x) z, length-take-le w x h, length-drop w x)
+    where
+      whole : (P : Scope) (o rest b : List ℕ) (a m : ℕ) (B : Begun P t o rest a m b x X) → last-of e t ≡ rest → (ok : X .ok ≡ true) → o ≡ B .right ok .part ++ between
+      whole P o rest b a m B i ok =
+          let f = B .right ok in
+          same-before o (f .part ++ between) rest
+          (f .onward
+          ∙ (ap (λ z. f .part ++ z) (last-split t (X .left) e h inside ∙ ap (λ z. between ++ z) i) ∙ sym (append-assoc (f .part) between rest)))

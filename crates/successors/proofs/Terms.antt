@@ -1,45 +1,20 @@
 -- A running term's operands as they stand behind one another: what the code, which sees words, tells of the term (document 01, "Moves, in order").
 use mathlib.Core.Path.{_≡_, refl, sym, ap, _∙_}
 use mathlib.Core.List.{List, [], _∷_, _++_, append-assoc}
-use Prim.Native.Nat.{ℕ, _+_, _-_, _≤_}
+use Prim.Native.Nat.{ℕ, _≤_}
 use native.Mathlib.Omega.{arith}
-use lib.ListN.{length, take, drop, getD, length-append, length-drop, take-append-drop}
+use lib.ListN.{length, take, drop, length-append}
 use lib.Seq.{take-at, drop-at}
 use Rattle.eb3.specs.Expressions.{Cond}
 use Rattle.eb3.specs.Scopes.{Scope}
 use Rattle.eb3.specs.Terms.{Term, Perform, Sequence, Choice, Star, Parallel, Guard, VisibleAction, Mask}
 use Rattle.eb3.specs.Spelling.{cond-words, words}
-use Rattle.scan.specs.Checking.{last-of}
-use Rattle.scan.specs.Laws.{last-behind}
+use Rattle.eb3.specs.Sizes.{size}
 use Rattle.expressions.specs.Answering.{Plain, CondAt}
 use Rattle.actions.specs.Codes.{Closed, ActionAt}
+use Rattle.listing.specs.FitLaws.{fits-length}
 use Rattle.listing.specs.Listing.{Fits, TermAt}
 use Rattle.listing.specs.Positions.{term-closed}
-
--- ── parts of words ──
-
--- What stands behind a part is the last so many words, and what stands before it the others.
-pub behind-part : (a b t : List ℕ) (n : ℕ) → t ≡ a ++ b → n ≡ length b → last-of n t ≡ b
-behind-part a b t n e h = ap (λ k. last-of k t) h ∙ ap (last-of (length b)) e ∙ last-behind a b
-
--- The same where so many words stand before the first part.
-pub behind-dropped : (s : List ℕ) (m : ℕ) (a b : List ℕ) (n : ℕ) → drop m s ≡ a ++ b → n ≡ length b → last-of n s ≡ b
-behind-dropped s m a b n e h =
-    behind-part (take m s ++ a) b s n (sym (take-append-drop m s) ∙ (ap (λ l. take m s ++ l) e ∙ sym (append-assoc (take m s) a b))) h
-
-pub before-part : (a b t : List ℕ) (n : ℕ) → t ≡ a ++ b → n ≡ length b → take (length t - n) t ≡ a
-before-part a b t n e h =
-    let k : length a ≡ length t - n = omega (arith, ap length e, length-append a b) in
-    ap (take (length t - n)) e ∙ take-at a b (length t - n) k
-
--- Where a word stands in front, the words behind it are fewer.
-pub behind-shorter : (s t : List ℕ) (w : ℕ) → t ≡ drop 1 s → getD s 0 0 ≡ w → 1 ≤ w → 1 + length t ≤ length s
-behind-shorter [] t w e h k = absurd (omega arith)
-behind-shorter (v ∷ s) t w e h k = omega (arith, ap length e)
-
-pub last-short : (n : ℕ) (s t : List ℕ) → t ≡ last-of n s → length t ≤ n
-unfolding last-of
-last-short n s t e = omega (arith, ap length e, length-drop (length s - n) s)
 
 -- ── operands ──
 
@@ -105,3 +80,8 @@ module _ (s : List ℕ) (P : Scope) (rest : List ℕ) where
 
   pub guard-operand : (C : Cond) (E : Term) → TermAt s P (Guard C E) rest → TermAt (words 1 E ++ rest) P E rest
   guard-operand C E h = alone-at P E rest (h .plain) (h .fits .1) (h .closed)
+
+-- ── sizes ──
+
+pub size-there : (P : Scope) (E : Term) → Fits P E → size 1 E ≡ length (words 1 E)
+size-there P E h = sym (fits-length P E h)
