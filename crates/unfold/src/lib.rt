@@ -31,9 +31,9 @@ use values::arguments_of;
 
 // Whether there was room; the words written, and the words left behind the term.
 pub struct Unfolded {
-    pub ok: bool,
     pub words: usize,
     pub left: usize,
+    pub ok: bool,
 }
 
 // Two terms in a row.
