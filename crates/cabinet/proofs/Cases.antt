@@ -26,7 +26,7 @@ use Rattle.runs.specs.declared.mains.Totals.{Totals}
 use Rattle.engine.specs.declared.running.Ran.{Ran as Ended}
 use Rattle.engine.specs.declared.running.Ran.the-variants.{Ended as Ended·so, Refused as Ended·refused}
 use Rattle.engine.specs.Running.{ran-as, RunDone}
-use Rattle.eb3.specs.Operations.{run}
+use Rattle.eb3.specs.Operations.{run, ScratchAfter}
 use Rattle.cabinet.specs.declared.Ran.{Ran as CRan}
 use Rattle.cabinet.specs.Exported.{sizes, started, counted, moved-by, moved, exported-step, ran}
 
@@ -142,15 +142,15 @@ unfolding ran-as ran
 same-run (refused k) = refl
 same-run (answered m) = refl
 
-module _ (rules numbers term memory spare cells : List ℕ) (p : Ended) (term′ memory′ : List ℕ) (d : RunDone rules numbers term memory spare cells p term′ memory′) where
+module _ (rules numbers term memory spare cells : List ℕ) (p : Ended) (term′ memory′ spare′ : List ℕ) (d : RunDone rules numbers term memory spare cells p term′ memory′ spare′) where
   abbrev Told : CRan → Type 0
   Told r =
       (r ≡ ran (run rules numbers term memory spare cells .answer)) × (term′ ≡ run rules numbers term memory spare cells .term)
-      × (memory′ ≡ run rules numbers term memory spare cells .memory)
+      × (memory′ ≡ run rules numbers term memory spare cells .memory) × ScratchAfter (run rules numbers term memory spare cells .answer) spare spare′
 
   pub run-gives : (t : Totals) → p ≡ Ended·so t → Told (ended t)
-  run-gives t f = (sym (ap exported-run f) ∙ (ap exported-run (d .answer) ∙ same-run (run rules numbers term memory spare cells .answer)), d .term-after, d .memory-after)
+  run-gives t f = (sym (ap exported-run f) ∙ (ap exported-run (d .answer) ∙ same-run (run rules numbers term memory spare cells .answer)), d .term-after, d .memory-after, d .scratch-after)
 
   pub run-refuses : (k j : ℕ) → p ≡ Ended·refused k → j ≡ k → Told (unended j)
   run-refuses k j f g =
-      (ap unended g ∙ (sym (ap exported-run f) ∙ (ap exported-run (d .answer) ∙ same-run (run rules numbers term memory spare cells .answer))), d .term-after, d .memory-after)
+      (ap unended g ∙ (sym (ap exported-run f) ∙ (ap exported-run (d .answer) ∙ same-run (run rules numbers term memory spare cells .answer))), d .term-after, d .memory-after, d .scratch-after)

@@ -1,6 +1,6 @@
 // The engine as a C host calls it, with numbers and byte slices only (eb3.h).
 ghost use mathlib.Core.Path.{_≡_};
-ghost use Rattle.eb3.specs.Operations.{admit, start, count, move, present, run};
+ghost use Rattle.eb3.specs.Operations.{admit, start, count, move, present, run, ScratchAfter};
 ghost use Rattle.cabinet.specs.Exported.{sizes, started, counted, exported-step, moved, ran};
 use engine::Admitted;
 use engine::admit;
@@ -178,7 +178,7 @@ pub extern "C" fn eb3_present(
     told(present(rules, term, memory, event, next_term, next_memory))
 }
 
-// The spare cells are read by their length only.
+// The spare cells are read by their length only. Of the spare buffer a refusal writes nothing, and a run only whole words.
 #[no_mangle]
 pub extern "C" fn eb3_run(
     rules: &[u8],
@@ -188,7 +188,7 @@ pub extern "C" fn eb3_run(
     spare: &mut [u8],
     cells: &[u8],
 ) -> Ran
-    ensures { λ r. ⌜ (r ≡ ran (run (now (rules .entry)) (now (numbers .entry)) (now (term .entry)) (now (memory .entry)) (now (spare .entry)) (now (cells .entry)) .answer)) × (now (term .exit) ≡ run (now (rules .entry)) (now (numbers .entry)) (now (term .entry)) (now (memory .entry)) (now (spare .entry)) (now (cells .entry)) .term) × (now (memory .exit) ≡ run (now (rules .entry)) (now (numbers .entry)) (now (term .entry)) (now (memory .entry)) (now (spare .entry)) (now (cells .entry)) .memory) ⌝ }
+    ensures { λ r. ⌜ (r ≡ ran (run (now (rules .entry)) (now (numbers .entry)) (now (term .entry)) (now (memory .entry)) (now (spare .entry)) (now (cells .entry)) .answer)) × (now (term .exit) ≡ run (now (rules .entry)) (now (numbers .entry)) (now (term .entry)) (now (memory .entry)) (now (spare .entry)) (now (cells .entry)) .term) × (now (memory .exit) ≡ run (now (rules .entry)) (now (numbers .entry)) (now (term .entry)) (now (memory .entry)) (now (spare .entry)) (now (cells .entry)) .memory) × ScratchAfter (run (now (rules .entry)) (now (numbers .entry)) (now (term .entry)) (now (memory .entry)) (now (spare .entry)) (now (cells .entry)) .answer) (now (spare .entry)) (now (spare .exit)) ⌝ }
 {
     match run(rules, numbers, term, memory, spare, cells) {
         Ended::Ended(t) => Ran {

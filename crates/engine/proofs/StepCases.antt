@@ -37,7 +37,7 @@ use Rattle.steps.proofs.moving.Taken.{the-type}
 use Rattle.steps.specs.declared.moving.Taken.{Taken}
 use Rattle.steps.specs.declared.moving.Taken.the-variants.{Made as Taken·made, NotOffered}
 use Rattle.steps.specs.Counting.{Whole, place-of}
-use Rattle.steps.specs.FitLaws.{fits-length}
+use Rattle.listing.specs.FitLaws.{fits-length}
 use Rattle.steps.specs.Storing.{Ruled, Stored, StoreRenewed}
 use Rattle.steps.specs.Judging.{fits, whole, moves-judged}
 use Rattle.steps.specs.Taking.{taken-as, built-over, SuccessorFits, Took}

@@ -31,7 +31,7 @@ fn run_in(
     cells: &[u8],
 ) -> Ran
     requires { ⌜ (length (now rules) ≡ 512 * n) × (254 * n ≤ length (now words)) × (1 ≤ n) × (n ≤ 64) × Opens (now rules) ⌝ }
-    ensures { λ r. ⌜ RunDone (now (rules .entry)) (now (numbers .entry)) (now (term .entry)) (now (memory .entry)) (now (spare .entry)) (now (cells .entry)) r (now (term .exit)) (now (memory .exit)) ⌝ }
+    ensures { λ r. ⌜ RunDone (now (rules .entry)) (now (numbers .entry)) (now (term .entry)) (now (memory .entry)) (now (spare .entry)) (now (cells .entry)) r (now (term .exit)) (now (memory .exit)) (now (spare .exit)) ⌝ }
 {
     let mut tables = [0u32; 500];
     let mut dir = [0u32; 1072];
@@ -78,7 +78,7 @@ fn run_one(
     cells: &[u8],
 ) -> Ran
     requires { ⌜ (length (now rules) ≡ 512) × Opens (now rules) ⌝ }
-    ensures { λ r. ⌜ RunDone (now (rules .entry)) (now (numbers .entry)) (now (term .entry)) (now (memory .entry)) (now (spare .entry)) (now (cells .entry)) r (now (term .exit)) (now (memory .exit)) ⌝ }
+    ensures { λ r. ⌜ RunDone (now (rules .entry)) (now (numbers .entry)) (now (term .entry)) (now (memory .entry)) (now (spare .entry)) (now (cells .entry)) r (now (term .exit)) (now (memory .exit)) (now (spare .exit)) ⌝ }
 {
     let mut words = [0u16; 254];
     let r = run_in(rules, 1, &mut words, numbers, term, memory, spare, cells);
@@ -95,7 +95,7 @@ fn run_many(
     cells: &[u8],
 ) -> Ran
     requires { ⌜ (length (now rules) ≡ 512 * n) × (1 ≤ n) × (n ≤ 64) × Opens (now rules) ⌝ }
-    ensures { λ r. ⌜ RunDone (now (rules .entry)) (now (numbers .entry)) (now (term .entry)) (now (memory .entry)) (now (spare .entry)) (now (cells .entry)) r (now (term .exit)) (now (memory .exit)) ⌝ }
+    ensures { λ r. ⌜ RunDone (now (rules .entry)) (now (numbers .entry)) (now (term .entry)) (now (memory .entry)) (now (spare .entry)) (now (cells .entry)) r (now (term .exit)) (now (memory .exit)) (now (spare .exit)) ⌝ }
 {
     let mut words = [0u16; 16256];
     let r = run_in(rules, n, &mut words, numbers, term, memory, spare, cells);
@@ -103,7 +103,7 @@ fn run_many(
 }
 
 // Run: what the history machine ends with, in the lent term and memory; or the first refusal of 1 to 9, and nothing is written. Of the
-// two spare buffers, for a term and for cells, only the first is written.
+// two spare buffers, for a term and for cells, only the first is written, and of it only whole words.
 pub fn run(
     rules: &[u8],
     numbers: &[u8],
@@ -112,7 +112,7 @@ pub fn run(
     spare: &mut [u8],
     cells: &[u8],
 ) -> Ran
-    ensures { λ r. ⌜ RunDone (now (rules .entry)) (now (numbers .entry)) (now (term .entry)) (now (memory .entry)) (now (spare .entry)) (now (cells .entry)) r (now (term .exit)) (now (memory .exit)) ⌝ }
+    ensures { λ r. ⌜ RunDone (now (rules .entry)) (now (numbers .entry)) (now (term .entry)) (now (memory .entry)) (now (spare .entry)) (now (cells .entry)) r (now (term .exit)) (now (memory .exit)) (now (spare .exit)) ⌝ }
 {
     match open(rules) {
         Opened::Blocks(n) => {

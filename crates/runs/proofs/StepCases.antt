@@ -35,6 +35,8 @@ use Rattle.steps.specs.Storing.{Ruled, StoreRenewed}
 use Rattle.steps.specs.Judging.{whole, moves-judged}
 use Rattle.steps.specs.declared.moving.Taken.{Taken}
 use Rattle.steps.specs.declared.moving.Taken.the-variants.{Made, NotOffered as No-move}
+use Rattle.runs.specs.Scratch.{WordsOnly}
+use Rattle.runs.specs.ScratchLaws.{words-kept, words-written}
 use Rattle.runs.specs.Running.{Situated, Roomy, done-as, Once, StepsOnce}
 use Rattle.runs.specs.declared.Done.{Done}
 use Rattle.runs.specs.declared.Done.the-variants.{Visible, Internal, NotOffered}
@@ -62,12 +64,13 @@ module _ (S : DataState) (s : Situation S) (k : ℕ) where
       → Path (Outcome × Situation S) (reply (system S) s k) (taken (x .action), situation (x .successor) (state-after S (s .state) (x .action)))
   reply-some x e = ap (respond (system S) s) (getElem?-map (transition S (s .state)) (moves (S .satisfies (s .state)) (s .term)) k x e)
 
-once-by : (R : RuleSet) (s : Situation (Sem-M (attributes R))) (k : ℕ) (ws′ M′ : List ℕ) (r : Done) (o : Outcome) (z : Situation (Sem-M (attributes R)))
+once-by : (R : RuleSet) (s : Situation (Sem-M (attributes R))) (k : ℕ) (out ws′ M′ out′ : List ℕ) (r : Done) (o : Outcome) (z : Situation (Sem-M (attributes R)))
     → Path (Outcome × Situation (Sem-M (attributes R))) (reply (system (Sem-M (attributes R))) s k) (o, z)
-    → r ≡ done-as o (length (words 1 (z .term))) → Situated R z (length (words 1 (z .term))) ws′ M′ → Once R s k ws′ M′ r
-once-by R s k ws′ M′ r o z e a h = record {
+    → r ≡ done-as o (length (words 1 (z .term))) → Situated R z (length (words 1 (z .term))) ws′ M′ → WordsOnly out out′ → Once R s k out ws′ M′ out′ r
+once-by R s k out ws′ M′ out′ r o z e a h only = record {
   answer = subst (λ (p : Outcome × Situation (Sem-M (attributes R))). r ≡ done-as (p .0) (length (words 1 (p .1 .term)))) (sym e) a;
   after = subst (λ (p : Outcome × Situation (Sem-M (attributes R))). Situated R (p .1) (length (words 1 (p .1 .term))) ws′ M′) (sym e) h;
+  words-only = only;
 }
 
 -- ── a move sought in the term's words ──
@@ -133,12 +136,13 @@ module _ (t D : List ℕ) (w functions c n k : ℕ) (ws M out : List ℕ) (R : R
   same-moves : moves (Sem-M (attributes R) .satisfies (s .state)) (s .term) ≡ moves (holding M) (s .term)
   same-moves = sym (moves-judged R (ruled .form) (s .term) (at .running .form) (s .state) M (at .stored))
 
-  refused-once : (out′ : List ℕ) → Took offered out out′ No-move → Once R s k ws M NotOffered
-  unfolding done-as
+  refused-once : (out′ : List ℕ) → Took offered out out′ No-move → Once R s k out ws M out′ NotOffered
+  unfolding done-as built-over
   refused-once out′ h =
-      once-by R s k ws M NotOffered refused s
-      (reply-none (Sem-M (attributes R)) s k (ap (λ l. getElem? l k) same-moves ∙ none-made offered (h .answer)))
-      refl (subst (λ m. Situated R s m ws M) (at .size-is) at)
+      let e : offered ≡ none = none-made offered (h .answer) in
+      once-by R s k out ws M out′ NotOffered refused s
+      (reply-none (Sem-M (attributes R)) s k (ap (λ l. getElem? l k) same-moves ∙ e))
+      refl (subst (λ m. Situated R s m ws M) (at .size-is) at) (words-kept out out′ (h .buffer ∙ ap (λ o. built-over o out) e))
 
   -- The move x is made: the successor's words are loaded and the cells renewed.
   module _ (x : Move) (listed : offered ≡ some x) (out′ M′ ws′ : List ℕ) (a : ℕ) (number : a ≡ action-code (x .action)) (buffer : out′ ≡ built-over (some x) out)
@@ -156,12 +160,14 @@ module _ (t D : List ℕ) (w functions c n k : ℕ) (ws M out : List ℕ) (R : R
       stored = renewed R T ruled (x .action) (move-action edition-1 R (holding M) (s .term) k x listed (at .running .form)) number (s .state) (at .stored);
     }
 
-    made-once : (d : Done) → d ≡ done-as (taken (x .action)) (length (words 1 (x .successor))) → Once R s k ws′ M′ d
-    made-once d e = once-by R s k ws′ M′ d (taken (x .action)) after (reply-some (Sem-M (attributes R)) s k x (ap (λ l. getElem? l k) same-moves ∙ listed)) e next
+    made-once : (d : Done) → d ≡ done-as (taken (x .action)) (length (words 1 (x .successor))) → Once R s k out ws′ M′ out′ d
+    unfolding built-over
+    made-once d e = once-by R s k out ws′ M′ out′ d (taken (x .action)) after (reply-some (Sem-M (attributes R)) s k x (ap (λ l. getElem? l k) same-moves ∙ listed)) e next
+        (words-written (words 1 (x .successor)) out out′ (omega (arith, next-size x listed, room .bytes-room)) buffer)
 
   -- A move made, told by its action's number and its successor's size.
   made-so : (out′ M′ ws′ : List ℕ) (a size′ : ℕ) (d : Done) → Took offered out out′ (Made a size′) → StoreRenewed t D M M′ w functions c a → Loaded out′ ws ws′ 0 size′
-      → ((ρ : Action) → a ≡ action-code ρ → d ≡ done-as (taken ρ) size′) → Once R s k ws′ M′ d
+      → ((ρ : Action) → a ≡ action-code ρ → d ≡ done-as (taken ρ) size′) → Once R s k out ws′ M′ out′ d
   made-so out′ M′ ws′ a size′ d h renewed loaded told =
       let p = some-made offered a size′ (h .answer) in
       let x : Move = p .0 in
@@ -172,18 +178,18 @@ module _ (t D : List ℕ) (w functions c n k : ℕ) (ws M out : List ℕ) (R : R
 
 module _ {t D : List ℕ} {w functions c n k : ℕ} {ws M out : List ℕ} where
   pub step-internal : {f out′ M′ ws′ : List ℕ} {r : Taken} {a size′ : ℕ} → f ≡ take n ws → TakenFrom f M k out out′ r → r ≡ Made a size′ → StoreRenewed t D M M′ w functions c a
-      → Loaded out′ ws ws′ 0 size′ → a ≤ 0 → StepsOnce t D w functions c n k ws M out ws′ M′ (Internal size′)
+      → Loaded out′ ws ws′ 0 size′ → a ≤ 0 → StepsOnce t D w functions c n k ws M out ws′ M′ out′ (Internal size′)
   step-internal {f} {out′} {M′} {ws′} {r} {a} {size′} front sought made renewed loaded z R T ruled s at room =
       made-so t D w functions c n k ws M out R T ruled s at room out′ M′ ws′ a size′ (Internal size′)
       (subst (Took _ out out′) made (took t D w functions c n k ws M out R T ruled s at room f out′ r front sought)) renewed loaded (λ ρ e. done-internal ρ a size′ e z)
 
   pub step-visible : {f out′ M′ ws′ : List ℕ} {r : Taken} {a size′ : ℕ} → f ≡ take n ws → TakenFrom f M k out out′ r → r ≡ Made a size′ → StoreRenewed t D M M′ w functions c a
-      → Loaded out′ ws ws′ 0 size′ → 0 < a → StepsOnce t D w functions c n k ws M out ws′ M′ (Visible size′)
+      → Loaded out′ ws ws′ 0 size′ → 0 < a → StepsOnce t D w functions c n k ws M out ws′ M′ out′ (Visible size′)
   step-visible {f} {out′} {M′} {ws′} {r} {a} {size′} front sought made renewed loaded z R T ruled s at room =
       made-so t D w functions c n k ws M out R T ruled s at room out′ M′ ws′ a size′ (Visible size′)
       (subst (Took _ out out′) made (took t D w functions c n k ws M out R T ruled s at room f out′ r front sought)) renewed loaded (λ ρ e. done-visible ρ a size′ e z)
 
-  pub step-refused : {f out′ : List ℕ} {r : Taken} → f ≡ take n ws → TakenFrom f M k out out′ r → r ≡ No-move → StepsOnce t D w functions c n k ws M out ws M NotOffered
+  pub step-refused : {f out′ : List ℕ} {r : Taken} → f ≡ take n ws → TakenFrom f M k out out′ r → r ≡ No-move → StepsOnce t D w functions c n k ws M out ws M out′ NotOffered
   step-refused {f} {out′} {r} front sought none-there R T ruled s at room =
       refused-once t D w functions c n k ws M out R T ruled s at room out′
       (subst (Took _ out out′) none-there (took t D w functions c n k ws M out R T ruled s at room f out′ r front sought))

@@ -12,23 +12,25 @@ use Rattle.eb3.specs.Answers.{answered, Ran}
 use Rattle.eb3.specs.Operations.{cells-needed, main-reach, ran}
 use Rattle.declarations.specs.Directory.{Directory}
 use Rattle.expressions.specs.Stores.{now-place}
+use Rattle.runs.specs.Scratch.{WordsOnly}
 use Rattle.runs.specs.declared.mains.Totals.{Totals}
 
 -- The last term's size and the three counts.
 abbrev pub told : Totals → Ran
 told r = record { size = r .size; visible = r .visible; internal = r .internal; refusals = r .refused }
 
--- What the run leaves in buffers with room.
-pub record RanRight (numbers term memory : List ℕ) (R : RuleSet) (r : Totals) (term′ memory′ : List ℕ) : Type 0 where
+-- What the run leaves in buffers with room; in the spare one successors are built.
+pub record RanRight (numbers term memory spare : List ℕ) (R : RuleSet) (r : Totals) (term′ memory′ spare′ : List ℕ) : Type 0 where
   pub answer : ran edition-1 numbers term memory R .answer ≡ answered (told r)
   pub term-after : term′ ≡ ran edition-1 numbers term memory R .term
   pub memory-after : memory′ ≡ ran edition-1 numbers term memory R .memory
+  pub words-only : WordsOnly spare spare′
 
 -- Of the stream t, the tables T, the directory D, c cells and main's reach; there is room for so many words.
-abbrev pub RunsMain : (numbers t T D : List ℕ) (c reach room : ℕ) (term memory spare : List ℕ) (r : Totals) (term′ memory′ : List ℕ) → Type 0
-RunsMain numbers t T D c reach room term memory spare r term′ memory′ =
+abbrev pub RunsMain : (numbers t T D : List ℕ) (c reach room : ℕ) (term memory spare : List ℕ) (r : Totals) (term′ memory′ spare′ : List ℕ) → Type 0
+RunsMain numbers t T D c reach room term memory spare r term′ memory′ spare′ =
     (R : RuleSet) → WellFormed edition-1 R → Directory t T D R → c ≡ cells-needed R → reach ≡ main-reach R → reach ≤ room → reach ≤ word-count term → c ≤ cell-room memory → reach ≤ word-count spare
-    → RanRight numbers term memory R r term′ memory′
+    → RanRight numbers term memory spare R r term′ memory′ spare′
 
 -- ── the end of it ──
 

@@ -13,6 +13,7 @@ use Rattle.eb3.specs.Machines.{machine}
 use Rattle.eb3.specs.TransitionSystems.{Outcome, took-visible, took-internal, refused, initial, reply, run}
 use Rattle.eb3.specs.WellFormedness.{Running}
 use Rattle.steps.specs.Storing.{Stored, Ruled}
+use Rattle.runs.specs.Scratch.{WordsOnly}
 use Rattle.runs.specs.declared.Done.{Done}
 use Rattle.runs.specs.declared.Done.the-variants.{Visible, Internal, NotOffered}
 use Rattle.runs.specs.declared.Tally.{Tally}
@@ -37,14 +38,15 @@ done-as took-visible n = Visible n
 done-as took-internal n = Internal n
 done-as refused n = NotOffered
 
-pub record Once (R : RuleSet) (s : Situation (Sem-M (attributes R))) (k : ℕ) (ws′ M′ : List ℕ) (r : Done) : Type 0 where
+pub record Once (R : RuleSet) (s : Situation (Sem-M (attributes R))) (k : ℕ) (out ws′ M′ out′ : List ℕ) (r : Done) : Type 0 where
   pub answer : r ≡ done-as (reply (system (Sem-M (attributes R))) s k .0) (length (words 1 (reply (system (Sem-M (attributes R))) s k .1 .term)))
   pub after : Situated R (reply (system (Sem-M (attributes R))) s k .1) (length (words 1 (reply (system (Sem-M (attributes R))) s k .1 .term))) ws′ M′
+  pub words-only : WordsOnly out out′
 
--- Of the stream t, the directory D, n words of ws, the store M and the lent bytes, which are ws′ and M′ afterwards.
-abbrev pub StepsOnce : (t D : List ℕ) (w functions c : ℕ) (n k : ℕ) (ws M out ws′ M′ : List ℕ) (r : Done) → Type 0
-StepsOnce t D w functions c n k ws M out ws′ M′ r =
-    (R : RuleSet) (T : List ℕ) → Ruled R t T D w functions c → (s : Situation (Sem-M (attributes R))) → Situated R s n ws M → Roomy R s ws out → Once R s k ws′ M′ r
+-- Of the stream t, the directory D, n words of ws, the store M and the lent bytes out, which are ws′, M′ and out′ afterwards.
+abbrev pub StepsOnce : (t D : List ℕ) (w functions c : ℕ) (n k : ℕ) (ws M out ws′ M′ out′ : List ℕ) (r : Done) → Type 0
+StepsOnce t D w functions c n k ws M out ws′ M′ out′ r =
+    (R : RuleSet) (T : List ℕ) → Ruled R t T D w functions c → (s : Situation (Sem-M (attributes R))) → Situated R s n ws M → Roomy R s ws out → Once R s k out ws′ M′ out′ r
 
 -- ── a list of numbers ──
 
@@ -54,14 +56,15 @@ counted r (Visible n) = record { size = n; visible = r .visible + 1; internal = 
 counted r (Internal n) = record { size = n; visible = r .visible; internal = r .internal + 1; refused = r .refused }
 counted r NotOffered = record { size = r .size; visible = r .visible; internal = r .internal; refused = r .refused + 1 }
 
--- The size of the last term and the three counts.
-pub record Ended (R : RuleSet) (h : machine (Sem-M (attributes R))) (ws′ M′ : List ℕ) (r : Tally) : Type 0 where
+-- The size of the last term and the three counts, and what is left in the words, the store and the lent bytes.
+pub record Ended (R : RuleSet) (h : machine (Sem-M (attributes R))) (out ws′ M′ out′ : List ℕ) (r : Tally) : Type 0 where
   pub visible-is : r .visible ≡ h .visible-count
   pub internal-is : r .internal ≡ h .internal-count
   pub refused-is : r .refused ≡ h .refused-count
   pub after : Situated R (h .state) (r .size) ws′ M′
+  pub words-only : WordsOnly out out′
 
-abbrev pub Runs : (numbers t D : List ℕ) (w functions c : ℕ) (n : ℕ) (ws M out ws′ M′ : List ℕ) (r : Tally) → Type 0
-Runs numbers t D w functions c n ws M out ws′ M′ r =
+abbrev pub Runs : (numbers t D : List ℕ) (w functions c : ℕ) (n : ℕ) (ws M out ws′ M′ out′ : List ℕ) (r : Tally) → Type 0
+Runs numbers t D w functions c n ws M out ws′ M′ out′ r =
     (R : RuleSet) (T : List ℕ) → Ruled R t T D w functions c → (s : Situation (Sem-M (attributes R))) → Situated R s n ws M → Roomy R s ws out
-    → Ended R (run (system (Sem-M (attributes R))) (initial (system (Sem-M (attributes R))) s) (words-in numbers)) ws′ M′ r
+    → Ended R (run (system (Sem-M (attributes R))) (initial (system (Sem-M (attributes R))) s) (words-in numbers)) out ws′ M′ out′ r

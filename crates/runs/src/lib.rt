@@ -58,7 +58,7 @@ fn step_once(
     out: &mut [u8],
 ) -> Done
     requires { ⌜ (length (now t) ≤ 65535) × (w ≤ 256) × (functions ≤ 16) × (c ≤ 1024) × (length (now ws) ≤ 65535) ⌝ }
-    ensures { λ r. ⌜ (length (now (ws .exit)) ≡ length (now (ws .entry))) × (length (now (m .exit)) ≡ length (now (m .entry))) × (length (now (out .exit)) ≡ length (now (out .entry))) × StepsOnce (now (t .entry)) (now (dir .entry)) w functions c n k (now (ws .entry)) (now (m .entry)) (now (out .entry)) (now (ws .exit)) (now (m .exit)) r ⌝ }
+    ensures { λ r. ⌜ (length (now (ws .exit)) ≡ length (now (ws .entry))) × (length (now (m .exit)) ≡ length (now (m .entry))) × (length (now (out .exit)) ≡ length (now (out .entry))) × StepsOnce (now (t .entry)) (now (dir .entry)) w functions c n k (now (ws .entry)) (now (m .entry)) (now (out .entry)) (now (ws .exit)) (now (m .exit)) (now (out .exit)) r ⌝ }
 {
     match take_move(front(ws, n), m, k, out) {
         Taken::Made(action, size) => {
@@ -118,7 +118,7 @@ pub fn run_moves(
     out: &mut [u8],
 ) -> Tally
     requires { ⌜ (length (now t) ≤ 65535) × (w ≤ 256) × (functions ≤ 16) × (c ≤ 1024) × (length (now ws) ≤ 65535) ⌝ }
-    ensures { λ r. ⌜ (length (now (ws .exit)) ≡ length (now (ws .entry))) × (length (now (m .exit)) ≡ length (now (m .entry))) × (length (now (out .exit)) ≡ length (now (out .entry))) × Runs (now (numbers .entry)) (now (t .entry)) (now (dir .entry)) w functions c n (now (ws .entry)) (now (m .entry)) (now (out .entry)) (now (ws .exit)) (now (m .exit)) r ⌝ }
+    ensures { λ r. ⌜ (length (now (ws .exit)) ≡ length (now (ws .entry))) × (length (now (m .exit)) ≡ length (now (m .entry))) × (length (now (out .exit)) ≡ length (now (out .entry))) × Runs (now (numbers .entry)) (now (t .entry)) (now (dir .entry)) w functions c n (now (ws .entry)) (now (m .entry)) (now (out .entry)) (now (ws .exit)) (now (m .exit)) (now (out .exit)) r ⌝ }
 {
     let mut tally = Tally {
         size: n,

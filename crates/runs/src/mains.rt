@@ -1,6 +1,6 @@
 // The run of a rule set's main process from the start: its term in words, its cells in a store, the lent buffers written at the end
-// (document 01, "Operations": Run writes the last term, zeros up to main's G, and the cells). One spare buffer is where successors are
-// built.
+// (document 01, "Operations": Run writes the last term, zeros up to main's G, and the cells). Successors are built in one spare
+// buffer, of which only whole words are written.
 ghost use mathlib.Core.Path.{_≡_};
 ghost use Prim.Native.Nat.{ℕ, _≤_};
 ghost use lib.ListN.{length, getD};
@@ -69,7 +69,7 @@ fn run_words(
     spare: &mut [u8],
 ) -> Totals
     requires { ⌜ (length (now t) ≤ 65535) × (c ≤ 1024) × (getD (now tb) 17 0 ≤ 64) × (getD (now tb) 210 0 ≤ 16) × (length (now ws) ≤ 65535) ⌝ }
-    ensures { λ r. ⌜ RunsMain (now (numbers .entry)) (now (t .entry)) (now (tb .entry)) (now (dir .entry)) c reach (length (now (ws .entry))) (now (term .entry)) (now (memory .entry)) (now (spare .entry)) r (now (term .exit)) (now (memory .exit)) ⌝ }
+    ensures { λ r. ⌜ RunsMain (now (numbers .entry)) (now (t .entry)) (now (tb .entry)) (now (dir .entry)) c reach (length (now (ws .entry))) (now (term .entry)) (now (memory .entry)) (now (spare .entry)) r (now (term .exit)) (now (memory .exit)) (now (spare .exit)) ⌝ }
 {
     let w = 3 + wide32(entry(tb, 17));
     let functions = wide32(entry(tb, 210));
@@ -100,7 +100,7 @@ fn run_short(
     spare: &mut [u8],
 ) -> Totals
     requires { ⌜ (length (now t) ≤ 65535) × (c ≤ 1024) × (getD (now tb) 17 0 ≤ 64) × (getD (now tb) 210 0 ≤ 16) ⌝ }
-    ensures { λ r. ⌜ RunsMain (now (numbers .entry)) (now (t .entry)) (now (tb .entry)) (now (dir .entry)) c reach 256 (now (term .entry)) (now (memory .entry)) (now (spare .entry)) r (now (term .exit)) (now (memory .exit)) ⌝ }
+    ensures { λ r. ⌜ RunsMain (now (numbers .entry)) (now (t .entry)) (now (tb .entry)) (now (dir .entry)) c reach 256 (now (term .entry)) (now (memory .entry)) (now (spare .entry)) r (now (term .exit)) (now (memory .exit)) (now (spare .exit)) ⌝ }
 {
     let mut ws = [0u16; 256];
     let r = run_words(numbers, t, tb, dir, c, reach, &mut ws, term, memory, spare);
@@ -119,7 +119,7 @@ fn run_long(
     spare: &mut [u8],
 ) -> Totals
     requires { ⌜ (length (now t) ≤ 65535) × (c ≤ 1024) × (getD (now tb) 17 0 ≤ 64) × (getD (now tb) 210 0 ≤ 16) ⌝ }
-    ensures { λ r. ⌜ RunsMain (now (numbers .entry)) (now (t .entry)) (now (tb .entry)) (now (dir .entry)) c reach 8192 (now (term .entry)) (now (memory .entry)) (now (spare .entry)) r (now (term .exit)) (now (memory .exit)) ⌝ }
+    ensures { λ r. ⌜ RunsMain (now (numbers .entry)) (now (t .entry)) (now (tb .entry)) (now (dir .entry)) c reach 8192 (now (term .entry)) (now (memory .entry)) (now (spare .entry)) r (now (term .exit)) (now (memory .exit)) (now (spare .exit)) ⌝ }
 {
     let mut ws = [0u16; 8192];
     let r = run_words(numbers, t, tb, dir, c, reach, &mut ws, term, memory, spare);
@@ -139,7 +139,7 @@ pub fn run_main(
     spare: &mut [u8],
 ) -> Totals
     requires { ⌜ (length (now t) ≤ 65535) × (c ≤ 1024) × (getD (now tb) 17 0 ≤ 64) × (getD (now tb) 210 0 ≤ 16) ⌝ }
-    ensures { λ r. ⌜ RunsMain (now (numbers .entry)) (now (t .entry)) (now (tb .entry)) (now (dir .entry)) c reach 8192 (now (term .entry)) (now (memory .entry)) (now (spare .entry)) r (now (term .exit)) (now (memory .exit)) ⌝ }
+    ensures { λ r. ⌜ RunsMain (now (numbers .entry)) (now (t .entry)) (now (tb .entry)) (now (dir .entry)) c reach 8192 (now (term .entry)) (now (memory .entry)) (now (spare .entry)) r (now (term .exit)) (now (memory .exit)) (now (spare .exit)) ⌝ }
 {
     if reach <= 256 {
         return run_short(numbers, t, tb, dir, c, reach, term, memory, spare);

@@ -9,7 +9,7 @@ use Rattle.runs.proofs.run_moves.Statement.{statement}
 use Rattle.runs.proofs.run_moves.Tie as tie
 
 abbrev Inv-loop : tie.InvT-loop
-Inv-loop numbers t dir w functions c n ws₀ m₀ out₀ tally₀ count i₀ ws m out tally i = (i ≤ count) × (count ≡ length numbers / 2) × (total tally ≡ i) × (length ws ≡ length ws₀) × (length m ≡ length m₀) × (length out ≡ length out₀) × Running-to numbers t dir w functions c n ws₀ m₀ out₀ i ws m tally
+Inv-loop numbers t dir w functions c n ws₀ m₀ out₀ tally₀ count i₀ ws m out tally i = (i ≤ count) × (count ≡ length numbers / 2) × (total tally ≡ i) × (length ws ≡ length ws₀) × (length m ≡ length m₀) × (length out ≡ length out₀) × Running-to numbers t dir w functions c n ws₀ m₀ out₀ i ws m out tally
 
 abbrev μ-loop : tie.MeasureT-loop
 μ-loop numbers t dir w functions c n ws₀ m₀ out₀ tally₀ count i₀ ws m out tally i = count - i
