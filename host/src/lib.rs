@@ -16,6 +16,7 @@ pub mod guarded;
 pub mod listing;
 pub mod met;
 pub mod plain;
+pub mod plot;
 pub mod rules;
 pub mod unfold;
 
@@ -124,8 +125,13 @@ pub fn words_of(bytes: &[u8]) -> Vec<u16> {
 /// Does the work on a stack of 256 MiB. A stream can nest 16,250 deep, and the trees here are built,
 /// spelled and dropped by recursion; the 2 MiB of a test's thread are not enough for that.
 pub fn on_large_stack<T: Send>(work: impl FnOnce() -> T + Send) -> T {
+    on_stack_of(256 << 20, work)
+}
+
+/// Does the work on a stack of so many bytes. Memory is only taken as far down as the stack is used.
+pub fn on_stack_of<T: Send>(bytes: usize, work: impl FnOnce() -> T + Send) -> T {
     std::thread::scope(|scope| {
-        let thread = std::thread::Builder::new().stack_size(256 << 20).spawn_scoped(scope, work);
+        let thread = std::thread::Builder::new().stack_size(bytes).spawn_scoped(scope, work);
         thread
             .expect("a thread with a large stack")
             .join()

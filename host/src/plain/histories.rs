@@ -45,8 +45,11 @@ pub struct Move {
 /// A value: undefined is none.
 type Value = Option<u16>;
 
-/// Values over one history, as far as they have been asked for, by function and element.
-type Known = Vec<Vec<Option<Value>>>;
+/// A value, and the age in which it was found.
+type Known = (u32, Value);
+
+/// Of an age before all others.
+const NOT_FOUND: Known = (0, None);
 
 /// The machine: a term, the list T, three counts.
 pub struct Machine<'a> {
@@ -54,8 +57,13 @@ pub struct Machine<'a> {
     pub term: Rc<Tree>,
     pub history: Vec<Event>,
     pub tally: Tally,
-    /// One for the empty history, then one for each event.
+    /// What has been found: values over the empty history by function and element, then those over the
+    /// first event, over the first two, and so on.
     known: RefCell<Vec<Known>>,
+    /// Where each function's values begin among those over one history, and where they end.
+    places: Vec<usize>,
+    /// What was found in another age is not known any more.
+    age: u32,
 }
 
 /// Run, by the history machine: the same answer and the same bytes.
@@ -97,8 +105,20 @@ impl<'a> Machine<'a> {
     /// At first main's unfolding, the empty list and zeros. The rule set is an admitted one.
     pub fn new(rules: &'a RuleSet) -> Machine<'a> {
         let main = unfold::main_of(rules, MOST_REACH as usize).expect("main's size is below the reach limit");
-        let known = RefCell::new(vec![unknown(rules)]);
-        Machine { rules, term: shared(&main), history: Vec::new(), tally: Tally::default(), known }
+        let mut places = vec![0];
+        for function in &rules.functions {
+            places.push(places[places.len() - 1] + usize::from(rules.domains[usize::from(function.domain)]));
+        }
+        let known = RefCell::new(vec![NOT_FOUND; places[places.len() - 1]]);
+        Machine {
+            rules,
+            term: shared(&main),
+            history: Vec::new(),
+            tally: Tally::default(),
+            known,
+            places,
+            age: 1,
+        }
     }
 
     /// Puts a running term of the rule set, any one, in the place of the machine's; T and the counts stay.
@@ -120,7 +140,7 @@ impl<'a> Machine<'a> {
         match step.event {
             Some(event) => {
                 self.history.push(event);
-                self.known.borrow_mut().push(unknown(self.rules));
+                self.make_room(self.history.len());
                 self.tally.visible += 1;
             }
             None => self.tally.internal += 1,
@@ -131,7 +151,12 @@ impl<'a> Machine<'a> {
     pub fn undo(&mut self, (term, events): (Rc<Tree>, usize)) {
         self.term = term;
         self.history.truncate(events);
-        self.known.borrow_mut().truncate(1 + events);
+        self.make_room(events);
+    }
+
+    /// Forgets every value that has been found; the next ones are found from T alone.
+    pub fn forget(&mut self) {
+        self.age += 1;
     }
 
     /// Its moves: those of its term, with guards reading values over T.
@@ -150,17 +175,33 @@ impl<'a> Machine<'a> {
         values.map(|(function, element)| self.value(length, function, element).unwrap_or(65535)).collect()
     }
 
+    /// Room for what is found over so many events at most; of values over more events nothing is known.
+    fn make_room(&mut self, events: usize) {
+        let room = (1 + events) * self.per_history();
+        self.known.borrow_mut().resize(room, NOT_FOUND);
+    }
+
     /// The function's value over the first so many events of T.
     fn value(&self, length: usize, function: u16, element: u16) -> Value {
-        let (f, e) = (usize::from(function), usize::from(element));
-        let known = self.known.borrow()[length][f].get(e).copied();
+        let (first, end) = (self.places[usize::from(function)], self.places[usize::from(function) + 1]);
+        let place = first + usize::from(element);
         // Outside the domain there is no value.
-        let known = known?;
-        known.unwrap_or_else(|| {
-            let found = self.found(length, function, element);
-            self.known.borrow_mut()[length][f][e] = Some(found);
-            found
-        })
+        if place >= end {
+            return None;
+        }
+        let place = length * self.per_history() + place;
+        let (age, value) = self.known.borrow()[place];
+        if age == self.age {
+            return value;
+        }
+        let found = self.found(length, function, element);
+        self.known.borrow_mut()[place] = (self.age, found);
+        found
+    }
+
+    /// The number of values over one history.
+    fn per_history(&self) -> usize {
+        self.places[self.rules.functions.len()]
     }
 
     fn found(&self, length: usize, function: u16, element: u16) -> Value {
@@ -169,8 +210,11 @@ impl<'a> Machine<'a> {
             return self.data(&function.at_start, 0, &[element]);
         }
         let last = &self.history[length - 1];
-        let variables = [&[element], &last.arguments[..]].concat();
-        self.data(&function.at_label[usize::from(last.label)], length, &variables)
+        // A label has two parameters at most.
+        let mut variables = [element, 0, 0];
+        variables[1..1 + last.arguments.len()].copy_from_slice(&last.arguments);
+        let variables = &variables[..1 + last.arguments.len()];
+        self.data(&function.at_label[usize::from(last.label)], length, variables)
     }
 
     fn data(&self, data: &Data, length: usize, variables: &[u16]) -> Value {
@@ -253,12 +297,6 @@ impl<'a> Machine<'a> {
         }
         moves
     }
-}
-
-/// Nothing found yet: an entry for each function and element.
-fn unknown(rules: &RuleSet) -> Known {
-    let elements = |domain: u16| usize::from(rules.domains[usize::from(domain)]);
-    rules.functions.iter().map(|function| vec![None; elements(function.domain)]).collect()
 }
 
 fn to_done(event: Option<Event>) -> Move {
