@@ -22,6 +22,7 @@
  *   Stack       EB3_STACK_BYTES free at the call.
  *   Terms       A given term comes with its exact length, EB3_TERM_BYTES(size), for the size that
  *               was answered when it was written; not with the length of the buffer it lies in.
+ *   Machine     Addresses of 64 bits (this header refuses to compile for others).
  *   Linking     The library calls memcpy and memset, and nothing else: no heap, no files.
  * Nothing else is asked: whatever the bytes and numbers are, the call returns, and answers as said
  * below.
@@ -31,7 +32,7 @@
  *               threads may call at the same time, each with slices of its own to write to; and the
  *               rules, the term, its size and the memory are all that must outlive a power cut.
  *   Answers     `refusal` is EB3_DONE, or the number of a refusal: then the other fields are 0 and
- *               no slice was written. (The spare slices of eb3_run may hold anything after a call.)
+ *               no slice was written, the spare ones of eb3_run included.
  *   Room        Buffers of the sizes that eb3_admit reports are enough for every term and memory
  *               that moves lead to from the start: no move enlarges what a term needs.
  *   Bytes       Words and cells are 16 bits, the low byte first. Bytes behind what an operation
@@ -43,6 +44,10 @@
 
 #include <stddef.h>
 #include <stdint.h>
+
+#if UINTPTR_MAX < 0xffffffffffffffff
+#error "eb3.h: the engine needs addresses of 64 bits"
+#endif
 
 #ifdef __cplusplus
 extern "C" {
@@ -169,7 +174,7 @@ eb3_moved eb3_present(const uint8_t *rules, size_t rules_len,
  * in order, from the start. A number that is not below the count changes nothing and is counted in
  * `refused`. Writes the last term to the front of `term`, with zeros from its size up to the
  * reported reach, and all cells to the front of `memory`. `spare_term` and `spare_memory` are
- * scratch, and may hold anything afterwards. All four have room for the reported reach and cells,
+ * scratch: their words may be anything afterwards. All four have room for the reported reach and cells,
  * else refusal 9. Refusals 1 to 8, 9. */
 eb3_ran eb3_run(const uint8_t *rules, size_t rules_len,
                 const uint8_t *numbers, size_t numbers_len,
