@@ -64,6 +64,14 @@ pub record Demand-1-order (rules numbers term memory event next-term next-memory
       → (term-fits (reach (R .width) E) next-term && (memory-fits R memory && memory-fits R next-memory)) ≡ false
       → (move rules term memory k next-term next-memory ≡ unwritten next-term next-memory Refusal.space)
       × ((ρ : Action) → event-in R event ≡ answered ρ → present rules term memory event next-term next-memory ≡ unwritten next-term next-memory Refusal.space)
+  -- Start, Count and Run have no test behind space: where a buffer is short, that is what they say.
+  pub start-short : (R : RuleSet) → admission edition-1 rules ≡ answered R → (term-fits (main-reach R) term && memory-fits R memory) ≡ false
+      → start rules term memory ≡ unwritten term memory Refusal.space
+  pub count-short : (R : RuleSet) (E : Term) → admission edition-1 rules ≡ answered R → term-in edition-1 R term ≡ answered E → memory-fits R memory ≡ false
+      → count rules term memory ≡ refused Refusal.space
+  pub run-short : (R : RuleSet) → admission edition-1 rules ≡ answered R
+      → ((term-fits (main-reach R) term && memory-fits R memory) && (term-fits (main-reach R) spare-term && memory-fits R spare-memory)) ≡ false
+      → run rules numbers term memory spare-term spare-memory ≡ unwritten term memory Refusal.space
 
 -- An admitted rule set never lacks space in buffers of the reported sizes; a move from any given term never does in buffers of that term's G.
 pub record Demand-1-space (rules : List ℕ) (S : Sizes) : Type 0 where
@@ -78,7 +86,7 @@ pub record Demand-1-space (rules : List ℕ) (S : Sizes) : Type 0 where
       → term-in edition-1 R term ≡ answered E → reach (R .width) E ≤ word-count next-term → S .cells ≤ cell-room memory → S .cells ≤ cell-room next-memory
       → present rules term memory event next-term next-memory .answer ≡ refused Refusal.space → ⊥
   -- What is reported is within the limits, and the start term is no larger than its reach.
-  pub limits-kept : (S .reach ≤ 8192) × (S .breadth ≤ 65535) × (S .size ≤ S .reach)
+  pub limits-kept : (S .reach ≤ 8192) × (S .breadth ≤ 65535) × (S .size ≤ S .reach) × (S .cells ≤ 1024)
 
 -- Demand 2, of Count and Move on any rule set admitted, any term given and any memory: the moves are exactly the derivations of the memory semantics
 -- from the given term and cells, one to one, in order.
@@ -176,3 +184,26 @@ module _ (rules numbers term memory spare-term spare-memory : List ℕ) (S : Siz
         → move rules (cut (size (R .width) (last-term R h)) (after .term)) (after .memory) k next-term next-memory ≡ move-result R h x next-term next-memory
     pub move-refuses : (k : ℕ) → length (history-moves R h) ≤ k → (next-term next-memory : List ℕ) → Roomy S next-term next-memory
         → move rules (cut (size (R .width) (last-term R h)) (after .term)) (after .memory) k next-term next-memory ≡ unwritten next-term next-memory Refusal.not-offered
+
+-- ── what is proved, with all that it asks ──
+
+abbrev pub Refusals-hold : Type 0
+Refusals-hold = (rules numbers term memory event next-term next-memory spare-term spare-memory : List ℕ) (k : ℕ)
+    → Demand-1-refusals rules numbers term memory event next-term next-memory spare-term spare-memory k
+
+abbrev pub Order-holds : Type 0
+Order-holds = (rules numbers term memory event next-term next-memory spare-term spare-memory : List ℕ) (k : ℕ)
+    → Demand-1-order rules numbers term memory event next-term next-memory spare-term spare-memory k
+
+abbrev pub Space-holds : Type 0
+Space-holds = (rules : List ℕ) (S : Sizes) → admit rules ≡ answered S → Demand-1-space rules S
+
+-- Of every term that is given, and every memory that has the cells.
+abbrev pub Demand-2-holds : Type 0
+Demand-2-holds = (rules term memory : List ℕ) (R : RuleSet) (E : Term) → admission edition-1 rules ≡ answered R → term-in edition-1 R term ≡ answered E
+    → cells-needed R ≤ cell-room memory → Demand-2 rules term memory R E
+
+-- For all bytes, lists of numbers and buffers, if admit answers sizes and the buffers have them.
+abbrev pub Demand-3-holds : Type 0
+Demand-3-holds = (rules numbers term memory spare-term spare-memory : List ℕ) (S : Sizes) → admit rules ≡ answered S → Roomy S term memory → Roomy S spare-term spare-memory
+    → Demand-3 rules numbers term memory spare-term spare-memory S

@@ -50,7 +50,7 @@ cabinet-file = file-of edition-1 cabinet
 abbrev words-file : List ℕ → List ℕ
 words-file ws = blocks-from 0 1 (bytes-of (ws ++ replicate (254 - length ws) 0))
 
--- A rule set of two labels without parameters over one domain, main being one term.
+-- A rule set of two labels, the second with a parameter, over one domain, main being one term.
 abbrev main-alone : ℕ → RuleTerm → RuleSet
 main-alone elements E = record {
   top = 65534;

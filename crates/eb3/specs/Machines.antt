@@ -17,6 +17,8 @@ use Rattle.eb3.specs.Laws.Semantics.{demand-2}
 abbrev pub machine : DataState → Type 0
 machine S = Configuration (system S)
 
+-- A derivation's number is its place in the list of moves. (The one-to-one correspondence in order is unique, so it matters not that its value is
+-- taken from the law that gives it.)
 abbrev pub number-of : (S : DataState) (s : Situation S) → Derivation S (s .state) (s .term) → ℕ
 number-of S s d = demand-2 S s .numbers .fun d .0
 

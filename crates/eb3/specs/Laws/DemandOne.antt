@@ -13,6 +13,7 @@ use Rattle.eb3.specs.Terms.{Term, Action}
 use Rattle.eb3.specs.Moves.{Move}
 use Rattle.eb3.specs.Sizes.{size, reach, breadth}
 use Rattle.eb3.specs.Laws.Sizes.{size-below-reach}
+use Rattle.eb3.specs.Laws.CellCounts.{cells-below}
 use Rattle.eb3.specs.Limits.{edition-1}
 use Rattle.eb3.specs.RuleSets.{RuleSet}
 use Rattle.eb3.specs.Unfolding.{unfold-main}
@@ -28,7 +29,7 @@ use Rattle.eb3.specs.Laws.Refusals.{Within, and-then-within, admission-w
 use Rattle.eb3.specs.Admission.{admission}
 use Rattle.eb3.specs.Laws.Admission.{admitted}
 use Rattle.eb3.specs.Operations.{cells-needed, main-reach, sizes-needed, term-fits, memory-fits, or-refused, even, term-in, event-in, listed, writing, admit-in, started, start-in, count-in, moved, chosen, at-first, move-in, present-in, ran, run-in, admit, start, count, move, present, run}
-use Rattle.eb3.specs.Demands.{Roomy, RefusedAs, Demand-1-refusals, Demand-1-space}
+use Rattle.eb3.specs.Demands.{Roomy, RefusedAs, Refusals-hold, Space-holds}
 use Rattle.eb3.specs.Laws.DemandThree.{admit-reports, fits}
 
 -- ── refusals ──
@@ -138,8 +139,7 @@ module _ (rules term memory : List ℕ) (k : ℕ) (next-term next-memory : List 
   move-none = writing-none next-term next-memory (admission edition-1 rules) _ (from-within 1 8 (omega arith) (admission edition-1 rules) (admission-within edition-1 rules)) (λ R.
       writing-none next-term next-memory (term-in edition-1 R term) _ (from-within 10 10 (omega arith) (term-in edition-1 R term) (term-within R term)) (λ E. chosen-none R E))
 
-pub refusals : (rules numbers term memory event next-term next-memory spare-term spare-memory : List ℕ) (k : ℕ)
-    → Demand-1-refusals rules numbers term memory event next-term next-memory spare-term spare-memory k
+pub refusals : Refusals-hold
 refusals rules numbers term memory event next-term next-memory spare-term spare-memory k = record {
   admit-refused = refused-within 1 8 (admit rules) (admit-within rules);
   start-refused = start-as rules term memory;
@@ -232,11 +232,11 @@ module _ (rules : List ℕ) (S : Sizes) (R : RuleSet) (a : admission edition-1 r
         go (refused k) w f = not-space {X = Moved} k (λ p. omega (arith, w .0)) f
         go (answered ρ) w f = chosen-roomy E memory next-term next-memory (at-first ρ) room₁ room₂ room₃ f
 
-  limits-reported : (S .reach ≤ 8192) × (S .breadth ≤ 65535) × (S .size ≤ S .reach)
+  limits-reported : (S .reach ≤ 8192) × (S .breadth ≤ 65535) × (S .size ≤ S .reach) × (S .cells ≤ 1024)
   limits-reported = let w : WellFormed edition-1 R = admitted edition-1 (omega arith) (omega arith) rules R a .0 in
-      subst (λ (x : Sizes). (x .reach ≤ 8192) × (x .breadth ≤ 65535) × (x .size ≤ x .reach)) s (w .reach-limit, w .breadth-limit, size-below-reach (R .width) (unfold-main R))
+      subst (λ (x : Sizes). (x .reach ≤ 8192) × (x .breadth ≤ 65535) × (x .size ≤ x .reach) × (x .cells ≤ 1024)) s (w .reach-limit, w .breadth-limit, size-below-reach (R .width) (unfold-main R), cells-below R (w .form))
 
-pub space : (rules : List ℕ) (S : Sizes) → admit rules ≡ answered S → Demand-1-space rules S
+pub space : Space-holds
 space rules S e =
     let p = admit-reports rules S e in
     record {

@@ -43,7 +43,7 @@ use Rattle.eb3.specs.Admission.{admission}
 use Rattle.eb3.specs.Laws.Admission.{admitted}
 use Rattle.eb3.specs.Operations.{cells-needed, main-reach, sizes-needed, term-fits, memory-fits, or-refused, term-in, cells-given, listed, writing, admit-in, started, start-in, count-in, moved, chosen, move-in, ran, run-in, admit, start, count, move, run}
 use Rattle.eb3.specs.Laws.Operations.{cut-back, values-back}
-use Rattle.eb3.specs.Demands.{Roomy, last-term, last-trace, history-moves, values-words, run-result, move-result, cut, after, Demand-3}
+use Rattle.eb3.specs.Demands.{Roomy, last-term, last-trace, history-moves, values-words, run-result, move-result, cut, after, Demand-3, Demand-3-holds}
 
 -- What an admission reports is what its rule set needs.
 pub admit-reports : (rules : List ℕ) (S : Sizes) → admit rules ≡ answered S → (R : RuleSet) × (admission edition-1 rules ≡ answered R) × (sizes-needed R ≡ S)
@@ -183,9 +183,7 @@ module _ (rules : List ℕ) (S : Sizes) (R : RuleSet) (a : admission edition-1 r
           ∙ moves-are k none (beyond-none (history-moves R h) k l) next-term next-memory r;
     }
 
--- For all bytes, lists of numbers and buffers, if admit answers sizes and the buffers have them.
-pub demand-3 : (rules numbers term memory spare-term spare-memory : List ℕ) (S : Sizes) → admit rules ≡ answered S → Roomy S term memory → Roomy S spare-term spare-memory
-    → Demand-3 rules numbers term memory spare-term spare-memory S
+pub demand-3 : Demand-3-holds
 demand-3 rules numbers term memory spare-term spare-memory S e room spare =
     let p = admit-reports rules S e in
     agreed rules S (p .0) (p .1) (p .2) numbers term memory spare-term spare-memory room spare

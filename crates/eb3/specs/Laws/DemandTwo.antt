@@ -29,7 +29,7 @@ use Rattle.eb3.specs.Memory.{cell-room, memory-words}
 use Rattle.eb3.specs.Answers.{Answer, refused, answered, and-then, Moved, Written, unwritten}
 use Rattle.eb3.specs.Admission.{admission}
 use Rattle.eb3.specs.Operations.{cells-needed, term-fits, memory-fits, or-refused, term-in, event-in, cells-given, listed, numbered, at-first, writing, count-in, moved, chosen, move-in, present-in, count, move, present}
-use Rattle.eb3.specs.Demands.{cells-now, derived-result, Demand-2}
+use Rattle.eb3.specs.Demands.{cells-now, derived-result, Demand-2, Demand-2-holds}
 
 module _ (rules term memory : List ℕ) (R : RuleSet) (E : Term) (a : admission edition-1 rules ≡ answered R) (given : term-in edition-1 R term ≡ answered E) where
   -- Past the tests of the rule set and the term.
@@ -91,8 +91,8 @@ module _ (rules term memory : List ℕ) (R : RuleSet) (E : Term) (a : admission 
         let u = getElem?-unmap (transition (Sem-M (attributes R)) (cells-given edition-1 R memory)) (listed edition-1 R E memory) k (concluded d) e in
         move-at k (some (u .0)) (u .1) next-term next-memory r₁ r₂ ∙ ap (λ x. shown x next-term next-memory) (u .2)
 
-    pub demand-2-operations : Demand-2 rules term memory R E
-    demand-2-operations = record {
+    listed-derived : Demand-2 rules term memory R E
+    listed-derived = record {
       moves-listed = length (listed edition-1 R E memory);
       counted = count-at;
       derivations = demand-2-memory (attributes R) (cells-given edition-1 R memory) E;
@@ -103,3 +103,6 @@ module _ (rules term memory : List ℕ) (R : RuleSet) (E : Term) (a : admission 
       presented = λ ρ event e k f. presented ρ event e (some k) f k refl;
       not-presented = λ ρ event e f. presented ρ event e none f (length (listed edition-1 R E memory)) (sym (beyond-none (listed edition-1 R E memory) (length (listed edition-1 R E memory)) (omega arith)));
     }
+
+pub demand-2-operations : Demand-2-holds
+demand-2-operations = listed-derived

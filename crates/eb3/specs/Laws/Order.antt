@@ -15,7 +15,7 @@ use Rattle.eb3.specs.Reading.{pick}
 use Rattle.eb3.specs.Answers.{Answer, refused, answered, and-then, Written, unwritten}
 use Rattle.eb3.specs.Admission.{admission}
 use Rattle.eb3.specs.Operations.{main-reach, sizes-needed, term-fits, memory-fits, term-in, event-in, listed, writing, or-refused, at-first, started, moved, chosen, ran, admit-in, start-in, count-in, move-in, present-in, run-in, admit, start, count, move, present, run}
-use Rattle.eb3.specs.Demands.{Demand-1-order}
+use Rattle.eb3.specs.Demands.{Demand-1-order, Order-holds}
 
 module _ (rules numbers term memory event next-term next-memory spare-term spare-memory : List ℕ) (k : ℕ) where
   -- What each operation does with the rule set, with the term, and with the event.
@@ -32,9 +32,9 @@ module _ (rules numbers term memory event next-term next-memory spare-term spare
       → chosen edition-1 R E memory next-term next-memory choose ≡ unwritten next-term next-memory Refusal.space
   without-room R E choose e = ap (λ b. pick b (writing next-term next-memory (or-refused Refusal.not-offered (choose (listed edition-1 R E memory))) (moved edition-1 R memory next-term next-memory)) (unwritten next-term next-memory Refusal.space)) e
 
-  pub order : Demand-1-order rules numbers term memory event next-term next-memory spare-term spare-memory k
+  ordered : Demand-1-order rules numbers term memory event next-term next-memory spare-term spare-memory k
   unfolding admit-in start-in count-in move-in present-in run-in and-then
-  order = record {
+  ordered = record {
     admission-first = λ j e. (
       ap (λ x. and-then x λ R. answered (sizes-needed R)) e,
       by-rules term memory _ (refused j) e,
@@ -54,4 +54,13 @@ module _ (rules numbers term memory event next-term next-memory spare-term spare
       by-rules next-term next-memory _ (answered R) a ∙ by-term R _ (answered E) t ∙ without-room R E (λ xs. getElem? xs k) e,
       λ ρ v. by-rules next-term next-memory _ (answered R) a ∙ by-term R _ (answered E) t ∙ by-event R _ (answered ρ) v ∙ without-room R E (at-first ρ) e,
     );
+    start-short = λ R a e. by-rules term memory _ (answered R) a ∙ ap (λ b. pick b (started edition-1 term memory R) (unwritten term memory Refusal.space)) e;
+    count-short = λ R E a t e.
+        ap (λ x. and-then x λ R. and-then (term-in edition-1 R term) λ E. pick (memory-fits R memory) (answered (length (listed edition-1 R E memory))) (refused Refusal.space)) a
+        ∙ (ap (λ x. and-then x λ E. pick (memory-fits R memory) (answered (length (listed edition-1 R E memory))) (refused Refusal.space)) t
+        ∙ ap (λ b. pick b (answered (length (listed edition-1 R E memory))) (refused Refusal.space)) e);
+    run-short = λ R a e. by-rules term memory _ (answered R) a ∙ ap (λ b. pick b (ran edition-1 numbers term memory R) (unwritten term memory Refusal.space)) e;
   }
+
+pub order : Order-holds
+order = ordered
