@@ -99,7 +99,7 @@ typedef struct {
     uint32_t refusal;
     uint32_t cells;   /* cells of a memory: EB3_MEMORY_BYTES(cells) */
     uint32_t reach;   /* words that a term buffer needs: EB3_TERM_BYTES(reach) */
-    uint32_t breadth; /* there are never more moves than this */
+    uint32_t breadth; /* no term that moves lead to from the start has more moves */
     uint32_t size;    /* words of the start term */
 } eb3_sizes;
 
