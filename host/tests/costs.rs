@@ -44,7 +44,7 @@ fn terms() -> Vec<(&'static str, Vec<u16>)> {
         ("masks, done on the left", nested(1300, &[ON_BRING, DONE], TAKE, &[])),
         ("masks, done on the right", nested(1300, &[ON_BRING], TAKE, DONE)),
         ("masks, guarded, a choice of dones on the right", nested(700, &[ON_BRING, guarded], TAKE, &[23, 30, 30])),
-        ("15 masks with a move on both sides around guards", {
+        ("14 masks with a move on both sides around guards", {
             nested(14, &[ON_BRING, TAKE], &nested(3800, &[guarded], TAKE, &[]), &[])
         }),
         ("choices to the left", nested(4000, &[&[23]], &[20], &[20])),
