@@ -8,6 +8,10 @@ pub mod CellLaws
 pub mod Reads
 pub mod Turns
 pub mod TurnLaws
+pub mod Frames
+pub mod FrontLaws
+pub mod FrameLaws
+pub mod FramingLaws
 pub mod PreparingLaws
 pub mod MemoryLaws
 pub mod Readying

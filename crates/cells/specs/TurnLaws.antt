@@ -52,7 +52,7 @@ module _ (M M′ : List ℕ) (at g : ℕ) (sizes : stored M′ (row-place g) ≡
       ∙ apply-cong (stored M (row-place g) ∷ []) _ _
       (λ xs w. ap (decode 65534) (ap (λ i. stored M′ (at + (i + getD xs 0 0))) begins ∙ cells (at + (stored M (row-place g + 1) + getD xs 0 0)) (omega arith))) vs
 
-decode-small : (x : ℕ) → x ≤ 65534 → decode 65534 x ≡ number x
+pub decode-small : (x : ℕ) → x ≤ 65534 → decode 65534 x ≡ number x
 unfolding encode
 decode-small x h = decode-encode 65534 65535 (lit< tt) (number x) h
 
@@ -62,8 +62,8 @@ scope-variables : (x : ℕ) (o : Option VisibleAction) → variables-in-scope (x
 scope-variables x none = refl
 scope-variables x (some a) = refl
 
--- Where x cells of function f are new, and x is stored as its parameter.
-module _ {t : List ℕ} {f left : ℕ} (T : Turn t f left) (M′ : List ℕ) (x : ℕ) (reached : Reached T M′ x) (element : x < stored (T .M) (row-place f)) where
+-- Where some cells of function f are new, y of them, and x is stored as its parameter.
+module _ {t : List ℕ} {f left : ℕ} (T : Turn t f left) (M′ : List ℕ) (x y : ℕ) (reached : Reached T M′ y) (element : x < stored (T .M) (row-place f)) where
   abbrev here : Ready (T .A) (T .o) (T .b) t (T .D) (T .M) (T .w) (T .j) f
   here = T .filling .ready f (T .known)
 
@@ -136,7 +136,7 @@ module _ {t : List ℕ} {f left : ℕ} (T : Turn t f left) (M′ : List ℕ) (x 
   within : Within (domain (T .A) f) (x ∷ [])
   within = subst (λ ns. Within ns (x ∷ [])) (sym (T .filling .laid f defined .one-parameter)) (element, tt)
 
-  turn-value : evaluate-data (expression (function (T .A) f) (T .o)) (environment-in M″) ≡ getD all (offset (T .A) f + x) undefined
+  pub turn-value : evaluate-data (expression (function (T .A) f) (T .o)) (environment-in M″) ≡ getD all (offset (T .A) f + x) undefined
   unfolding evaluate
   turn-value =
       data-agrees (here .scope) _ _ agreeing (expression (function (T .A) f) (T .o)) (here .in-scope)
@@ -144,7 +144,7 @@ module _ {t : List ℕ} {f left : ℕ} (T : Turn t f left) (M′ : List ℕ) (x 
       ∙ renewed (T .A) (T .o) (T .b) (number-of-functions (T .A)) f (x ∷ []) new defined within (here .scope) (here .names-below) (here .in-scope) (λ c l. refl)
       ∙ ap (λ i. getD all (offset (T .A) f + i) undefined) (row-index (T .A) (T .M) f (T .filling .laid f defined) x)
 
-  value-small : AtMost 65534 (getD all (offset (T .A) f + x) undefined)
+  pub value-small : AtMost 65534 (getD all (offset (T .A) f + x) undefined)
   value-small = subst (AtMost 65534) turn-value (data-at-most M″ (here .scope) (here .plain) (expression (function (T .A) f) (T .o)) (here .in-scope))
 
 -- ── one cell more ──
@@ -157,16 +157,16 @@ module _ {t : List ℕ} {f left : ℕ} (T : Turn t f left) (m : List ℕ) (enter
   row-here : RowLaid (T .A) (T .M) f
   row-here = T .filling .laid f (subst (λ n. f < n) (T .filling .functions) (T .known))
 
-  size-here : k ≡ stored (T .M) (4 + 2 * f)
+  pub size-here : k ≡ stored (T .M) (4 + 2 * f)
   size-here = let h = below-16 in is-k ∙ entered .kept-below (4 + 2 * f) (omega arith) (omega arith)
 
-  begin-here : p ≡ offset (T .A) f
+  pub begin-here : p ≡ offset (T .A) f
   begin-here = let h = below-16 in is-p ∙ entered .kept-below (4 + 2 * f + 1) (omega arith) (omega arith) ∙ row-here .begins
 
-  count-here : cell-count (domain (T .A) f) ≡ k
+  pub count-here : cell-count (domain (T .A) f) ≡ k
   count-here = row-cells (T .A) (T .M) f row-here ∙ sym size-here
 
-  cells-here : offset (T .A) f + k ≤ total-cells (T .A)
+  pub cells-here : offset (T .A) f + k ≤ total-cells (T .A)
   cells-here = let h = cells-below (T .A) f (number-of-functions (T .A)) (subst (λ n. f < n) (T .filling .functions) (T .known)) in omega (arith, count-here)
 
   pub turn-room : 36 + p + k ≤ length m
@@ -189,7 +189,7 @@ module _ {t : List ℕ} {f left : ℕ} (T : Turn t f left) (m : List ℕ) (enter
 
     word-here : r % 65536 ≡ encode 65535 (getD (cells-up-to (T .A) (T .o) (T .b) (number-of-functions (T .A))) (offset (T .A) f + x) undefined)
     word-here = data-parted s (set M′ 0 x) r (ready .scope) (ready .stands .0) evaluated (expression (function (T .A) f) (T .o)) data-here .word
-        ∙ ap (encode 65535) (turn-value T M′ x reached element-here)
+        ∙ ap (encode 65535) (turn-value T M′ x x reached element-here)
 
     abbrev M‴ : List ℕ
     M‴ = set (set M′ 0 x) (36 + p + x) (r % 65536)
@@ -208,7 +208,7 @@ module _ {t : List ℕ} {f left : ℕ} (T : Turn t f left) (m : List ℕ) (enter
         let w : 36 + p + x < length (set M′ 0 x) = omega (arith, turn-room, length-set M′ 0 x, reached .same-length, entered .same-length) in (
           ap (stored M‴) q ∙ stored-there (set M′ 0 x) (36 + p + x) (r % 65536) w ∙ word-here
               ∙ ap (λ i. encode 65535 (getD (cells-up-to (T .A) (T .o) (T .b) (number-of-functions (T .A))) i undefined)) (sym e),
-          subst (λ i. AtMost 65534 (getD (cells-up-to (T .A) (T .o) (T .b) (number-of-functions (T .A))) i undefined)) (sym e) (value-small T M′ x reached element-here),
+          subst (λ i. AtMost 65534 (getD (cells-up-to (T .A) (T .o) (T .b) (number-of-functions (T .A))) i undefined)) (sym e) (value-small T M′ x x reached element-here),
         )
     cell-here c l (no n) =
         let q : c < offset (T .A) f + x = omega arith in

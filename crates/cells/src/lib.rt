@@ -8,36 +8,14 @@ ghost use Rattle.eb3.specs.Expressions.{Reading};
 ghost use Rattle.eb3.specs.Terms.{VisibleAction};
 ghost use Rattle.eb3.specs.Attributes.{Attributes};
 ghost use Rattle.cells.specs.Filling.{Filling, Filled};
-ghost use Rattle.cells.specs.Turns.{FunctionFilled};
 ghost use Rattle.cells.specs.Preparing.{Prepared, ready-word, Loaded, Saved};
 ghost use Rattle.cells.specs.PreparingLaws.{Loading, Cleared};
 use arguments::entry;
 use arguments::wide32;
-use expressions::eval_data;
-use expressions::word;
-use scan::last;
+use framing::fill_function;
 use writing::put_words;
 
-// The cells of function f, by the expression where so many words of the stream are left.
-fn fill_function(t: &[u16], m: &mut [u16], f: usize, left: usize)
-    requires { ⌜ (length (now t) ≤ 65535) × (f < 16) ⌝ }
-    ensures { λ _. ⌜ (length (now (m .exit)) ≡ length (now (m .entry))) × FunctionFilled (now (t .entry)) f left (now (m .entry)) (now (m .exit)) ⌝ }
-{
-    let s = last(t, left);
-    let k = word(m, 4 + 2 * f);
-    let at = 36 + word(m, 4 + 2 * f + 1);
-    // never in a store that has room for all cells
-    if m.len() < at + k {
-        return;
-    }
-    let mut x = 0;
-    while x < k {
-        m[0] = x as u16;
-        let v = eval_data(s, m) % 65536;
-        m[at + x] = v as u16;
-        x = x + 1;
-    }
-}
+mod framing;
 
 // The cells of n functions, by the expressions in column j of the directory's rows of w words: function by function, element by
 // element. Word 0 of the store is the function's parameter, and changes.
