@@ -41,8 +41,8 @@ RowSkipped s n r = (r ≤ length s) × ((P : Scope) (Es : List Term) (rest : Lis
 operand-ends : {P : Scope} {E : Term} {t rest o : List ℕ} {a m : ℕ} {x y : List ℕ} {l : Built} (v : List ℕ) (n : ℕ) → TermAt t P E rest → Begun P t o rest a m x y l → l .ok ≡ true
     → v ≡ last-of (l .left) t → RowSkipped v (l .due) n → n ≡ length rest
 operand-ends v n i f ok e k =
-    let g = f .right ok in
-    k .1 _ (g .standing) _ (record { plain = i .plain; fit = g .standing-fit; spelled = e ∙ g .standing-there; closed = i .closed }) (g .due)
+    let g = f .stands ok in
+    k .1 _ (g .standing) _ (record { plain = i .plain; fit = g .fit; spelled = e ∙ g .there; closed = i .closed }) (g .due)
 
 -- ── leaves ──
 
@@ -146,11 +146,11 @@ module _ (s p t : List ℕ) (behind : t ≡ drop 1 s) where
         let f = m .begun P E (words 1 F ++ rest) w (subst (λ g. marked E g ≡ true) (sym on) (choice-left-marked p d E F j)) in
         subst (λ o. BegunOf P s o rest x z (record { ok = c .ok; action = c .action; words = c .words; left = left; due = 0; «path_left» = c .«path_left» }))
         (sym (choice-left-follows p d E F ∙ ap (follow E) (sym on)))
-        (begun-where l (f .has-room) (cl .before) (λ ok.
+        (begun-where l (f .going .has-room) (cl .before) (λ ok.
         let a : n ≡ length (words 1 F ++ rest) = operand-ends v n w f ok ve k in
         let at : last-of n t ≡ words 1 F ++ rest = behind-part (words 1 E) (words 1 F ++ rest) t n (w .spelled) a in
         let b : left ≡ length rest = sk .1 P F rest (subst (λ g. TermAt g P F rest) (sym (h ∙ at)) (second-of-choice s P rest E F i)) in
-        let g = cl .made P (built-words E q) (words 1 F ++ rest) x (action-code (follow E q .action)) (length (follow E q .rest)) (m .bounds .same-length) f at a in
+        let g = cl .made (built-words E q) (words 1 F ++ rest) x (action-code (follow E q .action)) (length (follow E q .rest)) (m .bounds .same-length) (f .going) at a in
         whole-begun left b (behind-part (words 1 (Choice E F)) rest s left (i .spelled) b) (made-left left g))))
 
 -- The right operand of a choice stands where the path says.
@@ -215,9 +215,9 @@ module _ (s p t q x : List ℕ) (behind : t ≡ drop 1 s) (on : q ≡ drop 1 p) 
       let m = length (follow E q .rest) in
       let f = B .begun (22 ∷ []) x 0 0 0 (W .bounds .same-length) (W .made) P E rest (operand P rest E i) (subst (λ g. marked E g ≡ true) (sym on) (round-marked p d E j)) in
       subst (λ y. BegunOf P s y rest x x4 r) (sym (round-follows p d E ∙ ap (λ y. within (λ G. Sequence G (Star E)) (follow E y)) (sym on)))
-      (begun-where l (λ room. f .has-room (omega (arith, room, length-append (built-words E q) (words 1 (Star E))))) (λ ok. C .before (A .right ok .before)) (λ ok.
+      (begun-where l (λ room. f .going .has-room (omega (arith, room, length-append (built-words E q) (words 1 (Star E))))) (λ ok. C .before (A .right ok .before)) (λ ok.
       let g : n ≡ length rest = operand-ends v n (operand P rest E i) f ok ve k in
-      let whole = C .made P (22 ∷ built-words E q) rest x a m s2 f (behind-part (words 1 E) rest t n (operand P rest E i .spelled) g) g in
+      let whole = C .made (22 ∷ built-words E q) rest x a m s2 (f .going) (behind-part (words 1 E) rest t n (operand P rest E i .spelled) g) g in
       let w : o ≡ words 1 (Star E) = again ∙ before-part (words 1 (Star E)) rest s n (i .spelled) g in
       let b = added-made (22 ∷ built-words E q) o x x3 x4 a n m c r s3 (omega (arith, C .bounds .size-bounded, C .bounds .same-length)) whole A in
       whole-begun n g (behind-part (words 1 (Star E)) rest s n (i .spelled) g) (subst (λ y. Made (22 ∷ (built-words E q ++ y)) a n m x x4 r) w b))))

@@ -8,3 +8,4 @@ mod Made
 mod Begun
 mod Cases
 mod Parallels
+mod Stays

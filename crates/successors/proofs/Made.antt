@@ -5,12 +5,11 @@ use mathlib.Core.List.{List, _++_, append-assoc}
 use Prim.Native.Nat.{ℕ, _+_, _-_, _*_, _≤_, _<_}
 use native.Mathlib.Omega.{arith}
 use lib.ListN.{length, take, drop, length-append, length-drop}
-use Rattle.eb3.specs.Scopes.{Scope}
 use Rattle.eb3.specs.Bytes.{written}
 use Rattle.scan.specs.Checking.{last-of}
 use Rattle.scan.specs.Laws.{part}
 use Rattle.writing.specs.Wrote.{Wrote}
-use Rattle.successors.specs.Parts.{Bounded, Unbuilt, Made, Whole, Added, Begun, with-right, Closed}
+use Rattle.successors.specs.Parts.{Bounded, Unbuilt, Made, Whole, Added, Going, with-right, Closed}
 use Rattle.successors.specs.declared.Built.{Built}
 use Rattle.successors.proofs.Ends.{last-split, between-length, same-before}
 use Rattle.successors.proofs.Writes.{never, had-room, room-there, written-behind, lent, back, back-rest, back-length}
@@ -135,7 +134,7 @@ module _ (t : List ℕ) (X : Built) (e : ℕ) (x : List ℕ) (inside : X .left �
   closed-none f h u = record {
     bounds = unbuilt-bounded e (X .«path_left») refl u;
     before = λ k. absurd (never k (u .ok));
-    made = λ P o rest b a m same B i j. unbuilt-made (λ k. let g : length rest ≤ X .left = B .right (B .has-room k) .behind in omega (arith, g, h, j)) u;
+    made = λ o rest b a m same B i j. unbuilt-made (λ k. let g : length rest ≤ X .left = B .right (B .has-room k) .behind in omega (arith, g, h, j)) u;
   }
 
   abbrev between : List ℕ
@@ -145,18 +144,18 @@ module _ (t : List ℕ) (X : Built) (e : ℕ) (x : List ℕ) (inside : X .left �
   closed y Y h A = record {
     bounds = record { same-length = A .bounds .same-length; left-bounded = omega arith; due-bounded = omega arith; path-bounded = A .bounds .path-bounded; size-bounded = A .bounds .size-bounded };
     before = λ k. A .right k .before;
-    made = λ P o rest b a m same B i j.
+    made = λ o rest b a m same B i j.
         let l : length between ≡ X .left - e = between-length t (X .left) e h inside in
         record {
           has-room = λ k.
               let ok : X .ok ≡ true = B .has-room k in
-              let q : o ≡ B .right ok .part ++ between = whole P o rest b a m B i ok in
+              let q : o ≡ B .right ok .part ++ between = whole o rest b a m B i ok in
               let s : X .words ≡ length (B .right ok .part) = B .right ok .size in
               A .has-room ok (omega (arith, s, ap length q, length-append (B .right ok .part) between, same));
           right = λ k.
               let g = A .right k in
               let f = B .right (g .before) in
-              let q : o ≡ f .part ++ between = whole P o rest b a m B i (g .before) in
+              let q : o ≡ f .part ++ between = whole o rest b a m B i (g .before) in
               let s : X .words ≡ length (f .part) = f .size in
               record {
                 action = g .action ∙ f .action;
@@ -169,8 +168,8 @@ module _ (t : List ℕ) (X : Built) (e : ℕ) (x : List ℕ) (inside : X .left �
         };
   }
     where
-      whole : (P : Scope) (o rest b : List ℕ) (a m : ℕ) (B : Begun P t o rest a m b x X) → last-of e t ≡ rest → (ok : X .ok ≡ true) → o ≡ B .right ok .part ++ between
-      whole P o rest b a m B i ok =
+      whole : (o rest b : List ℕ) (a m : ℕ) (B : Going t o rest a m b x X) → last-of e t ≡ rest → (ok : X .ok ≡ true) → o ≡ B .right ok .part ++ between
+      whole o rest b a m B i ok =
           let f = B .right ok in
           same-before o (f .part ++ between) rest
           (f .onward

@@ -25,6 +25,23 @@ use Rattle.successors.proofs.Made.{bounded-within, right-bounded, unbui
 use Rattle.successors.proofs.Begun.{begun-longer, whole-begun, by-parallel}
 use Rattle.successors.proofs.Cases.{Skipped}
 
+-- The right operand stands where the path says.
+module _ (s p : List ℕ) (n : ℕ) (is : n ≡ getD p 1 0) (P : Scope) (rest : List ℕ) (Δ : Mask) (E F : Term) (t : TermAt s P (Parallel Δ E F) rest) (k : getD p 1 0 ≡ size 1 E) where
+  left-size : n ≡ length (words 1 E)
+  left-size = is ∙ (k ∙ size-there P E (t .fits .1))
+
+  pub right-there : TermAt (drop (5 + n) s) P F rest
+  right-there =
+      subst (λ z. TermAt z P F rest) (sym (drop-past s 5 n (words 1 E) (words 1 F ++ rest) (parallel-first s P rest Δ E F t .spelled) left-size)) (second-of-parallel s P rest Δ E F t)
+
+  pub head-there : take (5 + n) s ≡ 25 ∷ (Δ ++ words 1 E)
+  head-there =
+      take-past s 5 n (words 1 E) (words 1 F ++ rest) (parallel-long s P rest Δ E F t) (parallel-first s P rest Δ E F t .spelled) left-size
+      ∙ ap (λ h. h ++ words 1 E) (parallel-head s P rest Δ E F t)
+
+  long : 5 + n ≤ length s
+  long = omega (arith, left-size, ap length (parallel-first s P rest Δ E F t .spelled), length-append (words 1 E) (words 1 F ++ rest), length-drop 5 s, parallel-long s P rest Δ E F t)
+
 module _ (s p x : List ℕ) (r : Built) (e : getD s 0 0 ≡ 25) where
   pub parallel-short : length s < 5 → Unbuilt r → Beginning s p x x r
   parallel-short h u =
@@ -54,24 +71,7 @@ module _ (s p x : List ℕ) (r : Built) (e : getD s 0 0 ≡ 25) where
       (begun-longer (take 5 s ++ b) F (25 ∷ (Δ ++ (b ++ words 1 F))) (t .fits .2) g
       (m .begun P E (words 1 F ++ rest) (parallel-first s P rest Δ E F t) (subst (λ c. marked E c ≡ true) (sym on) (parallel-left-marked p Δ E F d j))))))
 
-  -- The right operand stands where the path says.
   module _ (n : ℕ) (is : n ≡ getD p 1 0) where
-    module _ (P : Scope) (rest : List ℕ) (Δ : Mask) (E F : Term) (t : TermAt s P (Parallel Δ E F) rest) (k : getD p 1 0 ≡ size 1 E) where
-      left-size : n ≡ length (words 1 E)
-      left-size = is ∙ (k ∙ size-there P E (t .fits .1))
-
-      right-there : TermAt (drop (5 + n) s) P F rest
-      right-there =
-          subst (λ z. TermAt z P F rest) (sym (drop-past s 5 n (words 1 E) (words 1 F ++ rest) (parallel-first s P rest Δ E F t .spelled) left-size)) (second-of-parallel s P rest Δ E F t)
-
-      head-there : take (5 + n) s ≡ 25 ∷ (Δ ++ words 1 E)
-      head-there =
-          take-past s 5 n (words 1 E) (words 1 F ++ rest) (parallel-long s P rest Δ E F t) (parallel-first s P rest Δ E F t .spelled) left-size
-          ∙ ap (λ h. h ++ words 1 E) (parallel-head s P rest Δ E F t)
-
-      long : 5 + n ≤ length s
-      long = omega (arith, left-size, ap length (parallel-first s P rest Δ E F t .spelled), length-append (words 1 E) (words 1 F ++ rest), length-drop 5 s, parallel-long s P rest Δ E F t)
-
     pub parallel-right : (y q : List ℕ) → q ≡ drop 2 p → getD p 0 0 ≡ 2 → After s (5 + n) q x y r → Beginning s p x y r
     unfolding words
     parallel-right y q on d m =
@@ -80,16 +80,16 @@ module _ (s p x : List ℕ) (r : Built) (e : getD s 0 0 ≡ 25) where
         let k = parallel-right-marked p Δ E F d j in
         let b = built-words F q in
         let a = action-code (follow F q .action) in
-        let g : take (5 + n) s ++ b ≡ 25 ∷ (Δ ++ (words 1 E ++ b)) = ap (λ h. h ++ b) (head-there P rest Δ E F t (k .0)) ∙ ap (λ l. 25 ∷ l) (append-assoc Δ (words 1 E) b) in
+        let g : take (5 + n) s ++ b ≡ 25 ∷ (Δ ++ (words 1 E ++ b)) = ap (λ h. h ++ b) (head-there s p n is P rest Δ E F t (k .0)) ∙ ap (λ l. 25 ∷ l) (append-assoc Δ (words 1 E) b) in
         subst (λ o. BegunOf P s o rest x y r) (sym (parallel-right-follows p Δ E F d ∙ ap (λ c. within (λ G. Parallel Δ E G) (follow F c)) (sym on)))
         (subst (λ o. Begun P s o rest a (length (follow F q .rest)) x y r) g
-        (m .begun P F rest (right-there P rest Δ E F t (k .0)) (subst (λ c. marked F c ≡ true) (sym on) (k .1)))))
+        (m .begun P F rest (right-there s p n is P rest Δ E F t (k .0)) (subst (λ c. marked F c ≡ true) (sym on) (k .1)))))
 
     module _ (d0 : getD p 0 0 ≡ 0 → ⊥) (d1 : getD p 0 0 ≡ 1 → ⊥) where
       pub parallel-cut : length s < 5 + n → Unbuilt r → Beginning s p x x r
       parallel-cut h u =
           by-parallel s p x x r (unbuilt-bounded (length s) (length p) refl u) e
-          (λ P rest Δ E F t j. absurd (omega (arith, h, long P rest Δ E F t (size-marked p Δ E F d0 d1 j))))
+          (λ P rest Δ E F t j. absurd (omega (arith, h, long s p n is P rest Δ E F t (size-marked p Δ E F d0 d1 j))))
 
       pub parallel-both : (y q : List ℕ) → q ≡ drop 2 p → (getD p 0 0 ≡ 2 → ⊥) → Both s (5 + n) q x y r → Beginning s p x y r
       unfolding words
@@ -102,7 +102,7 @@ module _ (s p x : List ℕ) (r : Built) (e : getD s 0 0 ≡ 25) where
           let b = built-words E q ++ built-words F (follow E q .rest) in
           subst (λ o. BegunOf P s o rest x y r) (sym (parallel-both-follows p Δ E F d0 d1 d2 ∙ ap (λ c. followed (follow E c .action) (Parallel Δ (follow E c .successor) (follow F (follow E c .rest) .successor)) (follow F (follow E c .rest) .rest)) (sym on)))
           (subst (λ h. Begun P s (h ++ b) rest (action-code (follow E q .action)) (length (follow F (follow E q .rest) .rest)) x y r) (parallel-head s P rest Δ E F t)
-          (m .begun P E F rest (parallel-first s P rest Δ E F t) (right-there P rest Δ E F t (k .0)) mE mF)))
+          (m .begun P E F rest (parallel-first s P rest Δ E F t) (right-there s p n is P rest Δ E F t (k .0)) mE mF)))
 
 -- ── both operands ──
 
@@ -123,11 +123,11 @@ module _ (s : List ℕ) (n : ℕ) (p v x x1 x2 x3 : List ℕ) (X Z Y : Built) (l
     left-whole =
         let k : length s - (length s - n) ≡ n = omega arith in
         let c : length s - n ≡ length (words 1 F ++ rest) = omega (arith, ap length (j .spelled), length-drop n s) in
-        C .made P (take 5 s ++ built-words E p) (words 1 F ++ rest) x (action-code (follow E p .action)) (length (follow E p .rest)) (A .bounds .same-length) first (ap (λ z. drop z s) k ∙ j .spelled) c
+        C .made (take 5 s ++ built-words E p) (words 1 F ++ rest) x (action-code (follow E p .action)) (length (follow E p .rest)) (A .bounds .same-length) (first .going) (ap (λ z. drop z s) k ∙ j .spelled) c
 
     second : X .ok ≡ true → BegunAfter P (drop n s) (take 5 s ++ built-words E p) F (follow E p .rest) rest x x3 Y
     second ok =
-        let c : v ≡ follow E p .rest = on ∙ rest-of-path E p (X .«path_left») (first .right ok .path-left) in
+        let c : v ≡ follow E p .rest = on ∙ rest-of-path E p (X .«path_left») (first .going .right ok .path-left) in
         subst (λ q. BegunAfter P (drop n s) (take 5 s ++ built-words E p) F q rest x x3 Y) c
         (B .begun (take 5 s ++ built-words E p) x (action-code (follow E p .action)) (length s - n) (length (follow E p .rest)) same-2 left-whole P F rest j (subst (λ q. marked F q ≡ true) (sym c) mF))
 
@@ -148,25 +148,27 @@ module _ (s : List ℕ) (n : ℕ) (p v x x1 x2 x3 : List ℕ) (X Z Y : Built) (l
     };
     begun = λ P E F rest i j mE mF.
         let w = whole-is P E F rest i j mE mF in
+        let here : last-of (Y .left) (drop n s) ≡ last-of (Y .left) s = last-within s (drop n s) (Y .left) (n, refl) (B .bounds .left-bounded) in
         record {
-          has-room = λ k.
-              let l = length-append (take 5 s ++ built-words E p) (built-words F (follow E p .rest)) in
-              second P E F rest i j mE mF (first P E F rest i j mE mF .has-room (omega (arith, ap length w, l))) .has-room (subst (λ o. 2 * length o ≤ length x) w k);
-          right = λ k.
-              let ok : X .ok ≡ true = C .before (B .before k) in
-              let f = second P E F rest i j mE mF ok .right k in
-              record {
-                part = f .part;
-                action = first P E F rest i j mE mF .right ok .action;
-                path-left = f .path-left;
-                size = f .size;
-                behind = f .behind;
-                standing = f .standing;
-                due = f .due;
-                standing-fit = f .standing-fit;
-                standing-there = sym (last-within s (drop n s) (Y .left) (n, refl) (B .bounds .left-bounded)) ∙ f .standing-there;
-                onward = ap (λ o. o ++ rest) w ∙ (f .onward ∙ ap (λ z. f .part ++ z) (last-within s (drop n s) (Y .left) (n, refl) (B .bounds .left-bounded)));
-                written-there = f .written-there;
-              };
+          going = record {
+            has-room = λ k.
+                let l = length-append (take 5 s ++ built-words E p) (built-words F (follow E p .rest)) in
+                second P E F rest i j mE mF (first P E F rest i j mE mF .going .has-room (omega (arith, ap length w, l))) .going .has-room (subst (λ o. 2 * length o ≤ length x) w k);
+            right = λ k.
+                let ok : X .ok ≡ true = C .before (B .before k) in
+                let f = second P E F rest i j mE mF ok .going .right k in
+                record {
+                  part = f .part;
+                  action = first P E F rest i j mE mF .going .right ok .action;
+                  path-left = f .path-left;
+                  size = f .size;
+                  behind = f .behind;
+                  onward = ap (λ o. o ++ rest) w ∙ (f .onward ∙ ap (λ z. f .part ++ z) here);
+                  written-there = f .written-there;
+                };
+          };
+          stands = λ k.
+              let f = second P E F rest i j mE mF (C .before (B .before k)) .stands k in
+              record { standing = f .standing; due = f .due; fit = f .fit; there = sym here ∙ f .there };
         };
   }

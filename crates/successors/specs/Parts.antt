@@ -71,23 +71,30 @@ pub record Added (w : List ℕ) (x : Built) (entry exit : List ℕ) (r : Built) 
 
 -- ── the beginning of a successor ──
 
--- The words o, with rest behind them, are what was written and then the last words of s: the terms standing, which are still the successor's, and rest.
-pub record BegunRight (P : Scope) (s o rest : List ℕ) (a m : ℕ) (entry exit : List ℕ) (r : Built) : Type 0 where
+-- The words o, with rest behind them, are what was written and then the last words of s.
+pub record GoingRight (s o rest : List ℕ) (a m : ℕ) (entry exit : List ℕ) (r : Built) : Type 0 where
   pub part : List ℕ
   pub action : r .action ≡ a
   pub path-left : r .«path_left» ≡ m
   pub size : r .words ≡ length part
   pub behind : length rest ≤ r .left
-  pub standing : List Term
-  pub due : r .due ≡ length standing
-  pub standing-fit : All (Fits P) standing
-  pub standing-there : last-of (r .left) s ≡ terms-words standing ++ rest
   pub onward : o ++ rest ≡ part ++ last-of (r .left) s
   pub written-there : exit ≡ written part entry
 
-pub record Begun (P : Scope) (s o rest : List ℕ) (a m : ℕ) (entry exit : List ℕ) (r : Built) : Type 0 where
+pub record Going (s o rest : List ℕ) (a m : ℕ) (entry exit : List ℕ) (r : Built) : Type 0 where
   pub has-room : 2 * length o ≤ length entry → r .ok ≡ true
-  pub right : r .ok ≡ true → BegunRight P s o rest a m entry exit r
+  pub right : r .ok ≡ true → GoingRight s o rest a m entry exit r
+
+-- The last words of s are as many terms as are due, which are still the successor's, and rest.
+pub record Standing (P : Scope) (s rest : List ℕ) (r : Built) : Type 0 where
+  pub standing : List Term
+  pub due : r .due ≡ length standing
+  pub fit : All (Fits P) standing
+  pub there : last-of (r .left) s ≡ terms-words standing ++ rest
+
+pub record Begun (P : Scope) (s o rest : List ℕ) (a m : ℕ) (entry exit : List ℕ) (r : Built) : Type 0 where
+  pub going : Going s o rest a m entry exit r
+  pub stands : r .ok ≡ true → Standing P s rest r
 
 abbrev pub BegunOf : Scope → List ℕ → Followed → List ℕ → List ℕ → List ℕ → Built → Type 0
 BegunOf P s f rest entry exit r = Begun P s (words 1 (f .successor)) rest (action-code (f .action)) (length (f .rest)) entry exit r
@@ -119,11 +126,11 @@ pub record After (s : List ℕ) (n : ℕ) (p entry exit : List ℕ) (r : Built) 
 abbrev pub with-right : Built → Built
 with-right x = record { ok = x .ok; action = x .action; words = x .words; left = x .left; due = x .due + 1; «path_left» = x .«path_left» }
 
--- What x began goes on up to the last e words of t, so that it stands whole.
+-- What x began goes on up to the last e words of t, so that it stands whole. Which terms stand there is not asked.
 pub record Closed (t : List ℕ) (x : Built) (e : ℕ) (entry exit : List ℕ) (r : Built) : Type 0 where
   pub bounds : Bounded e (x .«path_left») entry exit r
   pub before : r .ok ≡ true → x .ok ≡ true
-  pub made : (P : Scope) (o rest b : List ℕ) (a m : ℕ) → length entry ≡ length b → Begun P t o rest a m b entry x → last-of e t ≡ rest → e ≡ length rest → Made o a e m b exit r
+  pub made : (o rest b : List ℕ) (a m : ℕ) → length entry ≡ length b → Going t o rest a m b entry x → last-of e t ≡ rest → e ≡ length rest → Made o a e m b exit r
 
 -- Both operands move, the left's path first: the left one stands behind 5 words, the right one behind n.
 pub record Both (s : List ℕ) (n : ℕ) (p entry exit : List ℕ) (r : Built) : Type 0 where

@@ -3,9 +3,9 @@
 // written on the way, with the number of words at the end of the term that go on from there, and these are copied at once.
 ghost use mathlib.Core.Path.{_≡_};
 ghost use mathlib.Core.Bool.{true, false};
-ghost use Prim.Native.Nat.{_+_, _*_, _≤_, _<_};
+ghost use Prim.Native.Nat.{_+_, _*_, _≤_};
 ghost use mathlib.Core.List.{[], _∷_};
-ghost use lib.ListN.{length, drop, getD};
+ghost use lib.ListN.{length, getD};
 ghost use Rattle.successors.specs.Building.{Building};
 ghost use Rattle.successors.specs.Parts.{Whole, Unbuilt, Added, Closed, Beginning, Behind, After, with-right, Both};
 use actions::behind_action;
@@ -16,10 +16,14 @@ use listing::skip_row;
 use scan::behind;
 use scan::first;
 use scan::last;
+use unchanged::behind_size;
+use unchanged::size_word;
+use unchanged::unchanged;
 use writing::put_word;
 use writing::put_words;
 
 mod conditions;
+mod unchanged;
 
 // Whether there was room; the action's number, the words written, the words at the end of the term that go on from there, how many
 // whole terms at the beginning of these are still the successor's, and what is left of the path.
@@ -123,20 +127,6 @@ fn close(t: &[u16], x: Built, e: usize, out: &mut [u8]) -> Built
         due: 0,
         path_left: y.path_left,
     }
-}
-
-// ── the left operand's size in the path, behind the decision ──
-
-fn size_word(path: &[u16]) -> usize
-    ensures { λ r. ⌜ (r ≡ getD (now (path .entry)) 1 0) × (r < 65536) ⌝ }
-{
-    first(behind(path))
-}
-
-fn behind_size(path: &[u16]) -> &[u16]
-    ensures { λ r. ⌜ now r ≡ drop 2 (now (path .entry)) ⌝ }
-{
-    behind(behind(path))
 }
 
 // ── the beginning of the successor ──
@@ -339,11 +329,16 @@ fn begin(s: &[u16], path: &[u16], out: &mut [u8]) -> Built
     }
 }
 
-// Of a whole term, behind which nothing stands.
+// ── the whole ──
+
+// Of a whole term, behind which nothing stands. The words at its front that stay are copied at once, and the beginning is made behind them: how many
+// terms are due is not told of those passed there, nor asked, since all words that are left belong to the successor.
 pub fn build(s: &[u16], path: &[u16], out: &mut [u8]) -> Built
     requires { ⌜ length (now s) ≤ 65535 ⌝ }
     ensures { λ r. ⌜ Building (now (s .entry)) (now (path .entry)) (now (out .entry)) (now (out .exit)) r ⌝ }
 {
-    let x = begin(s, path, out);
+    let d = unchanged(s, path);
+    let used = d / 65536;
+    let x = begin_after(s, d % 65536, &path[used..], out);
     close(s, x, 0, out)
 }

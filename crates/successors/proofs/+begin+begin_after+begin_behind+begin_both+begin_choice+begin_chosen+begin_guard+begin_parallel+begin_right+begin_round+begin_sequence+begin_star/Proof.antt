@@ -57,13 +57,13 @@ use Rattle.scan.proofs.behind.Reads as behind-reads
 use Rattle.scan.proofs.first.Reads as first-reads
 use Rattle.scan.proofs.last.Reads as last-reads
 use Rattle.successors.proofs.begin_action.Reads as begin-action-reads
-use Rattle.successors.proofs.behind_size.Reads as behind-size-reads
+use Rattle.successors.proofs.unchanged.behind_size.Reads as behind-size-reads
 use Rattle.successors.proofs.close.Reads as close-reads
 use Rattle.successors.proofs.conditions.behind_condition.Reads as behind-condition-reads
 use Rattle.successors.proofs.put_behind.Reads as put-behind-reads
 use Rattle.successors.proofs.put_head.Reads as put-head-reads
 use Rattle.successors.proofs.put_one.Reads as put-one-reads
-use Rattle.successors.proofs.size_word.Reads as size-word-reads
+use Rattle.successors.proofs.unchanged.size_word.Reads as size-word-reads
 use Rattle.successors.proofs.unbuilt.Reads as unbuilt-reads
 use Rattle.successors.proofs.with_right.Reads as with-right-reads
 use Rattle.successors.proofs.+begin+begin_after+begin_behind+begin_both+begin_choice+begin_chosen+begin_guard+begin_parallel+begin_right+begin_round+begin_sequence+begin_star.{

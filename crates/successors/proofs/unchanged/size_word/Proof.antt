@@ -3,10 +3,10 @@ use Rattle.successors.proofs.Ends.{second-word}
 use mathlib.Core.Path.{_∙_, ap}
 use lib.ListN.{getD}
 use borrow.Author.Needs.{needs}
-use Rattle.successors.proofs.size_word.Statement.{statement}
-use Rattle.successors.proofs.size_word.Tie as tie
-use Rattle.successors.proofs.size_word.Reads as reads
-use Rattle.successors.proofs.size_word.Lts as lts
+use Rattle.successors.proofs.unchanged.size_word.Statement.{statement}
+use Rattle.successors.proofs.unchanged.size_word.Tie as tie
+use Rattle.successors.proofs.unchanged.size_word.Reads as reads
+use Rattle.successors.proofs.unchanged.size_word.Lts as lts
 use Rattle.scan.proofs.behind.Reads as behind-reads
 use Rattle.scan.proofs.first.Reads as first-reads
 

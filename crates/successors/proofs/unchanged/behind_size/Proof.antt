@@ -3,10 +3,10 @@ use Rattle.successors.proofs.Ends.{two-behind}
 use mathlib.Core.Path.{_∙_, ap}
 use lib.ListN.{drop}
 use borrow.Author.Needs.{needs}
-use Rattle.successors.proofs.behind_size.Statement.{statement}
-use Rattle.successors.proofs.behind_size.Tie as tie
-use Rattle.successors.proofs.behind_size.Reads as reads
-use Rattle.successors.proofs.behind_size.Lts as lts
+use Rattle.successors.proofs.unchanged.behind_size.Statement.{statement}
+use Rattle.successors.proofs.unchanged.behind_size.Tie as tie
+use Rattle.successors.proofs.unchanged.behind_size.Reads as reads
+use Rattle.successors.proofs.unchanged.behind_size.Lts as lts
 use Rattle.scan.proofs.behind.Reads as behind-reads
 
 behind-requires : tie.Need-behind-requires
