@@ -178,18 +178,18 @@ MainUnfolded t T spare spare′ n = (R : RuleSet) → Ready t T R → 2 * length
 abbrev pub CellsStarted : (t D M′ : List ℕ) (w functions c : ℕ) → Type 0
 CellsStarted t D M′ w functions c = (R : RuleSet) (T : List ℕ) → Ruled R t T D w functions c → now-place + 2 * c ≤ 2084 → Stored R (initial-cells (attributes R)) M′
 
-module _ (numbers t T D : List ℕ) (w functions c reach n : ℕ) (ws ws₁ ws₂ M₁ M₂ spare spare₁ spare₂ term memory term′ memory′ : List ℕ) (tally : Tally) (low : ℕ) where
+module _ (numbers t T D : List ℕ) (w functions c reach n : ℕ) (ws ws₁ ws₂ M₁ M₂ spare spare₁ spare₂ path term memory term′ memory′ : List ℕ) (tally : Tally) (low : ℕ) where
   pub main-run : w ≡ 3 + getD T 17 0 → functions ≡ getD T 210 0 → c ≤ 1024 → length spare₁ ≡ length spare → MainUnfolded t T spare spare₁ n → Loaded spare₁ ws ws₁ 0 n
-      → length M₁ ≡ 2084 → CellsStarted t D M₁ w functions c → length ws₂ ≡ length ws₁ → length M₂ ≡ length M₁
-      → Runs numbers t D w functions c n ws₁ M₁ spare₁ ws₂ M₂ spare₂ tally → Finished ws₂ (tally .size) reach M₂ c term memory term′ memory′ → low ≡ tally .size % 4294967296
+      → length M₁ ≡ 2084 → CellsStarted t D M₁ w functions c → length ws₂ ≡ length ws₁ → length M₂ ≡ length M₁ → length path ≡ length ws
+      → Runs numbers t D w functions c n ws₁ M₁ spare₁ path ws₂ M₂ spare₂ tally → Finished ws₂ (tally .size) reach M₂ c term memory term′ memory′ → low ≡ tally .size % 4294967296
       → RunsMain numbers t T D c reach (length ws) term memory spare (record { size = low; visible = tally .visible; internal = tally .internal; refused = tally .refused }) term′ memory′ spare₂
   unfolding memory-run
-  main-run ew ef few same-spare unfolded loaded same-store started same-words same-cells runs done el R well d ec er room term-room memory-room spare-room =
+  main-run ew ef few same-spare unfolded loaded same-store started same-words same-cells same-path runs done el R well d ec er room term-room memory-room spare-room =
       let ruled : Ruled R t T D w functions c = ruled-there R (well .form) t T D d w functions c ew ef ec in
       let u = unfolded R (record { form = well .form; declares = d .declares; processes = d .processes }) (omega (arith, main-size R well, er)) in
       let at : Situated R (start R well) n ws₁ M₁ = main-situated R well n spare spare₁ ws ws₁ M₁ (u .0) (u .1) (omega (arith, er)) loaded (started R T ruled (omega arith)) in
       let e : Ended R (memory-run (attributes R) (unfold-main R) (words-in numbers)) spare₁ ws₂ M₂ spare₂ tally =
-      runs R T ruled (start R well) at (record { words-room = omega (arith, main-reaches R well, er, loaded .same-length); bytes-room = omega (arith, main-reaches R well, er) }) in
+      runs R T ruled (start R well) at (record { words-room = omega (arith, main-reaches R well, er, loaded .same-length); bytes-room = omega (arith, main-reaches R well, er); path-room = omega (arith, main-reaches R well, er) }) in
       let fits = last-fits R well (words-in numbers) spare₁ ws₂ M₂ spare₂ tally e in
       let size-is = last-size R well (words-in numbers) spare₁ ws₂ M₂ spare₂ tally e in
       let words-are = last-words R well (words-in numbers) spare₁ ws₂ M₂ spare₂ tally e in

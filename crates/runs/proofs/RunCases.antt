@@ -94,35 +94,35 @@ module _ (R : RuleSet) where
 -- ── the loop ──
 
 -- After i numbers of the list.
-abbrev pub Running-to : (numbers t D : List ℕ) (w functions c n : ℕ) (ws M out : List ℕ) (i : ℕ) (ws′ M′ out′ : List ℕ) (r : Tally) → Type 0
-Running-to numbers t D w functions c n ws M out i ws′ M′ out′ r =
-    (R : RuleSet) (T : List ℕ) → Ruled R t T D w functions c → (s : Situation (Sem-M (attributes R))) → Situated R s n ws M → Roomy R s ws out
+abbrev pub Running-to : (numbers t D : List ℕ) (w functions c n : ℕ) (ws M out path : List ℕ) (i : ℕ) (ws′ M′ out′ : List ℕ) (r : Tally) → Type 0
+Running-to numbers t D w functions c n ws M out path i ws′ M′ out′ r =
+    (R : RuleSet) (T : List ℕ) → Ruled R t T D w functions c → (s : Situation (Sem-M (attributes R))) → Situated R s n ws M → Roomy R s ws out path
     → Ended R (run (system (Sem-M (attributes R))) (initial (system (Sem-M (attributes R))) s) (take i (words-in numbers))) out ws′ M′ out′ r
 
-module _ (numbers : List ℕ) {t D : List ℕ} {w functions c n : ℕ} {ws M out : List ℕ} where
-  pub run-start : Running-to numbers t D w functions c n ws M out 0 ws M out (record { size = n; visible = 0; internal = 0; refused = 0 })
+module _ (numbers : List ℕ) {t D : List ℕ} {w functions c n : ℕ} {ws M out path : List ℕ} where
+  pub run-start : Running-to numbers t D w functions c n ws M out path 0 ws M out (record { size = n; visible = 0; internal = 0; refused = 0 })
   unfolding run
   run-start R T ruled s at room = record { visible-is = refl; internal-is = refl; refused-is = refl; after = at; words-only = words-kept out out refl }
 
   -- A step by number i, which answered d, and is counted.
-  pub run-next : (i : ℕ) {k : ℕ} {ws₁ M₁ out₁ ws₂ M₂ out₂ : List ℕ} {r r′ : Tally} {d : Done} → i < word-count numbers → length ws₁ ≡ length ws → length out₁ ≡ length out
-      → Running-to numbers t D w functions c n ws M out i ws₁ M₁ out₁ r → k ≡ getD (words-in numbers) i 0 → StepsOnce t D w functions c (r .size) k ws₁ M₁ out₁ ws₂ M₂ out₂ d
-      → r′ ≡ counted r d → Running-to numbers t D w functions c n ws M out (i + 1) ws₂ M₂ out₂ r′
-  run-next i {k} {ws₁} {M₁} {out₁} {ws₂} {M₂} {out₂} {r} {r′} {d} less same same-out go number once counting R T ruled s at room =
+  pub run-next : (i : ℕ) {k : ℕ} {ws₁ M₁ out₁ path₁ ws₂ M₂ out₂ : List ℕ} {r r′ : Tally} {d : Done} → i < word-count numbers → length ws₁ ≡ length ws → length out₁ ≡ length out → length path₁ ≡ length path
+      → Running-to numbers t D w functions c n ws M out path i ws₁ M₁ out₁ r → k ≡ getD (words-in numbers) i 0 → StepsOnce t D w functions c (r .size) k ws₁ M₁ out₁ path₁ ws₂ M₂ out₂ d
+      → r′ ≡ counted r d → Running-to numbers t D w functions c n ws M out path (i + 1) ws₂ M₂ out₂ r′
+  run-next i {k} {ws₁} {M₁} {out₁} {path₁} {ws₂} {M₂} {out₂} {r} {r′} {d} less same same-out same-path go number once counting R T ruled s at room =
       let L = system (Sem-M (attributes R)) in
       let ks = words-in numbers in
       let h = run L (initial L s) (take i ks) in
       let e : Ended R h out ws₁ M₁ out₁ r = go R T ruled s at room in
       let q = run-reach 1 (Sem-M (attributes R)) (initial L s) (take i ks) in
-      let o = once R T ruled (h .state) (e .after) (record { words-room = omega (arith, q, room .words-room); bytes-room = omega (arith, q, room .bytes-room) }) in
+      let o = once R T ruled (h .state) (e .after) (record { words-room = omega (arith, q, room .words-room); bytes-room = omega (arith, q, room .bytes-room); path-room = omega (arith, q, room .path-room) }) in
       let z : i + 1 ≡ suc i = omega arith in
       let more : run L (initial L s) (take (i + 1) ks) ≡ step L h k =
       ap (λ j. run L (initial L s) (take j ks)) z ∙ ap (run L (initial L s)) (take-suc ks i 0 (omega (arith, words-counted numbers)))
       ∙ run-more L (initial L s) (take i ks) (getD ks i 0) ∙ ap (step L h) (sym number) in
       subst (λ (m : machine (Sem-M (attributes R))). Ended R m out ws₂ M₂ out₂ r′) (sym more) (subst (Ended R (step L h k) out ws₂ M₂ out₂) (sym counting) (ended-next R h k out ws₁ M₁ out₁ ws₂ M₂ out₂ r d e o))
 
-  pub run-end : (i : ℕ) {ws′ M′ out′ : List ℕ} {r : Tally} → word-count numbers ≤ i → Running-to numbers t D w functions c n ws M out i ws′ M′ out′ r
-      → Runs numbers t D w functions c n ws M out ws′ M′ out′ r
+  pub run-end : (i : ℕ) {ws′ M′ out′ : List ℕ} {r : Tally} → word-count numbers ≤ i → Running-to numbers t D w functions c n ws M out path i ws′ M′ out′ r
+      → Runs numbers t D w functions c n ws M out path ws′ M′ out′ r
   run-end i {ws′} {M′} {out′} {r} h go R T ruled s at room =
       subst (λ ks. Ended R (run (system (Sem-M (attributes R))) (initial (system (Sem-M (attributes R))) s) ks) out ws′ M′ out′ r)
       (take-all i (words-in numbers) (omega (arith, words-counted numbers))) (go R T ruled s at room)

@@ -97,13 +97,13 @@ unfolding action-code done-as
 done-visible internal a n e h = absurd (let z : ⊥ = omega (arith, e) in z)
 done-visible (visible b) a n e h = refl
 
--- What taking a move says, of the words f.
-abbrev pub TakenFrom : (f M : List ℕ) (k : ℕ) (out out′ : List ℕ) (r : Taken) → Type 0
-TakenFrom f M k out out′ r = (P : Scope) (E : Term) → Whole f P E → size 1 E ≤ 8192 → SuccessorFits (getElem? (moves (holding M) E) k) out
+-- What taking a move says, of the words f and a lent array for its path.
+abbrev pub TakenFrom : (f M : List ℕ) (k : ℕ) (path out out′ : List ℕ) (r : Taken) → Type 0
+TakenFrom f M k path out out′ r = (P : Scope) (E : Term) → Whole f P E → size 1 E ≤ length path → SuccessorFits (getElem? (moves (holding M) E) k) out
     → Took (getElem? (moves (holding M) E) k) out out′ r
 
-module _ (t D : List ℕ) (w functions c n k : ℕ) (ws M out : List ℕ) (R : RuleSet) (T : List ℕ) (ruled : Ruled R t T D w functions c) (s : Situation (Sem-M (attributes R)))
-    (at : Situated R s n ws M) (room : Roomy R s ws out) where
+module _ (t D : List ℕ) (w functions c n k : ℕ) (ws M out path : List ℕ) (R : RuleSet) (T : List ℕ) (ruled : Ruled R t T D w functions c) (s : Situation (Sem-M (attributes R)))
+    (at : Situated R s n ws M) (room : Roomy R s ws out path) where
   abbrev offered : Option Move
   offered = getElem? (moves (holding M) (s .term)) k
 
@@ -128,10 +128,9 @@ module _ (t D : List ℕ) (w functions c n k : ℕ) (ws M out : List ℕ) (R : R
   fits-in none e = tt
   fits-in (some x) e = omega (arith, next-size x e, room .bytes-room)
 
-  took : (f out′ : List ℕ) (r : Taken) → f ≡ take n ws → TakenFrom f M k out out′ r → Took offered out out′ r
+  took : (f out′ : List ℕ) (r : Taken) → f ≡ take n ws → TakenFrom f M k path out out′ r → Took offered out out′ r
   took f out′ r front sought = sought _ (s .term) (whole R (ruled .form) (s .term) (at .running) f (front ∙ at .spelled))
-      (let l : reach 1 (s .term) ≤ 8192 = subst (λ v. reach v (s .term) ≤ 8192) one (at .running .reach-limit) in omega (arith, size-below-reach 1 (s .term)))
-      (fits-in offered refl)
+      (omega (arith, size-below-reach 1 (s .term), room .path-room)) (fits-in offered refl)
 
   same-moves : moves (Sem-M (attributes R) .satisfies (s .state)) (s .term) ≡ moves (holding M) (s .term)
   same-moves = sym (moves-judged R (ruled .form) (s .term) (at .running .form) (s .state) M (at .stored))
@@ -176,20 +175,20 @@ module _ (t D : List ℕ) (w functions c n k : ℕ) (ws M out : List ℕ) (R : R
 
 -- ── the three returns ──
 
-module _ {t D : List ℕ} {w functions c n k : ℕ} {ws M out : List ℕ} where
-  pub step-internal : {f out′ M′ ws′ : List ℕ} {r : Taken} {a size′ : ℕ} → f ≡ take n ws → TakenFrom f M k out out′ r → r ≡ Made a size′ → StoreRenewed t D M M′ w functions c a
-      → Loaded out′ ws ws′ 0 size′ → a ≤ 0 → StepsOnce t D w functions c n k ws M out ws′ M′ out′ (Internal size′)
+module _ {t D : List ℕ} {w functions c n k : ℕ} {ws M out path : List ℕ} where
+  pub step-internal : {f out′ M′ ws′ : List ℕ} {r : Taken} {a size′ : ℕ} → f ≡ take n ws → TakenFrom f M k path out out′ r → r ≡ Made a size′ → StoreRenewed t D M M′ w functions c a
+      → Loaded out′ ws ws′ 0 size′ → a ≤ 0 → StepsOnce t D w functions c n k ws M out path ws′ M′ out′ (Internal size′)
   step-internal {f} {out′} {M′} {ws′} {r} {a} {size′} front sought made renewed loaded z R T ruled s at room =
-      made-so t D w functions c n k ws M out R T ruled s at room out′ M′ ws′ a size′ (Internal size′)
-      (subst (Took _ out out′) made (took t D w functions c n k ws M out R T ruled s at room f out′ r front sought)) renewed loaded (λ ρ e. done-internal ρ a size′ e z)
+      made-so t D w functions c n k ws M out path R T ruled s at room out′ M′ ws′ a size′ (Internal size′)
+      (subst (Took _ out out′) made (took t D w functions c n k ws M out path R T ruled s at room f out′ r front sought)) renewed loaded (λ ρ e. done-internal ρ a size′ e z)
 
-  pub step-visible : {f out′ M′ ws′ : List ℕ} {r : Taken} {a size′ : ℕ} → f ≡ take n ws → TakenFrom f M k out out′ r → r ≡ Made a size′ → StoreRenewed t D M M′ w functions c a
-      → Loaded out′ ws ws′ 0 size′ → 0 < a → StepsOnce t D w functions c n k ws M out ws′ M′ out′ (Visible size′)
+  pub step-visible : {f out′ M′ ws′ : List ℕ} {r : Taken} {a size′ : ℕ} → f ≡ take n ws → TakenFrom f M k path out out′ r → r ≡ Made a size′ → StoreRenewed t D M M′ w functions c a
+      → Loaded out′ ws ws′ 0 size′ → 0 < a → StepsOnce t D w functions c n k ws M out path ws′ M′ out′ (Visible size′)
   step-visible {f} {out′} {M′} {ws′} {r} {a} {size′} front sought made renewed loaded z R T ruled s at room =
-      made-so t D w functions c n k ws M out R T ruled s at room out′ M′ ws′ a size′ (Visible size′)
-      (subst (Took _ out out′) made (took t D w functions c n k ws M out R T ruled s at room f out′ r front sought)) renewed loaded (λ ρ e. done-visible ρ a size′ e z)
+      made-so t D w functions c n k ws M out path R T ruled s at room out′ M′ ws′ a size′ (Visible size′)
+      (subst (Took _ out out′) made (took t D w functions c n k ws M out path R T ruled s at room f out′ r front sought)) renewed loaded (λ ρ e. done-visible ρ a size′ e z)
 
-  pub step-refused : {f out′ : List ℕ} {r : Taken} → f ≡ take n ws → TakenFrom f M k out out′ r → r ≡ No-move → StepsOnce t D w functions c n k ws M out ws M out′ NotOffered
+  pub step-refused : {f out′ : List ℕ} {r : Taken} → f ≡ take n ws → TakenFrom f M k path out out′ r → r ≡ No-move → StepsOnce t D w functions c n k ws M out path ws M out′ NotOffered
   step-refused {f} {out′} {r} front sought none-there R T ruled s at room =
-      refused-once t D w functions c n k ws M out R T ruled s at room out′
-      (subst (Took _ out out′) none-there (took t D w functions c n k ws M out R T ruled s at room f out′ r front sought))
+      refused-once t D w functions c n k ws M out path R T ruled s at room out′
+      (subst (Took _ out out′) none-there (took t D w functions c n k ws M out path R T ruled s at room f out′ r front sought))

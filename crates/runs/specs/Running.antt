@@ -25,10 +25,12 @@ pub record Situated (R : RuleSet) (s : Situation (Sem-M (attributes R))) (n : �
   pub spelled : take n ws ≡ words 1 (s .term)
   pub stored : Stored R (s .state) M
 
--- There is room for every successor of its term: in the words, and in the lent bytes that a successor is built in.
-pub record Roomy (R : RuleSet) (s : Situation (Sem-M (attributes R))) (ws out : List ℕ) : Type 0 where
+-- There is room for every successor of its term: in the words, and in the lent bytes that a successor is built in; and in a lent array for a move's path,
+-- which has no more words than the term.
+pub record Roomy (R : RuleSet) (s : Situation (Sem-M (attributes R))) (ws out path : List ℕ) : Type 0 where
   pub words-room : reach 1 (s .term) ≤ length ws
   pub bytes-room : reach 1 (s .term) ≤ word-count out
+  pub path-room : reach 1 (s .term) ≤ length path
 
 -- ── one number ──
 
@@ -43,10 +45,10 @@ pub record Once (R : RuleSet) (s : Situation (Sem-M (attributes R))) (k : ℕ) (
   pub after : Situated R (reply (system (Sem-M (attributes R))) s k .1) (length (words 1 (reply (system (Sem-M (attributes R))) s k .1 .term))) ws′ M′
   pub words-only : WordsOnly out out′
 
--- Of the stream t, the directory D, n words of ws, the store M and the lent bytes out, which are ws′, M′ and out′ afterwards.
-abbrev pub StepsOnce : (t D : List ℕ) (w functions c : ℕ) (n k : ℕ) (ws M out ws′ M′ out′ : List ℕ) (r : Done) → Type 0
-StepsOnce t D w functions c n k ws M out ws′ M′ out′ r =
-    (R : RuleSet) (T : List ℕ) → Ruled R t T D w functions c → (s : Situation (Sem-M (attributes R))) → Situated R s n ws M → Roomy R s ws out → Once R s k out ws′ M′ out′ r
+-- Of the stream t, the directory D, n words of ws, the store M and the lent bytes out, which are ws′, M′ and out′ afterwards, and the lent array path.
+abbrev pub StepsOnce : (t D : List ℕ) (w functions c : ℕ) (n k : ℕ) (ws M out path ws′ M′ out′ : List ℕ) (r : Done) → Type 0
+StepsOnce t D w functions c n k ws M out path ws′ M′ out′ r =
+    (R : RuleSet) (T : List ℕ) → Ruled R t T D w functions c → (s : Situation (Sem-M (attributes R))) → Situated R s n ws M → Roomy R s ws out path → Once R s k out ws′ M′ out′ r
 
 -- ── a list of numbers ──
 
@@ -64,7 +66,7 @@ pub record Ended (R : RuleSet) (h : machine (Sem-M (attributes R))) (out ws′ M
   pub after : Situated R (h .state) (r .size) ws′ M′
   pub words-only : WordsOnly out out′
 
-abbrev pub Runs : (numbers t D : List ℕ) (w functions c : ℕ) (n : ℕ) (ws M out ws′ M′ out′ : List ℕ) (r : Tally) → Type 0
-Runs numbers t D w functions c n ws M out ws′ M′ out′ r =
-    (R : RuleSet) (T : List ℕ) → Ruled R t T D w functions c → (s : Situation (Sem-M (attributes R))) → Situated R s n ws M → Roomy R s ws out
+abbrev pub Runs : (numbers t D : List ℕ) (w functions c : ℕ) (n : ℕ) (ws M out path ws′ M′ out′ : List ℕ) (r : Tally) → Type 0
+Runs numbers t D w functions c n ws M out path ws′ M′ out′ r =
+    (R : RuleSet) (T : List ℕ) → Ruled R t T D w functions c → (s : Situation (Sem-M (attributes R))) → Situated R s n ws M → Roomy R s ws out path
     → Ended R (run (system (Sem-M (attributes R))) (initial (system (Sem-M (attributes R))) s) (words-in numbers)) out ws′ M′ out′ r

@@ -12,7 +12,7 @@ pub mod mains;
 use cells::load;
 use scan::front;
 use steps::moving::Taken;
-use steps::moving::take_move;
+use steps::moving::take_move_in;
 use steps::renewing::renew;
 
 // What a number did: how many words the term has after a visible or an internal move, or that there was no such move.
@@ -56,11 +56,13 @@ fn step_once(
     ws: &mut [u16],
     m: &mut [u16],
     out: &mut [u8],
+    path: &mut [u16],
+    acts: &mut [u32],
 ) -> Done
-    requires { ⌜ (length (now t) ≤ 65535) × (w ≤ 256) × (functions ≤ 16) × (c ≤ 1024) × (length (now ws) ≤ 65535) ⌝ }
-    ensures { λ r. ⌜ (length (now (ws .exit)) ≡ length (now (ws .entry))) × (length (now (m .exit)) ≡ length (now (m .entry))) × (length (now (out .exit)) ≡ length (now (out .entry))) × StepsOnce (now (t .entry)) (now (dir .entry)) w functions c n k (now (ws .entry)) (now (m .entry)) (now (out .entry)) (now (ws .exit)) (now (m .exit)) (now (out .exit)) r ⌝ }
+    requires { ⌜ (length (now t) ≤ 65535) × (w ≤ 256) × (functions ≤ 16) × (c ≤ 1024) × (length (now ws) ≤ 65535) × (length (now path) ≤ 65535) × (length (now acts) ≤ 131072) ⌝ }
+    ensures { λ r. ⌜ (length (now (ws .exit)) ≡ length (now (ws .entry))) × (length (now (m .exit)) ≡ length (now (m .entry))) × (length (now (out .exit)) ≡ length (now (out .entry))) × (length (now (path .exit)) ≡ length (now (path .entry))) × (length (now (acts .exit)) ≡ length (now (acts .entry))) × StepsOnce (now (t .entry)) (now (dir .entry)) w functions c n k (now (ws .entry)) (now (m .entry)) (now (out .entry)) (now (path .entry)) (now (ws .exit)) (now (m .exit)) (now (out .exit)) r ⌝ }
 {
-    match take_move(front(ws, n), m, k, out) {
+    match take_move_in(front(ws, n), m, k, path, acts, out) {
         Taken::Made(action, size) => {
             renew(t, dir, m, w, functions, c, action);
             load(out, ws, 0, size);
@@ -116,9 +118,11 @@ pub fn run_moves(
     ws: &mut [u16],
     m: &mut [u16],
     out: &mut [u8],
+    path: &mut [u16],
+    acts: &mut [u32],
 ) -> Tally
-    requires { ⌜ (length (now t) ≤ 65535) × (w ≤ 256) × (functions ≤ 16) × (c ≤ 1024) × (length (now ws) ≤ 65535) ⌝ }
-    ensures { λ r. ⌜ (length (now (ws .exit)) ≡ length (now (ws .entry))) × (length (now (m .exit)) ≡ length (now (m .entry))) × (length (now (out .exit)) ≡ length (now (out .entry))) × Runs (now (numbers .entry)) (now (t .entry)) (now (dir .entry)) w functions c n (now (ws .entry)) (now (m .entry)) (now (out .entry)) (now (ws .exit)) (now (m .exit)) (now (out .exit)) r ⌝ }
+    requires { ⌜ (length (now t) ≤ 65535) × (w ≤ 256) × (functions ≤ 16) × (c ≤ 1024) × (length (now ws) ≤ 65535) × (length (now path) ≤ 65535) × (length (now acts) ≤ 131072) ⌝ }
+    ensures { λ r. ⌜ (length (now (ws .exit)) ≡ length (now (ws .entry))) × (length (now (m .exit)) ≡ length (now (m .entry))) × (length (now (out .exit)) ≡ length (now (out .entry))) × (length (now (path .exit)) ≡ length (now (path .entry))) × (length (now (acts .exit)) ≡ length (now (acts .entry))) × Runs (now (numbers .entry)) (now (t .entry)) (now (dir .entry)) w functions c n (now (ws .entry)) (now (m .entry)) (now (out .entry)) (now (path .entry)) (now (ws .exit)) (now (m .exit)) (now (out .exit)) r ⌝ }
 {
     let mut tally = Tally {
         size: n,
@@ -131,7 +135,7 @@ pub fn run_moves(
     while i < count {
         let size = tally.size;
         let k = number_at(numbers, i);
-        let done = step_once(t, dir, w, functions, c, size, k, ws, m, out);
+        let done = step_once(t, dir, w, functions, c, size, k, ws, m, out, path, acts);
         tally = counted(tally, done);
         i = i + 1;
     }

@@ -55,7 +55,8 @@ fn finish(
     save(m, memory, c);
 }
 
-// Main's unfolding and the cells of the start, then all numbers, in lent words with room for main's reach.
+// Main's unfolding and the cells of the start, then all numbers, in lent words with room for main's reach. A path has as much room; its array and
+// the one for the numbers that finding it takes are lent too, so that they are cleared once for all numbers.
 fn run_words(
     numbers: &[u8],
     t: &[u16],
@@ -64,20 +65,22 @@ fn run_words(
     c: usize,
     reach: usize,
     ws: &mut [u16],
+    path: &mut [u16],
+    acts: &mut [u32],
     term: &mut [u8],
     memory: &mut [u8],
     spare: &mut [u8],
 ) -> Totals
-    requires { ⌜ (length (now t) ≤ 65535) × (c ≤ 1024) × (getD (now tb) 17 0 ≤ 64) × (getD (now tb) 210 0 ≤ 16) × (length (now ws) ≤ 65535) ⌝ }
+    requires { ⌜ (length (now t) ≤ 65535) × (c ≤ 1024) × (getD (now tb) 17 0 ≤ 64) × (getD (now tb) 210 0 ≤ 16) × (length (now ws) ≤ 65535) × (length (now path) ≡ length (now ws)) × (length (now acts) ≤ 131072) ⌝ }
     ensures { λ r. ⌜ RunsMain (now (numbers .entry)) (now (t .entry)) (now (tb .entry)) (now (dir .entry)) c reach (length (now (ws .entry))) (now (term .entry)) (now (memory .entry)) (now (spare .entry)) r (now (term .exit)) (now (memory .exit)) (now (spare .exit)) ⌝ }
 {
     let w = 3 + wide32(entry(tb, 17));
-    let functions = wide32(entry(tb, 210));
+    let fns = wide32(entry(tb, 210));
     let n = unfold_main(t, tb, spare);
     load(spare, ws, 0, n);
     let mut m = [0u16; 2084];
-    start_store(t, dir, &mut m, w, functions, c);
-    let r = run_moves(numbers, t, dir, w, functions, c, n, ws, &mut m, spare);
+    start_store(t, dir, &mut m, w, fns, c);
+    let r = run_moves(numbers, t, dir, w, fns, c, n, ws, &mut m, spare, path, acts);
     finish(ws, r.size, reach, &m, c, term, memory);
     Totals {
         size: low32(r.size),
@@ -103,7 +106,22 @@ fn run_short(
     ensures { λ r. ⌜ RunsMain (now (numbers .entry)) (now (t .entry)) (now (tb .entry)) (now (dir .entry)) c reach 256 (now (term .entry)) (now (memory .entry)) (now (spare .entry)) r (now (term .exit)) (now (memory .exit)) (now (spare .exit)) ⌝ }
 {
     let mut ws = [0u16; 256];
-    let r = run_words(numbers, t, tb, dir, c, reach, &mut ws, term, memory, spare);
+    let mut path = [0u16; 256];
+    let mut acts = [0u32; 256];
+    let r = run_words(
+        numbers,
+        t,
+        tb,
+        dir,
+        c,
+        reach,
+        &mut ws,
+        &mut path,
+        &mut acts,
+        term,
+        memory,
+        spare,
+    );
     r
 }
 
@@ -122,7 +140,22 @@ fn run_long(
     ensures { λ r. ⌜ RunsMain (now (numbers .entry)) (now (t .entry)) (now (tb .entry)) (now (dir .entry)) c reach 8192 (now (term .entry)) (now (memory .entry)) (now (spare .entry)) r (now (term .exit)) (now (memory .exit)) (now (spare .exit)) ⌝ }
 {
     let mut ws = [0u16; 8192];
-    let r = run_words(numbers, t, tb, dir, c, reach, &mut ws, term, memory, spare);
+    let mut path = [0u16; 8192];
+    let mut acts = [0u32; 256];
+    let r = run_words(
+        numbers,
+        t,
+        tb,
+        dir,
+        c,
+        reach,
+        &mut ws,
+        &mut path,
+        &mut acts,
+        term,
+        memory,
+        spare,
+    );
     r
 }
 

@@ -74,9 +74,9 @@ nowhere-taken {s} {M} {k} {entry} {exit} {r} f h B P E w b _ = nothing-taken M k
     below (no l) = omega arith
 
 -- No term within the limit has so many moves.
-pub too-many-taken : {s : List ℕ} (M : List ℕ) (k : ℕ) → 65535 < k → (B : List ℕ)
-    → (P : Scope) (E : Term) → Whole s P E → size 1 E ≤ 8192 → SuccessorFits (getElem? (moves (holding M) E) k) B → Took (getElem? (moves (holding M) E) k) B B NotOffered
-too-many-taken M k h B P E w _ _ = nothing-taken M k E B (omega (arith, w .narrow, moves-below-breadth (holding M) E))
+pub too-many-taken : {s : List ℕ} (M : List ℕ) (k : ℕ) → 65535 < k → (n : ℕ) (B : List ℕ)
+    → (P : Scope) (E : Term) → Whole s P E → size 1 E ≤ n → SuccessorFits (getElem? (moves (holding M) E) k) B → Took (getElem? (moves (holding M) E) k) B B NotOffered
+too-many-taken M k h n B P E w _ _ = nothing-taken M k E B (omega (arith, w .narrow, moves-below-breadth (holding M) E))
 
 -- A term has no more words than the words it stands in.
 pub size-below : {s : List ℕ} {n : ℕ} → length s ≤ n → (P : Scope) (E : Term) → Whole s P E → size 1 E ≤ n

@@ -27,15 +27,6 @@ const FULL: usize = 2199023255552;
 
 // ── the path ──
 
-fn path_few(s: &[u16], m: &[u16], k: usize, path: &mut [u16]) -> usize
-    requires { ⌜ (length (now s) ≤ 65535) × (k < 65536) × (length (now path) ≤ 65535) ⌝ }
-    ensures { λ r. ⌜ PathSought (now (s .entry)) (now (m .entry)) k (now (path .entry)) (now (path .exit)) 256 r ⌝ }
-{
-    let mut acts = [0u32; 256];
-    let r = derive(s, m, k, path, &mut acts);
-    r
-}
-
 fn path_more(s: &[u16], m: &[u16], k: usize, path: &mut [u16]) -> usize
     requires { ⌜ (length (now s) ≤ 65535) × (k < 65536) × (length (now path) ≤ 65535) ⌝ }
     ensures { λ r. ⌜ PathSought (now (s .entry)) (now (m .entry)) k (now (path .entry)) (now (path .exit)) 4096 r ⌝ }
@@ -70,12 +61,12 @@ fn path_most(s: &[u16], m: &[u16], k: usize, path: &mut [u16], more: usize) -> u
     path_most(s, m, k, path, more - 1)
 }
 
-// The place in a lent array where move k's path begins; it goes to the array's end.
-fn find_path(s: &[u16], m: &[u16], k: usize, path: &mut [u16]) -> usize
-    requires { ⌜ (length (now s) ≤ 65535) × (k < 65536) × (length (now path) ≤ 65535) ⌝ }
+// The place in a lent array where move k's path begins; it goes to the array's end. The lent numbers are tried first.
+fn find_path(s: &[u16], m: &[u16], k: usize, path: &mut [u16], acts: &mut [u32]) -> usize
+    requires { ⌜ (length (now s) ≤ 65535) × (k < 65536) × (length (now path) ≤ 65535) × (length (now acts) ≤ 131072) ⌝ }
     ensures { λ r. ⌜ PathFound (now (s .entry)) (now (m .entry)) k (now (path .entry)) (now (path .exit)) r ⌝ }
 {
-    let few = path_few(s, m, k, path);
+    let few = derive(s, m, k, path, acts);
     if few < FULL {
         return few;
     }
@@ -88,12 +79,23 @@ fn find_path(s: &[u16], m: &[u16], k: usize, path: &mut [u16]) -> usize
 
 // ── the move ──
 
-// With a lent array for the path.
-fn take_by(s: &[u16], m: &[u16], k: usize, path: &mut [u16], out: &mut [u8]) -> Taken
-    requires { ⌜ (length (now s) ≤ 65535) × (k < 65536) × (length (now path) ≤ 65535) ⌝ }
-    ensures { λ r. ⌜ ((P : Scope) (E : Term) → Whole (now (s .entry)) P E → size 1 E ≤ length (now (path .entry)) → SuccessorFits (getElem? (moves (holding (now (m .entry))) E) k) (now (out .entry)) → Took (getElem? (moves (holding (now (m .entry))) E) k) (now (out .entry)) (now (out .exit)) r) ⌝ }
+// Move k, its successor in a buffer that has room for it. The arrays for the path and for the numbers that finding it takes are lent, so that a
+// run clears them once and not at every move: what they hold before does not count. No term within the limits has a move 65536.
+pub fn take_move_in(
+    s: &[u16],
+    m: &[u16],
+    k: usize,
+    path: &mut [u16],
+    acts: &mut [u32],
+    out: &mut [u8],
+) -> Taken
+    requires { ⌜ (length (now s) ≤ 65535) × (length (now path) ≤ 65535) × (length (now acts) ≤ 131072) ⌝ }
+    ensures { λ r. ⌜ (length (now (path .exit)) ≡ length (now (path .entry))) × (length (now (acts .exit)) ≡ length (now (acts .entry))) × ((P : Scope) (E : Term) → Whole (now (s .entry)) P E → size 1 E ≤ length (now (path .entry)) → SuccessorFits (getElem? (moves (holding (now (m .entry))) E) k) (now (out .entry)) → Took (getElem? (moves (holding (now (m .entry))) E) k) (now (out .entry)) (now (out .exit)) r) ⌝ }
 {
-    let at = find_path(s, m, k, path);
+    if 65535 < k {
+        return Taken::NotOffered;
+    }
+    let at = find_path(s, m, k, path, acts);
     if PASSED <= at {
         return Taken::NotOffered;
     }
@@ -102,31 +104,30 @@ fn take_by(s: &[u16], m: &[u16], k: usize, path: &mut [u16], out: &mut [u8]) -> 
 }
 
 fn take_short(s: &[u16], m: &[u16], k: usize, out: &mut [u8]) -> Taken
-    requires { ⌜ (length (now s) ≤ 65535) × (k < 65536) ⌝ }
+    requires { ⌜ length (now s) ≤ 65535 ⌝ }
     ensures { λ r. ⌜ ((P : Scope) (E : Term) → Whole (now (s .entry)) P E → size 1 E ≤ 256 → SuccessorFits (getElem? (moves (holding (now (m .entry))) E) k) (now (out .entry)) → Took (getElem? (moves (holding (now (m .entry))) E) k) (now (out .entry)) (now (out .exit)) r) ⌝ }
 {
     let mut path = [0u16; 256];
-    let r = take_by(s, m, k, &mut path, out);
+    let mut acts = [0u32; 256];
+    let r = take_move_in(s, m, k, &mut path, &mut acts, out);
     r
 }
 
 fn take_long(s: &[u16], m: &[u16], k: usize, out: &mut [u8]) -> Taken
-    requires { ⌜ (length (now s) ≤ 65535) × (k < 65536) ⌝ }
+    requires { ⌜ length (now s) ≤ 65535 ⌝ }
     ensures { λ r. ⌜ ((P : Scope) (E : Term) → Whole (now (s .entry)) P E → size 1 E ≤ 8192 → SuccessorFits (getElem? (moves (holding (now (m .entry))) E) k) (now (out .entry)) → Took (getElem? (moves (holding (now (m .entry))) E) k) (now (out .entry)) (now (out .exit)) r) ⌝ }
 {
     let mut path = [0u16; 8192];
-    let r = take_by(s, m, k, &mut path, out);
+    let mut acts = [0u32; 256];
+    let r = take_move_in(s, m, k, &mut path, &mut acts, out);
     r
 }
 
-// Move k, its successor in a buffer that has room for it.
+// The same with arrays of its own, small ones for a short term, so that little is cleared for it.
 pub fn take_move(s: &[u16], m: &[u16], k: usize, out: &mut [u8]) -> Taken
     requires { ⌜ length (now s) ≤ 65535 ⌝ }
     ensures { λ r. ⌜ ((P : Scope) (E : Term) → Whole (now (s .entry)) P E → size 1 E ≤ 8192 → SuccessorFits (getElem? (moves (holding (now (m .entry))) E) k) (now (out .entry)) → Took (getElem? (moves (holding (now (m .entry))) E) k) (now (out .entry)) (now (out .exit)) r) ⌝ }
 {
-    if 65535 < k {
-        return Taken::NotOffered;
-    }
     if s.len() <= 256 {
         return take_short(s, m, k, out);
     }

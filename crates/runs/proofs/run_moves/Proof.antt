@@ -1,18 +1,18 @@
 -- After i numbers the machine is run by the first i (`run-next`), and as many are counted, so that no count overflows.
-use borrow.Author.Needs.{needs}
 use mathlib.Core.Path.{_≡_, refl, ap, _∙_}
 use Prim.Native.Nat.{_-_, _/_, _≤_}
-use native.Mathlib.Omega.{arith}
 use lib.ListN.{length}
 use Rattle.runs.proofs.RunCases.{total, counted-once, Running-to, run-start, run-next, run-end}
+use native.Mathlib.Omega.{arith}
+use borrow.Author.Needs.{needs}
 use Rattle.runs.proofs.run_moves.Statement.{statement}
 use Rattle.runs.proofs.run_moves.Tie as tie
 
 abbrev Inv-loop : tie.InvT-loop
-Inv-loop numbers t dir w functions c n ws₀ m₀ out₀ tally₀ count i₀ ws m out tally i = (i ≤ count) × (count ≡ length numbers / 2) × (total tally ≡ i) × (length ws ≡ length ws₀) × (length m ≡ length m₀) × (length out ≡ length out₀) × Running-to numbers t dir w functions c n ws₀ m₀ out₀ i ws m out tally
+Inv-loop numbers t dir w functions c n ws₀ m₀ out₀ path₀ acts₀ tally₀ count i₀ ws m out path acts tally i = (i ≤ count) × (count ≡ length numbers / 2) × (total tally ≡ i) × (length ws ≡ length ws₀) × (length m ≡ length m₀) × (length out ≡ length out₀) × (length path ≡ length path₀) × (length acts ≡ length acts₀) × Running-to numbers t dir w functions c n ws₀ m₀ out₀ path₀ i ws m out tally
 
 abbrev μ-loop : tie.MeasureT-loop
-μ-loop numbers t dir w functions c n ws₀ m₀ out₀ tally₀ count i₀ ws m out tally i = count - i
+μ-loop numbers t dir w functions c n ws₀ m₀ out₀ path₀ acts₀ tally₀ count i₀ ws m out path acts tally i = count - i
 
 pub run-moves-spec : {M : Type 1} → statement M
 run-moves-spec =
@@ -20,14 +20,16 @@ run-moves-spec =
     (tie.spec
     Inv-loop
     μ-loop
-    (λ c. (omega arith, refl, refl, refl, refl, refl, run-start (c .before .before .before .before .before .before .args .numbers .now)))
+    (λ c. (omega arith, refl, refl, refl, refl, refl, refl, refl, run-start (c .before .before .before .before .before .before .before .before .args .numbers .now)))
     (λ c κs. search needs)
     (λ c κs. search needs)
     (λ c κs. search needs)
+    (λ c. record { fits = omega (arith, c .before .before .before .before .before .before .before .before .before .before .before .before .before .before .before .before .before .before .loop-test .taken, c .before .before .before .before .before .before .before .before .before .before .before .before .before .before .before .before .before .before .before .loop .inv .1, c .before .before .before .before .before .before .before .before .before .before .before .before .before .before .before .before .before .before .before .before .before .before .before .before .before .before .before .before .good .0) })
+    (λ c. search needs)
+    (λ c. let v = c .before .before .before .before .before .before .before .before .before .before .before .before .before .before .before .before .before .before .before .loop .inv in let o = c .before .before .before .before .before .before .before .before .before .before .before .step-once .ensures in (omega arith, refl, omega (arith, v .2, ap total (c .counted .ensures), counted-once (c .before .before .before .before .before .before .before .before .before .before .before .before .before .before .before .before .before .before .before .loop .tally) (c .before .before .before .before .before .before .before .before .before .before .before .step-once .result)), o .0 ∙ v .3, o .1 ∙ v .4, o .2 ∙ v .5, o .3 ∙ v .6, o .4 ∙ v .7, run-next _ _ (c .before .before .before .before .before .before .before .before .before .before .before .before .before .before .before .before .before .before .loop-test .taken) (v .3) (v .5) (v .6) (v .8) (c .before .before .before .before .before .before .before .before .before .before .before .before .before .before .before .before .before .number-at .ensures) (o .5) (c .counted .ensures)))
     (λ c. search needs)
     (λ c. search needs)
-    (λ c. let v = c .before .before .before .before .before .before .before .before .before .before .before .before .before .loop .inv in let o = c .before .before .before .before .before .before .before .step-once .ensures in (omega arith, refl, omega (arith, v .2, ap total (c .counted .ensures), counted-once (c .before .before .before .before .before .before .before .before .before .before .before .before .before .loop .tally) (c .before .before .before .before .before .before .before .step-once .result)), o .0 ∙ v .3, o .1 ∙ v .4, o .2 ∙ v .5, run-next _ _ (c .before .before .before .before .before .before .before .before .before .before .before .before .loop-test .taken) (v .3) (v .5) (v .6) (c .before .before .before .before .before .before .before .before .before .before .before .number-at .ensures) (o .3) (c .counted .ensures)))
     (λ c. search needs)
     (λ c. search needs)
     (λ c. search needs)
-    (λ c. let v = c .before .loop .inv in (v .3, v .4, v .5, run-end (c .before .before .before .before .before .before .before .before .args .numbers .now) (c .before .loop .i) (omega (arith, c .loop-test .left)) (v .6))))
+    (λ c. let v = c .before .loop .inv in (v .3, v .4, v .5, v .6, v .7, run-end (c .before .before .before .before .before .before .before .before .before .before .args .numbers .now) (c .before .loop .i) (omega (arith, c .loop-test .left)) (v .8))))

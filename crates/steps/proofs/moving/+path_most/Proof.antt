@@ -1,3 +1,4 @@
+-- Sought again in the same room the answer is as good (`sought-again`); a count falls with each call of itself.
 use Rattle.steps.proofs.TakeCases.{sought-again}
 use borrow.Author.Needs.{needs}
 use Prim.Native.Nat.{ℕ, _<_}
@@ -23,52 +24,16 @@ path-most-below t =
 abbrev path-most-with : ℕ → path-most-lts.Claims
 path-most-with t = (path-in-most-reads.Asked, path-in-most-reads.Learnt, path-most-below t, path-most.Post)
 
--- src/moving.rt:63:9
-path-most-path-in-most-requires : (t : ℕ) → path-most-lts.Need-path-in-most-requires (path-most-with t) (path-most-at t) path-most.Post
-path-most-path-in-most-requires t c κs = search needs
-
--- src/moving.rt:65:9
-path-most-same-length : (t : ℕ) → path-most-lts.Need-same-length (path-most-with t) (path-most-at t) path-most.Post
-path-most-same-length t c = search needs
-
--- src/moving.rt:65:9
-path-most-returns : (t : ℕ) → path-most-lts.Need-returns (path-most-with t) (path-most-at t) path-most.Post
-path-most-returns t c = search needs
-
--- src/moving.rt:68:9
-path-most-same-length-2 : (t : ℕ) → path-most-lts.Need-same-length-2 (path-most-with t) (path-most-at t) path-most.Post
-path-most-same-length-2 t c = search needs
-
--- src/moving.rt:68:9
-path-most-returns-2 : (t : ℕ) → path-most-lts.Need-returns-2 (path-most-with t) (path-most-at t) path-most.Post
-path-most-returns-2 t c = search needs
-
--- src/moving.rt:70:30
-path-most-sub-path-most : (t : ℕ) → path-most-lts.Need-sub-path-most (path-most-with t) (path-most-at t) path-most.Post
-path-most-sub-path-most t c = search needs
-
--- src/moving.rt:70:5
-path-most-path-most-requires : (t : ℕ) → path-most-lts.Need-path-most-requires (path-most-with t) (path-most-at t) path-most.Post
-path-most-path-most-requires t c κs = search needs
-
--- src/moving.rt:59:1
-path-most-same-length-3 : (t : ℕ) → path-most-lts.Need-same-length-3 (path-most-with t) (path-most-at t) path-most.Post
-path-most-same-length-3 t c = search needs
-
--- src/moving.rt:59:1
-path-most-returns-3 : (t : ℕ) → path-most-lts.Need-returns-3 (path-most-with t) (path-most-at t) path-most.Post
-path-most-returns-3 t c = sought-again _ _ _ (c .before .before .before .before .before .before .before .before .before .before .before .before .before .args .path .now) _ _ _ _ (c .before .before .before .before .before .before .before .before .path-in-most .ensures .same-length) (c .before .before .path-most .ensures)
-
 pub +path-most-spec : {M : Type 1} → statement M
 +path-most-spec = close μ-path-most λ t. path-most-lts.spec (path-most-with t)
     (path-most-at t)
     path-most.Post
-    (path-most-path-in-most-requires t)
-    (path-most-same-length t)
-    (path-most-returns t)
-    (path-most-same-length-2 t)
-    (path-most-returns-2 t)
-    (path-most-sub-path-most t)
-    (path-most-path-most-requires t)
-    (path-most-same-length-3 t)
-    (path-most-returns-3 t)
+    (λ c κs. search needs)
+    (λ c. search needs)
+    (λ c. search needs)
+    (λ c. search needs)
+    (λ c. search needs)
+    (λ c. search needs)
+    (λ c κs. search needs)
+    (λ c. search needs)
+    (λ c. sought-again _ _ _ (c .before .before .before .before .before .before .before .before .before .before .before .before .before .args .path .now) _ _ _ _ (c .before .before .before .before .before .before .before .before .path-in-most .ensures .same-length) (c .before .before .path-most .ensures))
