@@ -34,7 +34,7 @@ mod searching;
 const FULL: usize = 2199023255552;
 
 // What is left of k, and the words left behind a term without move k.
-fn passing(k: usize, left: usize) -> usize
+pub fn passing(k: usize, left: usize) -> usize
     requires { ⌜ (k < 131072) × (left ≤ 65535) ⌝ }
     ensures { λ r. ⌜ (r ≡ passed + answer left k) × (r < full) ⌝ }
 {
@@ -42,7 +42,7 @@ fn passing(k: usize, left: usize) -> usize
 }
 
 // One move, whose path is empty: it begins at the end.
-fn single(k: usize, left: usize, end: usize) -> usize
+pub fn single(k: usize, left: usize, end: usize) -> usize
     requires { ⌜ (k < 131072) × (left ≤ 65535) ⌝ }
     ensures { λ r. ⌜ (k ≡ 0 → r ≡ end) × (1 ≤ k → r ≡ passed + answer left (k - 1)) ⌝ }
 {
@@ -53,7 +53,7 @@ fn single(k: usize, left: usize, end: usize) -> usize
 }
 
 // Writes a decision in front of the path that begins at r.
-fn decide(c: u16, r: usize, path: &mut [u16]) -> usize
+pub fn decide(c: u16, r: usize, path: &mut [u16]) -> usize
     requires { ⌜ (r ≤ full) × (r < passed → r ≤ length (now path)) ⌝ }
     ensures { λ q. ⌜ Decided (c ∷ []) r (now (path .entry)) (now (path .exit)) q ⌝ }
 {
@@ -69,7 +69,7 @@ fn decide(c: u16, r: usize, path: &mut [u16]) -> usize
 }
 
 // Writes a decision that goes on on the right, and the left operand's size behind it.
-fn decide_right(c: u16, n: u16, r: usize, path: &mut [u16]) -> usize
+pub fn decide_right(c: u16, n: u16, r: usize, path: &mut [u16]) -> usize
     requires { ⌜ (r ≤ full) × (r < passed → r ≤ length (now path)) ⌝ }
     ensures { λ q. ⌜ Decided (c ∷ n ∷ []) r (now (path .entry)) (now (path .exit)) q ⌝ }
 {
@@ -78,7 +78,7 @@ fn decide_right(c: u16, n: u16, r: usize, path: &mut [u16]) -> usize
 }
 
 // The words of t that stand before its last words u.
-fn size_before(t: &[u16], u: &[u16]) -> u16
+pub fn size_before(t: &[u16], u: &[u16]) -> u16
     requires { ⌜ (length (now t) ≤ 65535) × (length (now u) ≤ length (now t)) ⌝ }
     ensures { λ r. ⌜ r ≡ length (now (t .entry)) - length (now (u .entry)) ⌝ }
 {

@@ -22,8 +22,8 @@ use unchanged::unchanged;
 use writing::put_word;
 use writing::put_words;
 
-mod conditions;
-mod unchanged;
+pub mod conditions;
+pub mod unchanged;
 
 // Whether there was room; the action's number, the words written, the words at the end of the term that go on from there, how many
 // whole terms at the beginning of these are still the successor's, and what is left of the path.
