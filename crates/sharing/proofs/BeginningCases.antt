@@ -23,7 +23,7 @@ use Rattle.paths.specs.Paths.{followed, within, follow, marked}
 use Rattle.sharing.specs.Shared.{PartAt}
 use Rattle.sharing.specs.SharedLaws.{size-some}
 use Rattle.sharing.specs.Beginning.{BeganRight, Beginning, ActionNumber, EndPut}
-use Rattle.sharing.proofs.BeginningFollows.{choice-left-follows, choice-left-marked, choice-right-follows, choice-right-marked, star-end-follows, round-follows, round-marked}
+use Rattle.successors.specs.FollowLaws.{choice-left-follows, choice-left-marked, choice-right-follows, choice-right-marked, star-end-follows, round-follows, round-marked}
 use Rattle.sharing.proofs.BeginningEnds.{Under, under-on, last-tail, part-at}
 use Rattle.sharing.proofs.BeginningTerms.{action-there, sequence-two, choice-two, star-one, guard-condition, guard-operand, right-there, left-within}
 use Rattle.sharing.proofs.BeginningGiven.{Skipped, lent, Given, begun, by-any, by-action, by-sequence, by-choice, by-star, by-guard, ended, then-began}

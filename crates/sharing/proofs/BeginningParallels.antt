@@ -20,7 +20,7 @@ use Rattle.paths.specs.Paths.{Followed, followed, within, follow, marked}
 use Rattle.sharing.specs.Shared.{Beside, no-mask, term-of, shared-words, Unmasked}
 use Rattle.sharing.specs.SharedLaws.{size-some, shared-short}
 use Rattle.sharing.specs.Beginning.{began, BeganRight, Beginning, EndPut, TwoRight, LeftBegun, BothBegun}
-use Rattle.sharing.proofs.BeginningFollows.{rest-of-path, rest-short, parallel-end-follows, parallel-left-follows, parallel-left-marked, parallel-right-follows, parallel-right-marked, parallel-both-follows, parallel-both-marked, size-marked}
+use Rattle.successors.specs.FollowLaws.{rest-of-path, rest-short, parallel-end-follows, parallel-left-follows, parallel-left-marked, parallel-right-follows, parallel-right-marked, parallel-both-follows, parallel-both-marked, size-marked}
 use Rattle.sharing.proofs.BeginningPuts.{put-one, one-put, put-behind}
 use Rattle.sharing.proofs.BeginningEnds.{Under, under-on, last-tail, one-word, bare-mask}
 use Rattle.sharing.proofs.BeginningTerms.{parallel-two, parallel-long, right-there, left-within}

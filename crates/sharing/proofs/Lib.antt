@@ -7,7 +7,6 @@ mod FindingPlaces
 mod FindingParts
 mod FindingCases
 mod FindingSides
-mod BeginningFollows
 mod BeginningPuts
 mod BeginningEnds
 mod BeginningTerms

@@ -7,31 +7,20 @@ use Prim.Native.Nat.{ℕ, zero, suc, _+_, _≤_, _<_}
 use native.Mathlib.Omega.{arith}
 use lib.ListN.{length, take, getElem?, length-append}
 use Rattle.eb3.specs.Scopes.{Scope}
-use Rattle.eb3.specs.Terms.{Term, Done, Internal, Perform, Sequence, Choice, Star, Parallel, Guard, internal, done?}
+use Rattle.eb3.specs.Terms.{Term, Done, internal, done?}
 use Rattle.eb3.specs.Moves.{Move, move, moves}
 use Rattle.eb3.specs.Sizes.{size}
 use Rattle.actions.specs.Codes.{action-code}
-use Rattle.listing.specs.Listing.{Fits, holding}
+use Rattle.listing.specs.Listing.{holding}
 use Rattle.paths.specs.Paths.{path, follow, followed, marked}
 use Rattle.paths.specs.PathLaws.{follow-path}
-use Rattle.paths.specs.SmallLaws.{SmallActions}
+use Rattle.deriving.specs.FitLaws.{small-actions}
 use Rattle.sharing.specs.Shared.{Shared, Ended, Part, Then, Beside, term-of, shared-words, PartAt}
 use Rattle.sharing.specs.SharedLaws.{shared-short}
 use Rattle.sharing.specs.Finding.{Moving, part, resumed, joined, Place}
 use Rattle.sharing.specs.Changing.{Changes, RoomFor, ChangedRight}
 use Rattle.sharing.specs.Changing as changing
 use Rattle.sharing.specs.Stepping.{StepTaken}
-
--- A running term of edition 1 has small actions.
-small-actions : (P : Scope) (E : Term) → Fits P E → SmallActions E
-small-actions P Done h = tt
-small-actions P Internal h = tt
-small-actions P (Perform a) h = h
-small-actions P (Sequence E F) h = (small-actions P E (h .0), small-actions P F (h .1))
-small-actions P (Choice E F) h = (small-actions P E (h .0), small-actions P F (h .1))
-small-actions P (Star E) h = small-actions P E h
-small-actions P (Parallel Δ E F) h = (small-actions P E (h .1), small-actions P F (h .2))
-small-actions P (Guard C E) h = small-actions P E (h .1)
 
 pub some-within : (l : List Move) (k : ℕ) (x : Move) → getElem? l k ≡ some x → k < length l
 some-within [] k x e = absurd (Option·none-ne-some x e)

@@ -10,7 +10,7 @@ use Rattle.listing.specs.Listing.{TermAt}
 use Rattle.listing.specs.Positions.{TwoAt}
 use Rattle.sharing.specs.Shared.{Unmasked}
 
--- The words left behind the term, where no label stands in a mask of it; else 65,536.
+-- Below 65,536: no label stands in a mask of the term, and so many words are left behind it. Of 65,536 nothing is said.
 pub record Bare (s : List ℕ) (r : ℕ) : Type 0 where
   pub bounded : r ≤ 65536
   pub shorter : r < 65536 → r ≤ length s

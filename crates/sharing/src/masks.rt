@@ -13,7 +13,7 @@ use scan::first;
 use scan::last;
 use successors::conditions::behind_condition;
 
-// A label stands in some mask.
+// A label stands in some mask, or operands stand too deep.
 const MASKED: usize = 65536;
 
 // Operands that stand deeper to the left in sequences and parallels are not shared. Where such an operand moves for the first time its end is looked for at

@@ -25,7 +25,7 @@ use Rattle.deriving.specs.Derived.{passed, full, move-count, Derived}
 use Rattle.successors.specs.declared.Built.{Built}
 use Rattle.successors.specs.Building.{built-words, Building, BuiltRight}
 use Rattle.steps.specs.Counting.{Whole}
-use Rattle.steps.specs.FitLaws.{small-actions}
+use Rattle.deriving.specs.FitLaws.{small-actions}
 use Rattle.steps.specs.Taking.{PathSought, PathFound, taken-as, built-over, SuccessorFits, Took}
 use Rattle.steps.specs.declared.moving.Taken.the-variants.{Made, NotOffered}
 

@@ -14,7 +14,7 @@ use Rattle.actions.specs.Codes.{action-code, Small}
 use Rattle.actions.specs.CodesLaws.{same-code}
 use Rattle.listing.specs.Listing.{Fits, code-of, codes}
 use Rattle.paths.specs.SmallLaws.{move-action-small}
-use Rattle.steps.specs.FitLaws.{small-actions}
+use Rattle.deriving.specs.FitLaws.{small-actions}
 use Rattle.steps.specs.Counting.{first-number}
 
 -- of any list of moves with small actions

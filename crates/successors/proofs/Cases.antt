@@ -24,7 +24,7 @@ use Rattle.successors.specs.Parts.{Unbuilt, Made, Whole, Added, Begun, B
 use Rattle.successors.specs.declared.Built.{Built}
 use Rattle.successors.proofs.Ends.{behind-part, before-part, drop-past, behind-shorter}
 use Rattle.successors.proofs.Terms.{sequence-first, choice-first, star-first, guard-condition, action-there, second-of-sequence, second-of-choice, guard-operand, size-there}
-use Rattle.successors.proofs.Follows.{choice-left-follows, choice-left-marked, choice-right-follows, choice-right-marked, star-end-follows, round-follows, round-marked}
+use Rattle.successors.specs.FollowLaws.{choice-left-follows, choice-left-marked, choice-right-follows, choice-right-marked, star-end-follows, round-follows, round-marked}
 use Rattle.successors.proofs.Made.{bounded-within, right-bounded, unbuilt-bounded, made-left, added-made}
 use Rattle.successors.proofs.Writes.{lent}
 use Rattle.successors.proofs.Begun.{begun-within, begun-longer, begun-where, whole-begun, by-action, by-sequence, by-choice, by-star, by-guard}

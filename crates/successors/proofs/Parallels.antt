@@ -19,7 +19,7 @@ use Rattle.successors.specs.Parts.{Unbuilt, Made, Whole, Begun, BegunOf,
 use Rattle.successors.specs.declared.Built.{Built}
 use Rattle.successors.proofs.Ends.{last-within, behind-part, behind-dropped, drop-past, take-past}
 use Rattle.successors.proofs.Terms.{parallel-first, parallel-head, parallel-long, second-of-parallel, size-there}
-use Rattle.successors.proofs.Follows.{rest-of-path, parallel-end-follows, parallel-left-follows, parallel-left-marked, parallel-right-follows, parallel-right-marked, parallel-both-follows, parallel-both-marked, size-marked}
+use Rattle.successors.specs.FollowLaws.{rest-of-path, parallel-end-follows, parallel-left-follows, parallel-left-marked, parallel-right-follows, parallel-right-marked, parallel-both-follows, parallel-both-marked, size-marked}
 use Rattle.successors.proofs.Writes.{lent}
 use Rattle.successors.proofs.Made.{bounded-within, right-bounded, unbuilt-bounded}
 use Rattle.successors.proofs.Begun.{begun-longer, whole-begun, by-parallel}

@@ -21,7 +21,7 @@ use Rattle.paths.specs.Paths.{within, follow, marked}
 use Rattle.successors.specs.Building.{built-words}
 use Rattle.successors.specs.Unchanged.{Moving, Ahead, leading-words, Staying, Unchanged}
 use Rattle.successors.proofs.Terms.{sequence-first, parallel-first, parallel-head}
-use Rattle.successors.proofs.Follows.{parallel-left-follows, parallel-left-marked, parallel-right-follows, parallel-right-marked}
+use Rattle.successors.specs.FollowLaws.{parallel-left-follows, parallel-left-marked, parallel-right-follows, parallel-right-marked}
 use Rattle.successors.proofs.Parallels.{right-there, head-there}
 use Rattle.successors.proofs.Writes.{lent}
 

@@ -4,3 +4,4 @@ pub mod Building
 pub mod Parts
 pub mod Passing
 pub mod Unchanged
+pub mod FollowLaws
