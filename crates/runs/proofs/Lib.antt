@@ -1,4 +1,7 @@
 -- What the proofs of several functions use.
+mod Replies
 mod StepCases
 mod RunCases
+mod SharedCases
 mod MainCases
+mod BareCases

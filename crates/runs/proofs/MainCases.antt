@@ -1,8 +1,8 @@
 -- The run of main put together: its unfolding and the cells of the start are a situation of the memory machine, and where that machine ends by the numbers
 -- is where the history machine does (document 01, "Memory and the history machine"; "Operations": Run).
 use mathlib.Core.Path.{_≡_, sym, ap, _∙_, subst}
-use mathlib.Core.Bool.{Bool}
-use mathlib.Core.List.{List, _++_}
+use mathlib.Core.Bool.{Bool, true}
+use mathlib.Core.List.{List, [], _++_}
 use Prim.Native.Nat.{ℕ, _+_, _-_, _*_, _%_, _≤_, _<_}
 use native.Mathlib.Omega.{arith}
 use native.Mathlib.Decide.{decLt}
@@ -20,8 +20,8 @@ use Rattle.eb3.specs.Spelling.{words}
 use Rattle.eb3.specs.Laws.Spelling.{Small, words-length}
 use Rattle.eb3.specs.Laws.Operations.{spelling-small}
 use Rattle.eb3.specs.Laws.MainRunning.{main-running}
-use Rattle.eb3.specs.Bytes.{words-in, written}
-use Rattle.eb3.specs.Memory.{memory-words}
+use Rattle.eb3.specs.Bytes.{words-in, word-count, written}
+use Rattle.eb3.specs.Memory.{cell-room, memory-words}
 use Rattle.eb3.specs.Semantics.{Sem-M, Sem-T, Situation, situation, system}
 use Rattle.eb3.specs.TransitionSystems.{TransitionSystem, initial}
 use Rattle.eb3.specs.Machines.{machine, history-run, memory-run, Agreement}
@@ -34,12 +34,18 @@ use Rattle.writing.specs.Wrote.{Wrote}
 use Rattle.cells.specs.Preparing.{Loaded, Saved}
 use Rattle.cells.specs.PreparingLaws.{Cleared}
 use Rattle.cells.specs.MemoryLaws.{stored-is, held-words}
+use Rattle.declarations.specs.Directory.{Directory}
 use Rattle.unfold.specs.Unfolded.{Ready}
 use Rattle.steps.specs.Storing.{Stored, Ruled}
 use Rattle.steps.specs.RuledLaws.{ruled-there}
+use Rattle.steps.specs.Judging.{whole}
+use Rattle.sharing.specs.Masks.{Shareable}
+use Rattle.runs.specs.Scratch.{WordsOnly}
 use Rattle.runs.specs.ScratchLaws.{words-written, words-then}
-use Rattle.runs.specs.Running.{Situated, Ended, Runs}
-use Rattle.runs.specs.Mains.{RunsMain, Padded, Finished}
+use Rattle.runs.specs.Running.{Holding, Spelled, Ended, Runs}
+use Rattle.runs.specs.Mains.{RanRight, RunsMain, Padded, Finished}
+use Rattle.runs.specs.Starts.{AtStart, RunsBare, RunsMasked}
+use Rattle.runs.specs.declared.mains.Totals.{Totals}
 use Rattle.runs.specs.declared.Tally.{Tally}
 use Rattle.runs.proofs.StepCases.{written-loaded}
 
@@ -97,39 +103,45 @@ module _ (R : RuleSet) (well : WellFormed edition-1 R) where
   abbrev L : TransitionSystem
   L = system (Sem-M (attributes R))
 
-  abbrev start : Situation (Sem-M (attributes R))
+  abbrev pub start : Situation (Sem-M (attributes R))
   start = situation main (initial-cells (attributes R))
 
   one : R .width ≡ 1
   one = well .form .width-is
 
-  spelled-length : (E : Term) → Running edition-1 R E → length (words 1 E) ≡ size 1 E
+  pub spelled-length : (E : Term) → Running edition-1 R E → length (words 1 E) ≡ size 1 E
   spelled-length E h = subst (λ v. length (words v E) ≡ size v E) one (words-length R E (h .form))
 
-  main-there : Running edition-1 R main
+  pub main-there : Running edition-1 R main
   main-there = main-running edition-1 R (omega arith) well
 
   main-small : Small (words 1 main)
   main-small = subst (λ v. Small (words v main)) one (spelling-small R (well .form) main (main-there .form))
 
-  main-reaches : main-reach R ≡ reach 1 main
+  pub main-reaches : main-reach R ≡ reach 1 main
   main-reaches = ap (λ v. reach v main) one
 
-  main-size : length (words 1 main) ≤ main-reach R
+  pub main-size : length (words 1 main) ≤ main-reach R
   main-size = omega (arith, spelled-length main main-there, size-below-reach 1 main, main-reaches)
 
-  -- Its words loaded and the cells of the start in a store.
-  main-situated : (n : ℕ) (spare spare₁ ws ws₁ M : List ℕ) → n ≡ length (words 1 main) → spare₁ ≡ written (words 1 main) spare → main-reach R ≤ length ws → Loaded spare₁ ws ws₁ 0 n
-      → Stored R (initial-cells (attributes R)) M → Situated R start n ws₁ M
-  main-situated n spare spare₁ ws ws₁ M e buffer room loaded stored = record {
-    running = main-there;
+  -- Its words loaded.
+  pub main-spelled : (n : ℕ) (spare spare₁ ws ws₁ : List ℕ) → n ≡ length (words 1 main) → spare₁ ≡ written (words 1 main) spare → main-reach R ≤ length ws → Loaded spare₁ ws ws₁ 0 n
+      → Spelled R main n ws₁
+  main-spelled n spare spare₁ ws ws₁ e buffer room loaded = record {
     size-is = e;
     spelled = written-loaded (words 1 main) spare ws ws₁ n e main-small (omega (arith, main-size)) (subst (λ B. Loaded B ws ws₁ 0 n) buffer loaded);
-    stored = stored;
   }
 
-  -- What the memory machine ends with is what the history machine does.
-  module _ (ks out ws M out′ : List ℕ) (tally : Tally) (ended : Ended R (memory-run (attributes R) main ks) out ws M out′ tally) where
+  -- No term of the run has more words than main reaches.
+  pub run-fits : (ks : List ℕ) → Running edition-1 R (memory-run (attributes R) main ks .state .term) → length (words 1 (memory-run (attributes R) main ks .state .term)) ≤ main-reach R
+  unfolding memory-run
+  run-fits ks h =
+      let E : Term = memory-run (attributes R) main ks .state .term in
+      omega (arith, spelled-length E h, size-below-reach 1 E, run-reach 1 (Sem-M (attributes R)) (initial L start) ks, main-reaches)
+
+  -- What the memory machine ends with is what the history machine does; the first n words of xs are its last term, spelled out.
+  module _ {H : Holding} (ks ws M : List ℕ) (tally : Tally) (ended : Ended H R (memory-run (attributes R) main ks) ws M tally) (n : ℕ) (xs : List ℕ)
+      (spelled : Spelled R (memory-run (attributes R) main ks .state .term) n xs) where
     abbrev last : machine (Sem-T (attributes R))
     last = history-run (attributes R) main ks
 
@@ -139,25 +151,21 @@ module _ (R : RuleSet) (well : WellFormed edition-1 R) where
     last-running : Running edition-1 R (last .state .term)
     last-running = subst (Running edition-1 R) (agree .same-term) (ended .after .running)
 
-    last-size : tally .size ≡ size (R .width) (last .state .term)
-    last-size = ended .after .size-is ∙ ap (λ E. length (words 1 E)) (agree .same-term) ∙ spelled-length (last .state .term) last-running ∙ ap (λ v. size v (last .state .term)) (sym one)
+    last-size : n ≡ size (R .width) (last .state .term)
+    last-size = spelled .size-is ∙ ap (λ E. length (words 1 E)) (agree .same-term) ∙ spelled-length (last .state .term) last-running ∙ ap (λ v. size v (last .state .term)) (sym one)
 
-    last-words : take (tally .size) ws ≡ words (R .width) (last .state .term)
-    last-words = ended .after .spelled ∙ ap (words 1) (agree .same-term) ∙ ap (λ v. words v (last .state .term)) (sym one)
+    last-words : take n xs ≡ words (R .width) (last .state .term)
+    last-words = spelled .spelled ∙ ap (words 1) (agree .same-term) ∙ ap (λ v. words v (last .state .term)) (sym one)
 
-    -- No term of the run has more words than main reaches.
-    last-fits : tally .size ≤ main-reach R
-    unfolding memory-run
-    last-fits =
-        let E : Term = memory-run (attributes R) main ks .state .term in
-        omega (arith, ended .after .size-is, spelled-length E (ended .after .running), size-below-reach 1 E, run-reach 1 (Sem-M (attributes R)) (initial L start) ks, main-reaches)
+    last-fits : n ≤ main-reach R
+    last-fits = omega (arith, spelled .size-is, run-fits ks (ended .after .running))
 
     last-cells : now-place + cells-needed R ≤ length M → take (cells-needed R) (drop now-place M) ≡ memory-words edition-1 (all-values (attributes R) (last .state .state))
     last-cells room =
         held-words M (memory-run (attributes R) main ks .state .state) (cells-needed R) (ended .after .stored .counted) room (ended .after .stored .holds)
         ∙ ap (memory-words edition-1) (agree .cells-are-values)
 
-    last-told : (low : ℕ) → low ≡ tally .size % 4294967296
+    last-told : (low : ℕ) → low ≡ n % 4294967296
         → _≡_ {A = Ran} (record { size = size (R .width) (last .state .term); visible = last .visible-count; internal = last .internal-count; refusals = last .refused-count })
         (record { size = low; visible = tally .visible; internal = tally .internal; refusals = tally .refused })
     last-told low e =
@@ -167,7 +175,41 @@ module _ (R : RuleSet) (well : WellFormed edition-1 R) where
         let f : last .refused-count ≡ tally .refused = sym (ended .refused-is ∙ agree .same-refused) in
         λ j. record { size = s j; visible = v j; internal = i j; refusals = f j }
 
--- ── the return ──
+  -- What is told and written at the end.
+  pub main-ended : {H : Holding} (numbers : List ℕ) {ws M : List ℕ} {tally : Tally} {n : ℕ} {xs : List ℕ} {c reach : ℕ} {term memory spare term′ memory′ spare′ : List ℕ} {low : ℕ}
+      → Ended H R (memory-run (attributes R) main (words-in numbers)) ws M tally → Spelled R (memory-run (attributes R) main (words-in numbers) .state .term) n xs
+      → c ≡ cells-needed R → reach ≡ main-reach R → reach ≤ length xs → now-place + c ≤ length M → reach ≤ word-count term → c ≤ cell-room memory
+      → Finished xs n reach M c term memory term′ memory′ → low ≡ n % 4294967296 → WordsOnly spare spare′
+      → RanRight numbers term memory spare R (record { size = low; visible = tally .visible; internal = tally .internal; refused = tally .refused }) term′ memory′ spare′
+  main-ended numbers {ws} {M} {tally} {n} {xs} {c} {reach} {term} {memory} {low = low} e spelled ec er room store-room term-room memory-room done el only =
+      let ks = words-in numbers in
+      let fits = last-fits ks ws M tally e n xs spelled in
+      let size-is = last-size ks ws M tally e n xs spelled in
+      let words-are = last-words ks ws M tally e n xs spelled in
+      let cells-are = last-cells ks ws M tally e n xs spelled (omega (arith, ec)) in
+      record {
+        answer = ap answered (last-told ks ws M tally e n xs spelled low el);
+        term-after = done .term-written (omega (arith, fits, er)) room term-room ∙ (λ i. written (words-are i ++ replicate (er i - size-is i) 0) term);
+        memory-after = done .memory-written store-room memory-room ∙ ap (λ k. written (take k (drop now-place M)) memory) ec ∙ ap (λ us. written us memory) cells-are;
+        words-only = only;
+      }
+
+-- ── from the start, in its own words ──
+
+module _ {numbers t D : List ℕ} {w functions c reach n : ℕ} {ws ws₂ M M₂ path term memory spare term′ memory′ spare′ : List ℕ} {tally : Tally} {low : ℕ} where
+  pub masked-run : length ws₂ ≡ length ws → Runs numbers t D w functions c n ws M spare path ws₂ M₂ spare′ tally → Finished ws₂ (tally .size) reach M₂ c term memory term′ memory′
+      → low ≡ tally .size % 4294967296
+      → RunsMasked numbers t D w functions c reach n ws M path term memory spare (record { size = low; visible = tally .visible; internal = tally .internal; refused = tally .refused }) term′ memory′ spare′
+  unfolding memory-run
+  masked-run same runs done el R T at room held =
+      let well = at .well in
+      let er = at .reach-is in
+      let ec = at .ruled .cells-are in
+      let e : Ended Spelled R (memory-run (attributes R) (unfold-main R) (words-in numbers)) ws₂ M₂ tally × WordsOnly spare spare′ =
+      runs reach room R T (at .ruled) (start R well) (record { running = main-there R well; held = held; stored = at .stored }) (omega (arith, er, main-reaches R well)) in
+      main-ended R well numbers (e .0) (e .0 .after .held) ec er (omega (arith, room .words-room)) (omega (arith, ec, e .0 .after .stored .room)) (at .term-room) (at .memory-room) done el (e .1)
+
+-- ── main's unfolding and the cells of the start ──
 
 -- What unfolding main says.
 abbrev pub MainUnfolded : (t T spare spare′ : List ℕ) (n : ℕ) → Type 0
@@ -178,25 +220,55 @@ MainUnfolded t T spare spare′ n = (R : RuleSet) → Ready t T R → 2 * length
 abbrev pub CellsStarted : (t D M′ : List ℕ) (w functions c : ℕ) → Type 0
 CellsStarted t D M′ w functions c = (R : RuleSet) (T : List ℕ) → Ruled R t T D w functions c → now-place + 2 * c ≤ 2084 → Stored R (initial-cells (attributes R)) M′
 
-module _ (numbers t T D : List ℕ) (w functions c reach n : ℕ) (ws ws₁ ws₂ M₁ M₂ spare spare₁ spare₂ path term memory term′ memory′ : List ℕ) (tally : Tally) (low : ℕ) where
-  pub main-run : w ≡ 3 + getD T 17 0 → functions ≡ getD T 210 0 → c ≤ 1024 → length spare₁ ≡ length spare → MainUnfolded t T spare spare₁ n → Loaded spare₁ ws ws₁ 0 n
-      → length M₁ ≡ 2084 → CellsStarted t D M₁ w functions c → length ws₂ ≡ length ws₁ → length M₂ ≡ length M₁ → length path ≡ length ws
-      → Runs numbers t D w functions c n ws₁ M₁ spare₁ path ws₂ M₂ spare₂ tally → Finished ws₂ (tally .size) reach M₂ c term memory term′ memory′ → low ≡ tally .size % 4294967296
-      → RunsMain numbers t T D c reach (length ws) term memory spare (record { size = low; visible = tally .visible; internal = tally .internal; refused = tally .refused }) term′ memory′ spare₂
-  unfolding memory-run
-  main-run ew ef few same-spare unfolded loaded same-store started same-words same-cells same-path runs done el R well d ec er room term-room memory-room spare-room =
-      let ruled : Ruled R t T D w functions c = ruled-there R (well .form) t T D d w functions c ew ef ec in
-      let u = unfolded R (record { form = well .form; declares = d .declares; processes = d .processes }) (omega (arith, main-size R well, er)) in
-      let at : Situated R (start R well) n ws₁ M₁ = main-situated R well n spare spare₁ ws ws₁ M₁ (u .0) (u .1) (omega (arith, er)) loaded (started R T ruled (omega arith)) in
-      let e : Ended R (memory-run (attributes R) (unfold-main R) (words-in numbers)) spare₁ ws₂ M₂ spare₂ tally =
-      runs R T ruled (start R well) at (record { words-room = omega (arith, main-reaches R well, er, loaded .same-length); bytes-room = omega (arith, main-reaches R well, er); path-room = omega (arith, main-reaches R well, er) }) in
-      let fits = last-fits R well (words-in numbers) spare₁ ws₂ M₂ spare₂ tally e in
-      let size-is = last-size R well (words-in numbers) spare₁ ws₂ M₂ spare₂ tally e in
-      let words-are = last-words R well (words-in numbers) spare₁ ws₂ M₂ spare₂ tally e in
-      let cells-are = last-cells R well (words-in numbers) spare₁ ws₂ M₂ spare₂ tally e (omega (arith, ec)) in
-      record {
-        answer = ap answered (last-told R well (words-in numbers) spare₁ ws₂ M₂ spare₂ tally e low el);
-        term-after = done .term-written (omega (arith, fits, er)) (omega (arith, loaded .same-length)) term-room ∙ (λ i. written (words-are i ++ replicate (er i - size-is i) 0) term);
-        memory-after = done .memory-written (omega arith) memory-room ∙ ap (λ k. written (take k (drop now-place M₂)) memory) ec ∙ ap (λ us. written us memory) cells-are;
-        words-only = words-then spare spare₁ spare₂ (words-written (words 1 (unfold-main R)) spare spare₁ (omega (arith, main-size R well, er)) (u .1)) (e .words-only);
-      }
+-- What was done before the run.
+pub record Begun (t T D : List ℕ) (w functions c n : ℕ) (ws ws₁ M spare spare₁ : List ℕ) : Type 0 where
+  pub width-is : w ≡ 3 + getD T 17 0
+  pub functions-are : functions ≡ getD T 210 0
+  pub few : c ≤ 1024
+  pub unfolded : MainUnfolded t T spare spare₁ n
+  pub loaded : Loaded spare₁ ws ws₁ 0 n
+  pub started : CellsStarted t D M w functions c
+
+module _ {t T D : List ℕ} {w functions c n : ℕ} {ws ws₁ M spare spare₁ : List ℕ} (begun : Begun t T D w functions c n ws ws₁ M spare spare₁) {reach : ℕ}
+    (R : RuleSet) (well : WellFormed edition-1 R) (d : Directory t T D R) (ec : c ≡ cells-needed R) (er : reach ≡ main-reach R) where
+  main-unfolded : reach ≤ word-count spare → (n ≡ length (words 1 (unfold-main R))) × (spare₁ ≡ written (words 1 (unfold-main R)) spare)
+  main-unfolded room = begun .unfolded R (record { form = well .form; declares = d .declares; processes = d .processes }) (omega (arith, main-size R well, er))
+
+  spare-words : reach ≤ word-count spare → WordsOnly spare spare₁
+  spare-words room = words-written (words 1 (unfold-main R)) spare spare₁ (omega (arith, main-size R well, er)) (main-unfolded room .1)
+
+  main-held : reach ≤ word-count spare → reach ≤ length ws → Spelled R (unfold-main R) n ws₁
+  main-held spare-room room =
+      let u = main-unfolded spare-room in
+      main-spelled R well n spare spare₁ ws ws₁ (u .0) (u .1) (omega (arith, er)) (begun .loaded)
+
+  at-start : {term memory : List ℕ} → reach ≤ word-count term → c ≤ cell-room memory → AtStart R t T D w functions c reach M term memory
+  at-start term-room memory-room =
+      let ruled : Ruled R t T D w functions c = ruled-there R (well .form) t T D d w functions c (begun .width-is) (begun .functions-are) ec in
+      record { well = well; ruled = ruled; reach-is = er; stored = begun .started R T ruled (omega (arith, begun .few)); term-room = term-room; memory-room = memory-room }
+
+-- ── the two returns ──
+
+module _ {numbers t T D : List ℕ} {w functions c reach n : ℕ} {ws ws₁ M spare spare₁ term memory term′ memory′ : List ℕ} {r : Totals} where
+  -- With a label in some mask.
+  pub words-masked : {path spare₂ : List ℕ} → Begun t T D w functions c n ws ws₁ M spare spare₁ → length path ≡ length ws
+      → RunsMasked numbers t D w functions c reach n ws₁ M path term memory spare₁ r term′ memory′ spare₂ → RunsMain numbers t T D c reach (length ws) term memory spare r term′ memory′ spare₂
+  words-masked {path} {spare₂} begun same-path runs R well d ec er room term-room memory-room spare-room =
+      let only = spare-words begun R well d ec er spare-room in
+      let q = runs R T (at-start begun R well d ec er term-room memory-room)
+      (record { words-room = omega (arith, begun .loaded .same-length); bytes-room = omega (arith, only .same-length); path-room = omega arith }) (main-held begun R well d ec er spare-room room) in
+      record { answer = q .answer; term-after = q .term-after; memory-after = q .memory-after; words-only = words-then spare spare₁ spare₂ only (q .words-only) }
+
+  -- Without: the unfolding stays as it is, and no more is written into the spare bytes.
+  pub words-bare : {f u d₁ : List ℕ} {ok : Bool} {paths acts middle : ℕ} → Begun t T D w functions c n ws ws₁ M spare spare₁ → f ≡ take n ws₁ → Shareable f ok → ok ≡ true → u ≡ take n ws₁
+      → length d₁ ≡ length ws → paths ≡ length ws → acts ≡ length ws → middle ≡ length ws → RunsBare numbers t D w functions c reach u d₁ M paths acts middle term memory r term′ memory′
+      → RunsMain numbers t T D c reach (length ws) term memory spare r term′ memory′ spare₁
+  words-bare {f} {u} begun ef shareable yes-ok eu same same-path same-acts same-middle runs R well d ec er room term-room memory-room spare-room =
+      let held = main-held begun R well d ec er spare-room room in
+      let only = spare-words begun R well d ec er spare-room in
+      let there = whole R (well .form) (unfold-main R) (main-there R well) f (ef ∙ held .spelled) .there in
+      let l : length u ≤ length ws = omega (arith, ap length (eu ∙ held .spelled), main-size R well, er) in
+      let q = runs R T (at-start begun R well d ec er term-room memory-room)
+      (record { words-room = omega arith; middle-room = omega arith; path-room = omega arith; numbers-room = omega arith })
+      (eu ∙ held .spelled) (shareable yes-ok _ (unfold-main R) [] there) spare₁ in
+      record { answer = q .answer; term-after = q .term-after; memory-after = q .memory-after; words-only = words-then spare spare₁ spare₁ only (q .words-only) }

@@ -8,6 +8,7 @@ ghost use Rattle.eb3.specs.Bytes.{words-in};
 ghost use Rattle.runs.specs.Running.{StepsOnce, counted, Runs};
 
 pub mod mains;
+pub mod shared;
 
 use cells::load;
 use scan::front;
@@ -39,7 +40,7 @@ fn byte(x: u8) -> usize
 // Number i of a list.
 fn number_at(numbers: &[u8], i: usize) -> usize
     requires { ⌜ 2 * i + 2 ≤ length (now numbers) ⌝ }
-    ensures { λ r. ⌜ r ≡ getD (words-in (now (numbers .entry))) i 0 ⌝ }
+    ensures { λ r. ⌜ (r ≡ getD (words-in (now (numbers .entry))) i 0) × (r < 65536) ⌝ }
 {
     byte(numbers[2 * i]) + 256 * byte(numbers[2 * i + 1])
 }

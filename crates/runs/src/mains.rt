@@ -1,17 +1,22 @@
 // The run of a rule set's main process from the start: its term in words, its cells in a store, the lent buffers written at the end
-// (document 01, "Operations": Run writes the last term, zeros up to main's G, and the cells). Successors are built in one spare
-// buffer, of which only whole words are written.
+// (document 01, "Operations": Run writes the last term, zeros up to main's G, and the cells). Main is unfolded in one spare buffer,
+// of which only whole words are written; the successors of a term with masks are built there, too.
 ghost use mathlib.Core.Path.{_≡_};
 ghost use Prim.Native.Nat.{ℕ, _≤_};
 ghost use lib.ListN.{length, getD};
 ghost use Rattle.runs.specs.Mains.{RunsMain, Padded, Finished};
+ghost use Rattle.runs.specs.Starts.{RunsBare, RunsMasked};
 use super::run_moves;
+use super::shared::run_shared;
 use arguments::entry;
 use arguments::low32;
 use arguments::wide32;
 use cells::load;
 use cells::save;
 use scan::front;
+use sharing::beginning::part_word;
+use sharing::expanding::expand;
+use sharing::masks::shareable;
 use steps::storing::start_store;
 use unfold::unfold_main;
 use writing::put_words;
@@ -55,33 +60,72 @@ fn finish(
     save(m, memory, c);
 }
 
-// Main's unfolding and the cells of the start, then all numbers, in lent words with room for main's reach. A path has as much room; its array and
-// the one for the numbers that finding it takes are lent too, so that they are cleared once for all numbers.
-fn run_words(
+// From the words of main's unfolding, which has no masks, and the cells of the start: at first the term is the whole of it, and the last
+// one is spelled out.
+fn run_bare(
     numbers: &[u8],
     t: &[u16],
-    tb: &[u32],
     dir: &[u32],
+    w: usize,
+    fns: usize,
     c: usize,
     reach: usize,
+    u: &[u16],
+    d: &mut [u16],
+    m: &mut [u16],
+    path: &mut [u16],
+    acts: &mut [u32],
+    mid: &mut [u16],
+    term: &mut [u8],
+    memory: &mut [u8],
+) -> Totals
+    requires { ⌜ (length (now t) ≤ 65535) × (w ≤ 256) × (fns ≤ 16) × (c ≤ 1024) × (length (now u) ≤ 65503) × (length (now d) ≤ 65535) × (length (now path) ≤ 65535) × (length (now acts) ≤ 131072) × (length (now mid) ≤ 65535) ⌝ }
+    ensures { λ r. ⌜ RunsBare (now (numbers .entry)) (now (t .entry)) (now (dir .entry)) w fns c reach (now (u .entry)) (now (d .entry)) (now (m .entry)) (length (now (path .entry))) (length (now (acts .entry))) (length (now (mid .entry))) (now (term .entry)) (now (memory .entry)) r (now (term .exit)) (now (memory .exit)) ⌝ }
+{
+    // never with room for main
+    if d.len() == 0 {
+        return Totals {
+            size: 0,
+            visible: 0,
+            internal: 0,
+            refused: 0,
+        };
+    }
+    d[0] = part_word(u);
+    let r = run_shared(numbers, t, dir, w, fns, c, u, 1, d, m, path, acts, mid);
+    let q = expand(u, front(d, r.size), mid, 0);
+    finish(mid, q / 65536, reach, m, c, term, memory);
+    Totals {
+        size: low32(q / 65536),
+        visible: r.visible,
+        internal: r.internal,
+        refused: r.refused,
+    }
+}
+
+// With masks, the term is held in its own words.
+fn run_masked(
+    numbers: &[u8],
+    t: &[u16],
+    dir: &[u32],
+    w: usize,
+    fns: usize,
+    c: usize,
+    reach: usize,
+    n: usize,
     ws: &mut [u16],
+    m: &mut [u16],
     path: &mut [u16],
     acts: &mut [u32],
     term: &mut [u8],
     memory: &mut [u8],
     spare: &mut [u8],
 ) -> Totals
-    requires { ⌜ (length (now t) ≤ 65535) × (c ≤ 1024) × (getD (now tb) 17 0 ≤ 64) × (getD (now tb) 210 0 ≤ 16) × (length (now ws) ≤ 65535) × (length (now path) ≡ length (now ws)) × (length (now acts) ≤ 131072) ⌝ }
-    ensures { λ r. ⌜ RunsMain (now (numbers .entry)) (now (t .entry)) (now (tb .entry)) (now (dir .entry)) c reach (length (now (ws .entry))) (now (term .entry)) (now (memory .entry)) (now (spare .entry)) r (now (term .exit)) (now (memory .exit)) (now (spare .exit)) ⌝ }
+    requires { ⌜ (length (now t) ≤ 65535) × (w ≤ 256) × (fns ≤ 16) × (c ≤ 1024) × (length (now ws) ≤ 65535) × (length (now path) ≤ 65535) × (length (now acts) ≤ 131072) ⌝ }
+    ensures { λ r. ⌜ (length (now (spare .exit)) ≡ length (now (spare .entry))) × RunsMasked (now (numbers .entry)) (now (t .entry)) (now (dir .entry)) w fns c reach n (now (ws .entry)) (now (m .entry)) (now (path .entry)) (now (term .entry)) (now (memory .entry)) (now (spare .entry)) r (now (term .exit)) (now (memory .exit)) (now (spare .exit)) ⌝ }
 {
-    let w = 3 + wide32(entry(tb, 17));
-    let fns = wide32(entry(tb, 210));
-    let n = unfold_main(t, tb, spare);
-    load(spare, ws, 0, n);
-    let mut m = [0u16; 2084];
-    start_store(t, dir, &mut m, w, fns, c);
-    let r = run_moves(numbers, t, dir, w, fns, c, n, ws, &mut m, spare, path, acts);
-    finish(ws, r.size, reach, &m, c, term, memory);
+    let r = run_moves(numbers, t, dir, w, fns, c, n, ws, m, spare, path, acts);
+    finish(ws, r.size, reach, m, c, term, memory);
     Totals {
         size: low32(r.size),
         visible: r.visible,
@@ -90,7 +134,71 @@ fn run_words(
     }
 }
 
-// Words for a reach of up to 256, or for as much as there may be.
+// Main's unfolding and the cells of the start, then all numbers, in lent words with room for main's reach; every other array is as long.
+fn run_words(
+    numbers: &[u8],
+    t: &[u16],
+    tb: &[u32],
+    dir: &[u32],
+    c: usize,
+    reach: usize,
+    ws: &mut [u16],
+    d: &mut [u16],
+    path: &mut [u16],
+    acts: &mut [u32],
+    mid: &mut [u16],
+    term: &mut [u8],
+    memory: &mut [u8],
+    spare: &mut [u8],
+) -> Totals
+    requires { ⌜ (length (now t) ≤ 65535) × (c ≤ 1024) × (getD (now tb) 17 0 ≤ 64) × (getD (now tb) 210 0 ≤ 16) × (length (now ws) ≤ 65503) × (length (now d) ≡ length (now ws)) × (length (now path) ≡ length (now ws)) × (length (now acts) ≡ length (now ws)) × (length (now mid) ≡ length (now ws)) ⌝ }
+    ensures { λ r. ⌜ RunsMain (now (numbers .entry)) (now (t .entry)) (now (tb .entry)) (now (dir .entry)) c reach (length (now (ws .entry))) (now (term .entry)) (now (memory .entry)) (now (spare .entry)) r (now (term .exit)) (now (memory .exit)) (now (spare .exit)) ⌝ }
+{
+    let w = 3 + wide32(entry(tb, 17));
+    let fns = wide32(entry(tb, 210));
+    let n = unfold_main(t, tb, spare);
+    load(spare, ws, 0, n);
+    let mut m = [0u16; 2084];
+    start_store(t, dir, &mut m, w, fns, c);
+    if shareable(front(ws, n)) {
+        return run_bare(
+            numbers,
+            t,
+            dir,
+            w,
+            fns,
+            c,
+            reach,
+            front(ws, n),
+            d,
+            &mut m,
+            path,
+            acts,
+            mid,
+            term,
+            memory,
+        );
+    }
+    run_masked(
+        numbers,
+        t,
+        dir,
+        w,
+        fns,
+        c,
+        reach,
+        n,
+        ws,
+        &mut m,
+        path,
+        acts,
+        term,
+        memory,
+        spare,
+    )
+}
+
+// Words for a reach of up to 256, of up to 1,024, or for as much as there may be.
 fn run_short(
     numbers: &[u8],
     t: &[u16],
@@ -106,8 +214,10 @@ fn run_short(
     ensures { λ r. ⌜ RunsMain (now (numbers .entry)) (now (t .entry)) (now (tb .entry)) (now (dir .entry)) c reach 256 (now (term .entry)) (now (memory .entry)) (now (spare .entry)) r (now (term .exit)) (now (memory .exit)) (now (spare .exit)) ⌝ }
 {
     let mut ws = [0u16; 256];
+    let mut d = [0u16; 256];
     let mut path = [0u16; 256];
     let mut acts = [0u32; 256];
+    let mut mid = [0u16; 256];
     let r = run_words(
         numbers,
         t,
@@ -116,8 +226,48 @@ fn run_short(
         c,
         reach,
         &mut ws,
+        &mut d,
         &mut path,
         &mut acts,
+        &mut mid,
+        term,
+        memory,
+        spare,
+    );
+    r
+}
+
+fn run_middle(
+    numbers: &[u8],
+    t: &[u16],
+    tb: &[u32],
+    dir: &[u32],
+    c: usize,
+    reach: usize,
+    term: &mut [u8],
+    memory: &mut [u8],
+    spare: &mut [u8],
+) -> Totals
+    requires { ⌜ (length (now t) ≤ 65535) × (c ≤ 1024) × (getD (now tb) 17 0 ≤ 64) × (getD (now tb) 210 0 ≤ 16) ⌝ }
+    ensures { λ r. ⌜ RunsMain (now (numbers .entry)) (now (t .entry)) (now (tb .entry)) (now (dir .entry)) c reach 1024 (now (term .entry)) (now (memory .entry)) (now (spare .entry)) r (now (term .exit)) (now (memory .exit)) (now (spare .exit)) ⌝ }
+{
+    let mut ws = [0u16; 1024];
+    let mut d = [0u16; 1024];
+    let mut path = [0u16; 1024];
+    let mut acts = [0u32; 1024];
+    let mut mid = [0u16; 1024];
+    let r = run_words(
+        numbers,
+        t,
+        tb,
+        dir,
+        c,
+        reach,
+        &mut ws,
+        &mut d,
+        &mut path,
+        &mut acts,
+        &mut mid,
         term,
         memory,
         spare,
@@ -140,8 +290,10 @@ fn run_long(
     ensures { λ r. ⌜ RunsMain (now (numbers .entry)) (now (t .entry)) (now (tb .entry)) (now (dir .entry)) c reach 8192 (now (term .entry)) (now (memory .entry)) (now (spare .entry)) r (now (term .exit)) (now (memory .exit)) (now (spare .exit)) ⌝ }
 {
     let mut ws = [0u16; 8192];
+    let mut d = [0u16; 8192];
     let mut path = [0u16; 8192];
-    let mut acts = [0u32; 256];
+    let mut acts = [0u32; 8192];
+    let mut mid = [0u16; 8192];
     let r = run_words(
         numbers,
         t,
@@ -150,8 +302,10 @@ fn run_long(
         c,
         reach,
         &mut ws,
+        &mut d,
         &mut path,
         &mut acts,
+        &mut mid,
         term,
         memory,
         spare,
@@ -176,6 +330,9 @@ pub fn run_main(
 {
     if reach <= 256 {
         return run_short(numbers, t, tb, dir, c, reach, term, memory, spare);
+    }
+    if reach <= 1024 {
+        return run_middle(numbers, t, tb, dir, c, reach, term, memory, spare);
     }
     run_long(numbers, t, tb, dir, c, reach, term, memory, spare)
 }

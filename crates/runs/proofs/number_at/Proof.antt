@@ -18,4 +18,4 @@ number-at-spec =
     (λ c κs. search needs)
     (λ c. search needs)
     (λ c. search needs)
-    (λ c. loaded-word _ _ _ _ (omega arith) (c .before .before .byte .ensures .0) (c .byte2 .ensures .0)))
+    (λ c. (loaded-word _ _ _ _ (omega arith) (c .before .before .byte .ensures .0) (c .byte2 .ensures .0), omega (arith, c .before .before .byte .ensures .1, c .byte2 .ensures .1))))

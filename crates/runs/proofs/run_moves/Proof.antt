@@ -26,7 +26,7 @@ run-moves-spec =
     (λ c κs. search needs)
     (λ c. record { fits = omega (arith, c .before .before .before .before .before .before .before .before .before .before .before .before .before .before .before .before .before .before .loop-test .taken, c .before .before .before .before .before .before .before .before .before .before .before .before .before .before .before .before .before .before .before .loop .inv .1, c .before .before .before .before .before .before .before .before .before .before .before .before .before .before .before .before .before .before .before .before .before .before .before .before .before .before .before .before .good .0) })
     (λ c. search needs)
-    (λ c. let v = c .before .before .before .before .before .before .before .before .before .before .before .before .before .before .before .before .before .before .before .loop .inv in let o = c .before .before .before .before .before .before .before .before .before .before .before .step-once .ensures in (omega arith, refl, omega (arith, v .2, ap total (c .counted .ensures), counted-once (c .before .before .before .before .before .before .before .before .before .before .before .before .before .before .before .before .before .before .before .loop .tally) (c .before .before .before .before .before .before .before .before .before .before .before .step-once .result)), o .0 ∙ v .3, o .1 ∙ v .4, o .2 ∙ v .5, o .3 ∙ v .6, o .4 ∙ v .7, run-next _ _ (c .before .before .before .before .before .before .before .before .before .before .before .before .before .before .before .before .before .before .loop-test .taken) (v .3) (v .5) (v .6) (v .8) (c .before .before .before .before .before .before .before .before .before .before .before .before .before .before .before .before .before .number-at .ensures) (o .5) (c .counted .ensures)))
+    (λ c. let v = c .before .before .before .before .before .before .before .before .before .before .before .before .before .before .before .before .before .before .before .loop .inv in let o = c .before .before .before .before .before .before .before .before .before .before .before .step-once .ensures in (omega arith, refl, omega (arith, v .2, ap total (c .counted .ensures), counted-once (c .before .before .before .before .before .before .before .before .before .before .before .before .before .before .before .before .before .before .before .loop .tally) (c .before .before .before .before .before .before .before .before .before .before .before .step-once .result)), o .0 ∙ v .3, o .1 ∙ v .4, o .2 ∙ v .5, o .3 ∙ v .6, o .4 ∙ v .7, run-next _ _ (c .before .before .before .before .before .before .before .before .before .before .before .before .before .before .before .before .before .before .loop-test .taken) (v .3) (v .5) (v .6) (v .8) (c .before .before .before .before .before .before .before .before .before .before .before .before .before .before .before .before .before .number-at .ensures .0) (o .5) (c .counted .ensures)))
     (λ c. search needs)
     (λ c. search needs)
     (λ c. search needs)

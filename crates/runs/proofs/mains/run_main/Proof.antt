@@ -1,4 +1,4 @@
--- A reach of up to 256 has room in the short words, and any other in the long ones.
+-- A reach of up to 256 has room in the short words, one of up to 1,024 in the middle ones, and any other in the long ones.
 use borrow.Author.Needs.{needs}
 use Rattle.runs.proofs.mains.run_main.Statement.{statement}
 use Rattle.runs.proofs.mains.run_main.Tie as tie
@@ -12,6 +12,11 @@ run-main-spec =
     (λ c. search needs)
     (λ c. search needs)
     (λ c. λ R well d ec er room. c .before .before .before .before .before .before .run-short .ensures R well d ec er (c .before .before .before .before .before .before .before .before .before .before .if1 .taken))
+    (λ c κs. search needs)
+    (λ c. search needs)
+    (λ c. search needs)
+    (λ c. search needs)
+    (λ c. λ R well d ec er room. c .before .before .before .before .before .before .run-middle .ensures R well d ec er (c .before .before .before .before .before .before .before .before .before .before .if2 .taken))
     (λ c κs. search needs)
     (λ c. search needs)
     (λ c. search needs)
