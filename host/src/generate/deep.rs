@@ -181,6 +181,8 @@ pub fn worst() -> Vec<Deep> {
         main_of("main of sequences, left", (&[22], step, step)),
         main_of("main of sequences, right", (&[22, 20], step, &[])),
         main_of("main of choices, left", (&[23], step, step)),
+        main_of("main of choices, right", (&[23, 20], step, &[])),
+        main_of("main of parallels, left", (beside, step, step)),
         main_of("main of parallels, right", (&[beside, step].concat(), step, &[])),
         quantified_main_of("main of quantifiers, sequences", (&[22], step, step)),
         unreached("sequences that main does not call", "sequence, left"),
@@ -188,8 +190,16 @@ pub fn worst() -> Vec<Deep> {
 }
 
 impl Deep {
-    /// Start, a run of one number, Count, and the last move by its number and by its action; those that
-    /// there are.
+    /// The last move of main, and some of those that follow it.
+    fn run_list(&self) -> Vec<u8> {
+        let start = running::start(&self.file, self.sizes);
+        let moves = plain::count(&self.file, &start.term, &start.memory).expect("a right term");
+        let last = moves.saturating_sub(1) as u16;
+        bytes_of(&[last, 0, 1, 2, last, 0])
+    }
+
+    /// Start, a run from the last move of main on, Count, and the last move by its number and by its action;
+    /// those that there are.
     pub fn calls(&self) -> Vec<Call> {
         let Deep { file, state: State { term, memory }, .. } = self;
         let lent = vec![vec![0xa5; 2 * MOST_REACH as usize], vec![0x5a; memory.len()]];
@@ -203,7 +213,7 @@ impl Deep {
         };
         let mut calls = vec![
             call(Operation::Start, &given[..1], &lent),
-            call(Operation::Run, &[file.clone(), vec![0, 0]], &[lent.clone(), lent.clone()].concat()),
+            call(Operation::Run, &[file.clone(), self.run_list()], &[lent.clone(), lent.clone()].concat()),
             call(Operation::Count, &given, &[]),
         ];
         let count = plain::count(file, term, memory).expect("a right term");
