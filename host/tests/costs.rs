@@ -11,7 +11,7 @@ use std::time::{Duration, Instant};
 
 use host::calls::{Call, Operation, Operations, Plain};
 use host::engine::Cabinet;
-use host::generate::running;
+use host::generate::{deep, running};
 use host::{bytes_of, examples, on_large_stack, plain};
 
 /// The engine may take so many times as long as the plain interpreter, and so much more.
@@ -93,6 +93,19 @@ fn depth_costs_no_square() {
                 "{name}, {} words, {count} moves: plain {plain:?}, engine {engine:?}",
                 words.len()
             );
+        }
+    });
+}
+
+#[test]
+fn rounds_cost_no_square() {
+    on_large_stack(|| {
+        for call in deep::rounds() {
+            let (plain, engine) = (call.outcome(&Plain), call.outcome(&Cabinet));
+            assert!(plain.same(&engine), "{} is answered otherwise", call.name);
+            let calls = [call];
+            let (plain, engine) = (least(&Plain, &calls), least(&Cabinet, &calls));
+            assert!(engine < TIMES * plain + MORE, "{}: plain {plain:?}, engine {engine:?}", calls[0].name);
         }
     });
 }

@@ -189,6 +189,35 @@ pub fn worst() -> Vec<Deep> {
     ]
 }
 
+/// Runs of rule sets whose main goes round a deep or a broad term: each round begins it anew.
+pub fn rounds() -> Vec<Call> {
+    // Number 1 is everywhere a move, and of a star the first of a round.
+    let (step, beside) = (&[23, 20, 20][..], &[25, 0, 0, 0, 0][..]);
+    let choice = [&[23, 20].repeat(60)[..], &[20]].concat();
+    let list = [1; 600];
+    let nests: [(&'static str, Nest, usize); 6] = [
+        ("rounds of sequences, left", (&[22], step, step), 4000),
+        ("rounds of 15 sequences, left, each before a choice", (&[22], step, &choice), 15 * 122 + 3),
+        ("rounds of sequences, right", (&[22, 23, 20, 20], step, &[]), 4000),
+        ("rounds of choices, left", (&[23], step, step), 4000),
+        ("rounds of parallels, left", (beside, step, step), 2000),
+        ("rounds of parallels, right", (&[beside, step].concat(), step, &[]), 2000),
+    ];
+    let call = |(name, nest, words): &(&'static str, Nest, usize)| {
+        let depth = levels(*nest, *words);
+        let Deep { file, sizes, .. } = rule_set(name, depth, &[0], &[&[24], &spelled(*nest, depth)[..]].concat());
+        let lent = vec![vec![0; 2 * sizes.reach as usize], Vec::new()];
+        Call {
+            name: name.to_string(),
+            operation: Operation::Run,
+            given: vec![file, bytes_of(&list)],
+            lent: [lent.clone(), lent].concat(),
+            expected: Some(0),
+        }
+    };
+    nests.iter().map(call).collect()
+}
+
 impl Deep {
     /// The last move of main, and some of those that follow it.
     fn run_list(&self) -> Vec<u8> {
