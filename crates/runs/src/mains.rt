@@ -103,7 +103,7 @@ fn run_bare(
     }
 }
 
-// With masks, the term is held in its own words.
+// With masks, or with operands too deep to be shared, the term is held in its own words.
 fn run_masked(
     numbers: &[u8],
     t: &[u16],
