@@ -54,6 +54,15 @@ pub fn counting_cabinet(keys: u16) -> RuleSet {
     rules
 }
 
+/// The key cabinet with an attendant, who takes part in every Take and every Bring: a parallel whose mask has
+/// both labels.
+pub fn attended_cabinet(keys: u16) -> RuleSet {
+    let of_any_key = |label| Term::choice_over(0, Term::action(label, &[Variable(0)]));
+    let attendant = Term::star(Term::choice(of_any_key(0), of_any_key(1)));
+    let main = Term::parallel(mask_of(&[0, 1]), each_key(inside()), attendant);
+    RuleSet { processes: vec![process(&[], main)], ..key_cabinet(keys) }
+}
+
 /// The key of variable 0 is not out.
 fn inside() -> Condition {
     Condition::equal(Data::now(0, Data::Variable(0)), Data::Constant(0))

@@ -70,6 +70,8 @@ fn systems() {
         ("library, 2 books, 2 members", examples::library(2, 2, 2)),
         ("library, 4 books, 4 members", examples::library(4, 4, 2)),
         ("library, 8 books, 8 members", examples::library(8, 8, 2)),
+        ("attended cabinet, 2 keys", examples::attended_cabinet(2)),
+        ("attended cabinet, 16 keys", examples::attended_cabinet(16)),
         ("ten copies", examples::copies_of_choice(10)),
     ];
     for (name, rules) in systems.into_iter().filter(|(name, _)| may_be_wanted(name)) {

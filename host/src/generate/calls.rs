@@ -47,6 +47,7 @@ pub fn known_subjects() -> Vec<Subject> {
     let named = [
         ("key cabinet", examples::key_cabinet(2)),
         ("library", examples::library(2, 2, 2)),
+        ("attended cabinet", examples::attended_cabinet(3)),
         ("four copies", examples::copies_of_choice(4)),
         ("every clause", clauses::base()),
     ];
