@@ -1,5 +1,5 @@
 //! Calls on the deepest and broadest terms take as long as their words and moves, not the square of their
-//! depth.
+//! depth; and a number of a run takes as long, however long the list is.
 //!
 //! Document 01, "Unfolding, size and breadth": a term has at most 8,192 words of reach and 65,535 moves.
 //! Where something is listed or passed over anew at every level, such a term takes a hundred times as long
@@ -57,12 +57,16 @@ fn terms() -> Vec<(&'static str, Vec<u16>)> {
 
 /// How long the calls take together, the least of some samples: whatever else the machine does only adds.
 fn least(by: &dyn Operations, calls: &[Call]) -> Duration {
+    least_of(SAMPLES, by, calls)
+}
+
+fn least_of(samples: usize, by: &dyn Operations, calls: &[Call]) -> Duration {
     let sample = |_| {
         let start = Instant::now();
         calls.iter().for_each(|call| drop(call.outcome(by)));
         start.elapsed()
     };
-    (0..SAMPLES).map(sample).min().expect("a sample")
+    (0..samples).map(sample).min().expect("a sample")
 }
 
 #[test]
@@ -108,4 +112,24 @@ fn rounds_cost_no_square() {
             assert!(engine < TIMES * plain + MORE, "{}: plain {plain:?}, engine {engine:?}", calls[0].name);
         }
     });
+}
+
+/// The keys are taken and brought, one after the other, so many times.
+fn long_run(rounds: usize) -> Call {
+    let lent = vec![vec![0; 2 * 77], vec![0; 4]];
+    Call {
+        name: format!("{} numbers", 4 * rounds),
+        operation: Operation::Run,
+        given: vec![examples::key_cabinet(2).file(), bytes_of(&[1, 0, 3, 2].repeat(rounds))],
+        lent: [lent.clone(), lent].concat(),
+        expected: Some(0),
+    }
+}
+
+#[test]
+fn ten_million_numbers_take_as_long_each_as_ten_thousand() {
+    let (short, long) = (long_run(2_500), long_run(2_500_000));
+    assert!(long.outcome(&Plain).same(&long.outcome(&Cabinet)), "{} are answered otherwise", long.name);
+    let (short, long) = (least(&Cabinet, &[short]), least_of(2, &Cabinet, &[long]));
+    assert!(long < 2 * 1000 * short, "10,000 numbers {short:?}, 10,000,000 {long:?}");
 }

@@ -92,7 +92,23 @@ fn main() {
         };
         let file = Path::new(env!("CARGO_MANIFEST_DIR")).join("../docs/events-per-second.svg");
         std::fs::write(&file, picture.svg()).expect("docs can be written");
+        longest();
     });
+}
+
+/// Ten million numbers: the keys are taken and brought, one after the other, again and again.
+fn longest() {
+    let file = examples::key_cabinet(2).file();
+    let (sizes, _) = histories::rule_set(&file).expect("an admitted rule set");
+    let mut runs = Runs::new(&file, sizes, &[1, 0, 3, 2].repeat(2_500_000));
+    let (engine, plain) = runs.times();
+    let told = |seconds: f64| three_figures(1.0 / seconds);
+    println!(
+        "Key cabinet, {} events: engine {}, plain Rust {} events/s",
+        thousands(runs.length() as f64),
+        engine.map_or("-".to_string(), told),
+        told(plain)
+    );
 }
 
 /// Seconds an event, at a length.
