@@ -5,9 +5,9 @@ use mathlib.Core.List.{List}
 use Rattle.eb3.specs.Terms.{Action, internal, visible}
 use Rattle.eb3.specs.Answers.{Answer, refused, answered, Sizes, Moved, Ran, Written}
 use Rattle.weights.specs.declared.Limits.{Limits}
-use Rattle.engine.specs.declared.Admitted.{Admitted}
-use Rattle.engine.specs.declared.Admitted.the-variants.{Sizes as Admitted·sizes, Refused as Admitted·refused}
-use Rattle.engine.specs.Answering.{admitted}
+use Rattle.admission.specs.declared.Admitted.{Admitted}
+use Rattle.admission.specs.declared.Admitted.the-variants.{Sizes as Admitted·sizes, Refused as Admitted·refused}
+use Rattle.admission.specs.Answering.{admitted}
 use Rattle.cabinet.specs.declared.Sizes.{Sizes as CSizes}
 use Rattle.engine.specs.declared.starting.Started.{Started}
 use Rattle.engine.specs.declared.starting.Started.the-variants.{Size, Refused}
@@ -22,7 +22,7 @@ use Rattle.engine.specs.declared.stepping.Moved.{Moved as Stepped}
 use Rattle.engine.specs.declared.stepping.Moved.the-variants.{Made, Refused as Stepped·refused}
 use Rattle.engine.specs.Stepping.{told, moved-as, Done}
 use Rattle.cabinet.specs.declared.Moved.{Moved as CMoved}
-use Rattle.runs.specs.declared.mains.Totals.{Totals}
+use Rattle.mains.specs.declared.Totals.{Totals}
 use Rattle.engine.specs.declared.running.Ran.{Ran as Ended}
 use Rattle.engine.specs.declared.running.Ran.the-variants.{Ended as Ended·so, Refused as Ended·refused}
 use Rattle.engine.specs.Running.{ran-as, RunDone}

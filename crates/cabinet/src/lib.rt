@@ -2,8 +2,8 @@
 ghost use mathlib.Core.Path.{_≡_};
 ghost use Rattle.eb3.specs.Operations.{admit, start, count, move, present, run, ScratchAfter};
 ghost use Rattle.cabinet.specs.Exported.{sizes, started, counted, exported-step, moved, ran};
-use engine::Admitted;
-use engine::admit;
+use admission::Admitted;
+use admission::admit;
 use engine::counting::Counted as Listed;
 use engine::counting::count;
 use engine::running::Ran as Ended;

@@ -1,19 +1,20 @@
 -- Cells of a memory in a store: put there, they are what the memory gives; written from there, they are what a memory holds (document 01, "Memory and the
 -- history machine": undefined is stored as 65,535). And words of a buffer, loaded to the front of others.
 use mathlib.Core.Path.{_≡_, refl, sym, ap, subst, _∙_}
-use mathlib.Core.List.{List, [], _∷_, map}
-use Prim.Native.Nat.{ℕ, zero, suc, _+_, _≤_, _<_}
+use mathlib.Core.List.{List, [], _∷_, _++_, map}
+use Prim.Native.Nat.{ℕ, zero, suc, _+_, _*_, _≤_, _<_}
 use native.Mathlib.Omega.{arith}
 use native.Mathlib.Decide.{decLt}
 use lib.Dec.{lit<}
-use lib.ListN.{length, getD, take, drop, length-map, length-drop}
-use lib.Seq.{take-all, length-take-le, getD-take, getD-drop, ext-getD}
+use lib.ListN.{length, getD, take, drop, length-map, length-drop, length-append}
+use lib.Seq.{take-all, take-at, length-take-le, getD-take, getD-drop, ext-getD}
 use Rattle.eb3.specs.Values.{Value, undefined, encode, decode}
 use Rattle.eb3.specs.Laws.Values.{bounded-at-most, encode-decode-number, decode-encode}
 use Rattle.eb3.specs.Laws.Cells.{ValuesAtMost}
 use Rattle.eb3.specs.Laws.RuleSets.{getD-map}
-use Rattle.eb3.specs.Bytes.{words-in, word-count}
-use Rattle.eb3.specs.Laws.Bytes.{words-counted}
+use Rattle.eb3.specs.Bytes.{words-in, word-count, written}
+use Rattle.eb3.specs.Laws.Bytes.{words-counted, written-words}
+use Rattle.eb3.specs.Laws.Spelling.{Small}
 use Rattle.eb3.specs.Limits.{edition-1}
 use Rattle.eb3.specs.Memory.{memory-words, cells-in}
 use Rattle.expressions.specs.Stores.{stored, now-place}
@@ -108,3 +109,10 @@ held-words M cells c counted room holds = ext-getD 0 (take c (drop 36 M)) (map (
         let l : i < c = omega (arith, len) in
         getD-take c (drop 36 M) i 0 l ∙ getD-drop 36 M i 0 ∙ sym (stored-is M (36 + i) 0 (omega arith)) ∙ holds i (omega (arith, counted))
         ∙ sym (getD-map (encode 65535) cells i undefined 0 (omega (arith, counted)))
+
+-- Words written at a buffer's front and loaded from there.
+pub written-loaded : (us B M M′ : List ℕ) (n : ℕ) → n ≡ length us → Small us → n ≤ length M → Loaded (written us B) M M′ 0 n → take n M′ ≡ us
+written-loaded us B M M′ n e small room l =
+    let w : words-in (written us B) ≡ us ++ words-in (drop (2 * length us) B) = written-words us B small in
+    loaded-front (written us B) M M′ n (omega (arith, words-counted (written us B), ap length w, length-append us (words-in (drop (2 * length us) B)))) room l
+    ∙ ap (take n) w ∙ take-at us (words-in (drop (2 * length us) B)) n (sym e)

@@ -22,10 +22,10 @@ use Rattle.steps.specs.Storing.{Ruled, Stored}
 use Rattle.steps.specs.Judging.{whole, moves-judged}
 use Rattle.engine.specs.declared.counting.Counted.{Counted}
 use Rattle.engine.specs.declared.counting.Counted.the-variants.{Moves, Refused}
-use Rattle.engine.specs.declared.giving.Given.{Given}
-use Rattle.engine.specs.declared.giving.Given.the-variants.{Term as Given·term, Refused as Given·refused}
-use Rattle.engine.specs.Giving.{Described, GivenDone, given-in}
-use Rattle.engine.specs.GivingLaws.{Found, told-refused, told-found, described-few, described-ruled}
+use Rattle.given.specs.declared.giving.Given.{Given}
+use Rattle.given.specs.declared.giving.Given.the-variants.{Term as Given·term, Refused as Given·refused}
+use Rattle.given.specs.Giving.{Described, GivenDone, given-in}
+use Rattle.given.specs.GivingLaws.{Found, told-refused, told-found, described-few, described-ruled}
 use Rattle.engine.specs.Counting.{counted-as, count-refused, count-short, count-done}
 
 -- A file whose blocks are refused gives no rule set, whatever the term.

@@ -13,12 +13,12 @@ use Rattle.eb3.specs.Admission.{ended, within-limits, admission}
 use Rattle.eb3.specs.Answers.{refused, and-then}
 use Rattle.eb3.specs.Operations.{main-reach, cells-needed}
 use Rattle.declarations.specs.Directory.{Directory}
-use Rattle.runs.specs.Mains.{RunsMain}
-use Rattle.runs.specs.declared.mains.Totals.{Totals}
+use Rattle.mains.specs.Mains.{RunsMain}
+use Rattle.mains.specs.declared.Totals.{Totals}
 use Rattle.weights.specs.declared.Limits.{Limits}
 use Rattle.engine.specs.declared.running.Ran.{Ran}
 use Rattle.engine.specs.declared.running.Ran.the-variants.{Ended, Refused}
-use Rattle.engine.specs.Knowing.{Known}
+use Rattle.admission.specs.Knowing.{Known}
 use Rattle.engine.specs.Running.{RunDone}
 use Rattle.engine.specs.RunLaws.{run-refused, run-short-term, run-short-memory, run-short-spare-term, run-short-spare-memory, run-done}
 

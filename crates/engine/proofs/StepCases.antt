@@ -44,9 +44,9 @@ use Rattle.steps.specs.Taking.{taken-as, built-over, SuccessorFits, Took}
 use Rattle.engine.specs.declared.stepping.Step.{Step}
 use Rattle.engine.specs.declared.stepping.Moved.{Moved}
 use Rattle.engine.specs.declared.stepping.Moved.the-variants.{Made, Refused}
-use Rattle.engine.specs.Giving.{Described}
-use Rattle.engine.specs.GivingLaws.{described-ruled}
-use Rattle.engine.specs.Asking.{Chooses}
+use Rattle.given.specs.Giving.{Described}
+use Rattle.given.specs.GivingLaws.{described-ruled}
+use Rattle.given.specs.Asking.{Chooses}
 use Rattle.engine.specs.Stepping.{told, moved-as, Done, moved-from}
 
 -- ── the answer ──

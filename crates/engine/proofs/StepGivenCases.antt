@@ -19,15 +19,15 @@ use Rattle.eb3.specs.Memory.{cell-room}
 use Rattle.eb3.specs.Answers.{Written}
 use Rattle.eb3.specs.Operations.{cells-needed, event-in, or-refused, listed, writing, moved}
 use Rattle.declarations.specs.Declaring.{Declares}
-use Rattle.engine.specs.declared.asking.Asked.{Asked}
-use Rattle.engine.specs.declared.asking.Asked.the-variants.{Wanted, Stranger}
-use Rattle.engine.specs.declared.giving.Given.{Given}
-use Rattle.engine.specs.declared.giving.Given.the-variants.{Term as Given·term, Refused as Given·refused}
+use Rattle.given.specs.declared.asking.Asked.{Asked}
+use Rattle.given.specs.declared.asking.Asked.the-variants.{Wanted, Stranger}
+use Rattle.given.specs.declared.giving.Given.{Given}
+use Rattle.given.specs.declared.giving.Given.the-variants.{Term as Given·term, Refused as Given·refused}
 use Rattle.engine.specs.declared.stepping.Moved.{Moved}
 use Rattle.engine.specs.declared.stepping.Moved.the-variants.{Refused}
-use Rattle.engine.specs.Giving.{Described, GivenDone, given-in}
-use Rattle.engine.specs.GivingLaws.{Found, told-refused, told-found, described-few}
-use Rattle.engine.specs.Asking.{asked-as, Chooses}
+use Rattle.given.specs.Giving.{Described, GivenDone, given-in}
+use Rattle.given.specs.GivingLaws.{Found, told-refused, told-found, described-few}
+use Rattle.given.specs.Asking.{asked-as, Chooses}
 use Rattle.engine.specs.Stepping.{Done, reach-in-words, stepped-from, stepped}
 use Rattle.engine.specs.StepLaws.{step-refused, step-given, asked-stranger, Choosing, asked-wanted, stranger-done, short-term, short-memory, short-next-memory, with-room}
 

@@ -18,7 +18,7 @@ use Rattle.eb3.specs.Answers.{Answer, refused, answered, and-then}
 use Rattle.eb3.specs.Operations.{cells-needed, memory-fits, term-in, listed, count, count-in}
 use Rattle.engine.specs.declared.counting.Counted.{Counted}
 use Rattle.engine.specs.declared.counting.Counted.the-variants.{Moves, Refused}
-use Rattle.engine.specs.Giving.{given-in}
+use Rattle.given.specs.Giving.{given-in}
 
 -- The number of moves, or the refusal's.
 unfoldable pub counted-as : Answer ℕ → Counted

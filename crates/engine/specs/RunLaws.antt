@@ -14,8 +14,8 @@ use Rattle.eb3.specs.Reading.{pick}
 use Rattle.eb3.specs.Admission.{admission}
 use Rattle.eb3.specs.Answers.{Answer, refused, answered, Ran as Answer·ran, Written, unwritten}
 use Rattle.eb3.specs.Operations.{cells-needed, main-reach, term-fits, memory-fits, writing, ran, run, run-in, ScratchAfter}
-use Rattle.runs.specs.Mains.{RanRight}
-use Rattle.runs.specs.declared.mains.Totals.{Totals}
+use Rattle.mains.specs.Mains.{RanRight}
+use Rattle.mains.specs.declared.Totals.{Totals}
 use Rattle.engine.specs.declared.running.Ran.{Ran}
 use Rattle.engine.specs.declared.running.Ran.the-variants.{Ended, Refused}
 use Rattle.engine.specs.Running.{ran-as, RunDone}

@@ -5,7 +5,7 @@ use mathlib.Core.List.{List}
 use Prim.Native.Nat.{ℕ}
 use Rattle.eb3.specs.Answers.{Answer, refused, answered, Ran as Answer·ran}
 use Rattle.eb3.specs.Operations.{run, ScratchAfter}
-use Rattle.runs.specs.declared.mains.Totals.{Totals}
+use Rattle.mains.specs.declared.Totals.{Totals}
 use Rattle.engine.specs.declared.running.Ran.{Ran}
 use Rattle.engine.specs.declared.running.Ran.the-variants.{Ended, Refused}
 

@@ -26,12 +26,12 @@ use Rattle.eb3.specs.Answers.{Answer, refused, answered, and-then, Moved as Ans
 use Rattle.eb3.specs.Operations.{cells-needed, term-fits, memory-fits, or-refused, even, term-in, event-in, listed, at-first, writing, moved, chosen, move, move-in, present, present-in}
 use Rattle.actions.specs.Codes.{action-code, Small}
 use Rattle.actions.specs.ActionLaws.{action-small}
-use Rattle.engine.specs.declared.asking.Asked.{Asked}
-use Rattle.engine.specs.declared.asking.Asked.the-variants.{Wanted, Stranger}
+use Rattle.given.specs.declared.asking.Asked.{Asked}
+use Rattle.given.specs.declared.asking.Asked.the-variants.{Wanted, Stranger}
 use Rattle.engine.specs.declared.stepping.Moved.{Moved}
 use Rattle.engine.specs.declared.stepping.Moved.the-variants.{Made, Refused}
-use Rattle.engine.specs.Giving.{given-in}
-use Rattle.engine.specs.Asking.{asked-of, asked-as, Chooses}
+use Rattle.given.specs.Giving.{given-in}
+use Rattle.given.specs.Asking.{asked-of, asked-as, Chooses}
 use Rattle.engine.specs.Stepping.{moved-as, Done, stepped-from, stepped}
 
 -- ── one operation ──

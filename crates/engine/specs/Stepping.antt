@@ -21,8 +21,8 @@ use Rattle.eb3.specs.Operations.{writing, chosen}
 use Rattle.engine.specs.declared.stepping.Step.{Step}
 use Rattle.engine.specs.declared.stepping.Moved.{Moved}
 use Rattle.engine.specs.declared.stepping.Moved.the-variants.{Made, Refused}
-use Rattle.engine.specs.Giving.{given-in}
-use Rattle.engine.specs.Asking.{asked-of}
+use Rattle.given.specs.Giving.{given-in}
+use Rattle.given.specs.Asking.{asked-of}
 
 -- ── the answer ──
 

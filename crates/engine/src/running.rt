@@ -3,15 +3,15 @@
 ghost use mathlib.Core.Path.{_≡_};
 ghost use Prim.Native.Nat.{ℕ, _*_, _/_, _≤_};
 ghost use lib.ListN.{length, getD};
-ghost use Rattle.engine.specs.Knowing.{Opens};
+ghost use Rattle.admission.specs.Knowing.{Opens};
 ghost use Rattle.engine.specs.Running.{RunDone};
-use super::Admitted;
-use super::admit_in;
+use admission::Admitted;
+use admission::admit_in;
 use arguments::wide32;
 use blocks::Opened;
 use blocks::open;
-use runs::mains::Totals;
-use runs::mains::run_main;
+use mains::Totals;
+use mains::run_main;
 
 // What a run ended with, or the number of a refusal.
 pub enum Ran {

@@ -1,12 +1,11 @@
 -- A case for each way that one number's step returns: what it does to the term in words and to the cells in the store is what the memory machine does
 -- (document 01, "Memory and the history machine"; "Operations": Run).
-use mathlib.Core.Path.{_≡_, refl, sym, ap, _∙_, subst}
-use mathlib.Core.List.{List, _++_}
+use mathlib.Core.Path.{_≡_, refl, ap, _∙_, subst}
+use mathlib.Core.List.{List}
 use mathlib.Core.Option.{Option, none, some}
-use Prim.Native.Nat.{ℕ, _*_, _≤_, _<_}
+use Prim.Native.Nat.{ℕ, _≤_, _<_}
 use native.Mathlib.Omega.{arith}
-use lib.ListN.{length, take, drop, getElem?, length-append}
-use lib.Seq.{take-at}
+use lib.ListN.{length, take, getElem?}
 use Rattle.eb3.specs.Scopes.{Scope}
 use Rattle.eb3.specs.Terms.{Term, Action}
 use Rattle.eb3.specs.Moves.{Move, moves}
@@ -16,14 +15,13 @@ use Rattle.eb3.specs.Laws.Sizes.{size-below-reach}
 use Rattle.eb3.specs.Spelling.{words}
 use Rattle.eb3.specs.Laws.Spelling.{Small}
 use Rattle.eb3.specs.Laws.Operations.{spelling-small}
-use Rattle.eb3.specs.Bytes.{words-in, written}
-use Rattle.eb3.specs.Laws.Bytes.{words-counted, written-words}
+use Rattle.eb3.specs.Bytes.{written}
 use Rattle.eb3.specs.Semantics.{Sem-M, Situation}
 use Rattle.eb3.specs.TransitionSystems.{taken}
 use Rattle.actions.specs.Codes.{action-code}
 use Rattle.listing.specs.Listing.{holding}
 use Rattle.cells.specs.Preparing.{Loaded}
-use Rattle.cells.specs.MemoryLaws.{loaded-front}
+use Rattle.cells.specs.MemoryLaws.{written-loaded}
 use Rattle.steps.specs.Counting.{Whole}
 use Rattle.steps.specs.Taking.{taken-as, built-over, SuccessorFits, Took}
 use Rattle.steps.specs.Storing.{Ruled, StoreRenewed}
@@ -36,14 +34,6 @@ use Rattle.runs.specs.Running.{Spelled, Situated, Roomy, done-as, Once, 
 use Rattle.runs.specs.declared.Done.{Done}
 use Rattle.runs.specs.declared.Done.the-variants.{Visible, Internal, NotOffered}
 use Rattle.runs.proofs.Replies.{done-internal, done-visible, next-running, next-length, refused-once, made-once}
-
--- ── words written at a buffer's front and loaded from there ──
-
-pub written-loaded : (us B M M′ : List ℕ) (n : ℕ) → n ≡ length us → Small us → n ≤ length M → Loaded (written us B) M M′ 0 n → take n M′ ≡ us
-written-loaded us B M M′ n e small room l =
-    let w : words-in (written us B) ≡ us ++ words-in (drop (2 * length us) B) = written-words us B small in
-    loaded-front (written us B) M M′ n (omega (arith, words-counted (written us B), ap length w, length-append us (words-in (drop (2 * length us) B)))) room l
-    ∙ ap (take n) w ∙ take-at us (words-in (drop (2 * length us) B)) n (sym e)
 
 -- ── a move sought in the term's words ──
 

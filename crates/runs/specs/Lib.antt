@@ -3,5 +3,3 @@ pub mod Scratch
 pub mod ScratchLaws
 pub mod Running
 pub mod Sharing
-pub mod Mains
-pub mod Starts

@@ -7,7 +7,6 @@ ghost use lib.ListN.{length, getD};
 ghost use Rattle.eb3.specs.Bytes.{words-in};
 ghost use Rattle.runs.specs.Running.{StepsOnce, counted, Runs};
 
-pub mod mains;
 pub mod shared;
 
 use cells::load;

@@ -9,9 +9,9 @@ mod input;
 mod lines;
 mod states;
 
+use admission::Admitted;
+use admission::admit;
 use arguments::wide32;
-use engine::Admitted;
-use engine::admit;
 use engine::starting::Started;
 use engine::starting::start;
 use engine::stepping::Moved;

@@ -1,4 +1,4 @@
-use Rattle.engine.proofs.Cases.{admit-blocks, admit-opens, open-refused}
+use Rattle.admission.specs.OpeningLaws.{admit-blocks, admit-opens, open-refused}
 use Rattle.engine.proofs.CountCases.{unopened-given}
 use Rattle.engine.specs.Counting.{count-refused}
 use native.Mathlib.Omega.{arith}

@@ -7,7 +7,7 @@ use Rattle.engine.proofs.counting.count_in.Reads as reads
 use Rattle.engine.proofs.counting.count_in.Lts as lts
 use Rattle.engine.proofs.counting.count_at.Reads as count-at-reads
 use Rattle.scan.proofs.front.Reads as front-reads
-use Rattle.engine.proofs.giving.given_in.Reads as given-in-reads
+use Rattle.given.proofs.giving.given_in.Reads as given-in-reads
 
 -- src/counting.rt:61:37
 slice-aggregate-given-in : tie.Need-slice-aggregate-given-in

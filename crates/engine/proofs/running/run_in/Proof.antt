@@ -1,9 +1,9 @@
 use Prim.Native.Nat.{_-_, _*_}
 use native.Mathlib.Omega.{arith}
 use lib.ListN.{drop, length-take}
-use Rattle.engine.specs.Knowing.{known, known-refused}
+use Rattle.admission.specs.Knowing.{known, known-refused}
 use Rattle.engine.specs.RunLaws.{run-refused}
-use Rattle.engine.proofs.Cases.{stream-part}
+use Rattle.admission.specs.OpeningLaws.{stream-part}
 use Rattle.engine.proofs.StartCases.{known-tables}
 use Rattle.engine.proofs.RunCases.{ran-short-term, ran-short-memory, ran-short-spare, ran-short-cells, ran-done}
 use native.Mathlib.Omega.{arith}
@@ -13,8 +13,8 @@ use Rattle.engine.proofs.running.run_in.Tie as tie
 use Rattle.engine.proofs.running.run_in.Reads as reads
 use Rattle.engine.proofs.running.run_in.Lts as lts
 use Rattle.arguments.proofs.wide32.Reads as wide32-reads
-use Rattle.engine.proofs.admit_in.Reads as admit-in-reads
-use Rattle.runs.proofs.mains.run_main.Reads as run-main-reads
+use Rattle.admission.proofs.admit_in.Reads as admit-in-reads
+use Rattle.mains.proofs.run_main.Reads as run-main-reads
 
 -- src/running.rt:38:34
 slice-aggregate-admit-in : tie.Need-slice-aggregate-admit-in

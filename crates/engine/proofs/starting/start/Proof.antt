@@ -1,5 +1,5 @@
 use native.Mathlib.Omega.{arith}
-use Rattle.engine.proofs.Cases.{admit-blocks, admit-opens, open-refused}
+use Rattle.admission.specs.OpeningLaws.{admit-blocks, admit-opens, open-refused}
 use Rattle.engine.proofs.StartCases.{unopened-start}
 use borrow.Author.Needs.{needs}
 use Rattle.engine.proofs.starting.start.Statement.{statement}

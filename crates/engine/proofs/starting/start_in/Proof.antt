@@ -1,9 +1,9 @@
 use Prim.Native.Nat.{_-_, _*_}
 use native.Mathlib.Omega.{arith}
 use lib.ListN.{drop, length-take}
-use Rattle.engine.specs.Knowing.{known, known-refused}
+use Rattle.admission.specs.Knowing.{known, known-refused}
 use Rattle.engine.specs.StartLaws.{start-refused}
-use Rattle.engine.proofs.Cases.{stream-part}
+use Rattle.admission.specs.OpeningLaws.{stream-part}
 use Rattle.engine.proofs.StartCases.{known-tables, known-short-term, known-short-memory, known-done}
 use borrow.Author.Needs.{needs}
 use Rattle.engine.proofs.starting.start_in.Statement.{statement}
@@ -11,7 +11,7 @@ use Rattle.engine.proofs.starting.start_in.Tie as tie
 use Rattle.engine.proofs.starting.start_in.Reads as reads
 use Rattle.engine.proofs.starting.start_in.Lts as lts
 use Rattle.arguments.proofs.wide32.Reads as wide32-reads
-use Rattle.engine.proofs.admit_in.Reads as admit-in-reads
+use Rattle.admission.proofs.admit_in.Reads as admit-in-reads
 use Rattle.engine.proofs.starting.begin.Reads as begin-reads
 
 -- src/starting.rt:70:34

@@ -4,7 +4,7 @@ use Rattle.engine.proofs.stepping.step_given.Statement.{statement}
 use Rattle.engine.proofs.stepping.step_given.Tie as tie
 use Rattle.engine.proofs.stepping.step_given.Reads as reads
 use Rattle.engine.proofs.stepping.step_given.Lts as lts
-use Rattle.engine.proofs.asking.ask.Reads as ask-reads
+use Rattle.given.proofs.asking.ask.Reads as ask-reads
 use Rattle.engine.proofs.stepping.step_at.Reads as step-at-reads
 
 -- src/stepping.rt:169:11

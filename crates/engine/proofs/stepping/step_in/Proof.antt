@@ -1,7 +1,7 @@
 use Prim.Native.Nat.{_-_, _*_}
 use native.Mathlib.Omega.{arith}
 use lib.ListN.{drop, length-take}
-use Rattle.engine.proofs.Cases.{stream-part}
+use Rattle.admission.specs.OpeningLaws.{stream-part}
 use Rattle.engine.proofs.StepGivenCases.{stepped-refused, stepped-few, stepped-done}
 use native.Mathlib.Omega.{arith}
 use borrow.Author.Needs.{needs}
@@ -9,7 +9,7 @@ use Rattle.engine.proofs.stepping.step_in.Statement.{statement}
 use Rattle.engine.proofs.stepping.step_in.Tie as tie
 use Rattle.engine.proofs.stepping.step_in.Reads as reads
 use Rattle.engine.proofs.stepping.step_in.Lts as lts
-use Rattle.engine.proofs.giving.given_in.Reads as given-in-reads
+use Rattle.given.proofs.giving.given_in.Reads as given-in-reads
 use Rattle.engine.proofs.stepping.step_given.Reads as step-given-reads
 use Rattle.scan.proofs.front.Reads as front-reads
 
