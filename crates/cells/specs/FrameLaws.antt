@@ -7,10 +7,10 @@ use mathlib.Core.List.{List, [], _∷_, _++_}
 use Prim.Native.Nat.{ℕ, suc, _+_, _-_, _/_, _%_, _≤_, _<_}
 use native.Mathlib.Omega.{arith}
 use native.Mathlib.Decide.{ℕ-discrete, decLt}
-use lib.Dec.{lit<, leb}
+use lib.Dec.{lit<}
 use lib.ListN.{length, drop, getD, set, length-set}
-use borrow.Author.Tests.{eq-eqb, ne-eqb, le-leb, lt-leb}
-use Rattle.eb3.specs.Values.{Value, undefined, number, bounded, equal, encode, decode, AtMost}
+use borrow.Author.Tests.{eq-eqb, ne-eqb}
+use Rattle.eb3.specs.Values.{Value, undefined, number, equal, encode, decode, AtMost}
 use Rattle.eb3.specs.Expressions.{Data, Variable, If, Equal, evaluate-data}
 use Rattle.eb3.specs.Attributes.{function, expression, number-of-functions}
 use Rattle.eb3.specs.Laws.Attributes.{apply-numbers}
@@ -22,6 +22,7 @@ use Rattle.scan.specs.Laws.{last-behind}
 use Rattle.expressions.specs.Stores.{stored, row-place, now-place, before-place, cell-in, reading-in, variable-in, environment-in}
 use Rattle.expressions.specs.Answering.{DataAt, Evaluated}
 use Rattle.expressions.specs.Laws.{data-parted}
+use Rattle.expressions.specs.ValueLaws.{word-of-value}
 use Rattle.cells.specs.Filling.{Ready}
 use Rattle.cells.specs.CellLaws.{next-offset}
 use Rattle.cells.specs.Turns.{Partly, Turn, Reached}
@@ -30,15 +31,6 @@ use Rattle.cells.specs.Frames.{kept-value, Naming, argument, value-now, 
 use Rattle.cells.specs.FrontLaws.{asking, asked-spelled}
 
 -- ── words and values ──
-
--- A word that is read as a value is that value's word.
-word-of-value : (w : ℕ) → w < 65536 → encode 65535 (decode 65534 w) ≡ w
-unfolding encode decode bounded
-word-of-value w h = go (decLt w 65535)
-  where
-    go : Dec (w < 65535) → encode 65535 (cond (leb w 65534) (number w) undefined) ≡ w
-    go (yes l) = let k : w ≤ 65534 = omega arith in rw (le-leb w 65534 k)
-    go (no n) = let k : 65534 < w = omega arith in rw (lt-leb w 65534 k) (omega arith)
 
 is-named : (x : ℕ) (v : Value) → x < 65535 → x ≡ encode 65535 v → equal (number x) v ≡ true
 unfolding equal encode

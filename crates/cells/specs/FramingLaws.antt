@@ -2,8 +2,8 @@
 -- Document 01, "Memory and the history machine".
 use mathlib.Core.Path.{_≡_, refl, sym, ap, subst, _∙_}
 use mathlib.Core.Bool.{true}
-use mathlib.Core.List.{List, [], _∷_}
-use Prim.Native.Nat.{ℕ, zero, suc, _+_, _*_, _/_, _%_, _≤_, _<_}
+use mathlib.Core.List.{List}
+use Prim.Native.Nat.{ℕ, _+_, _*_, _/_, _%_, _≤_, _<_}
 use native.Mathlib.Omega.{arith}
 use native.Mathlib.Decide.{ℕ-discrete, decLt}
 use lib.Dec.{lit<}
@@ -11,6 +11,7 @@ use lib.ListN.{length, drop, getD, set, length-set, List·getD-eq-default}
 use Rattle.scan.specs.Checking.{last-of}
 use Rattle.expressions.specs.Stores.{stored, row-place, before-place}
 use Rattle.expressions.specs.Answering.{Evaluated}
+use Rattle.expressions.specs.ValueLaws.{any-default}
 use Rattle.cells.specs.Turns.{Turn, Reached}
 use Rattle.cells.specs.TurnLaws.{stored-there, stored-else, turn-next, turn-end}
 use Rattle.cells.specs.Frames.{kept-value, AsksOne, Tells, Copied, Placed, NewCells}
@@ -21,11 +22,6 @@ pub placed-by : (t : List ℕ) (f left : ℕ) (s m : List ℕ) (o k : ℕ) → s
 placed-by t f left s m o k e h l = record { expression-at = e; size = h; begin = ap (λ i. 36 + i) l }
 
 -- ── copies ──
-
-any-default : (l : List ℕ) (i d e : ℕ) → i < length l → getD l i d ≡ getD l i e
-any-default [] i d e h = absurd (let z : ⊥ = omega arith in z)
-any-default (x ∷ l) zero d e h = refl
-any-default (x ∷ l) (suc i) d e h = any-default l i d e (omega arith)
 
 module _ (m : List ℕ) (from at : ℕ) where
   pub copy-start : Copied m m from at 0

@@ -1,15 +1,14 @@
 -- Cells of a memory in a store: put there, they are what the memory gives; written from there, they are what a memory holds (document 01, "Memory and the
 -- history machine": undefined is stored as 65,535). And words of a buffer, loaded to the front of others.
-use mathlib.Core.Path.{_≡_, refl, sym, ap, subst, _∙_}
+use mathlib.Core.Path.{_≡_, sym, ap, subst, _∙_}
 use mathlib.Core.List.{List, [], _∷_, _++_, map}
 use Prim.Native.Nat.{ℕ, zero, suc, _+_, _*_, _≤_, _<_}
 use native.Mathlib.Omega.{arith}
-use native.Mathlib.Decide.{decLt}
 use lib.Dec.{lit<}
 use lib.ListN.{length, getD, take, drop, length-map, length-drop, length-append}
 use lib.Seq.{take-all, take-at, length-take-le, getD-take, getD-drop, ext-getD}
 use Rattle.eb3.specs.Values.{Value, undefined, encode, decode}
-use Rattle.eb3.specs.Laws.Values.{bounded-at-most, encode-decode-number, decode-encode}
+use Rattle.eb3.specs.Laws.Values.{bounded-at-most}
 use Rattle.eb3.specs.Laws.Cells.{ValuesAtMost}
 use Rattle.eb3.specs.Laws.RuleSets.{getD-map}
 use Rattle.eb3.specs.Bytes.{words-in, word-count, written}
@@ -18,21 +17,11 @@ use Rattle.eb3.specs.Laws.Spelling.{Small}
 use Rattle.eb3.specs.Limits.{edition-1}
 use Rattle.eb3.specs.Memory.{memory-words, cells-in}
 use Rattle.expressions.specs.Stores.{stored, now-place}
+use Rattle.expressions.specs.ValueLaws.{word-of-value, any-default}
 use Rattle.cells.specs.Layout.{Holds}
 use Rattle.cells.specs.Preparing.{Loaded}
 
 -- ── words and values ──
-
--- a word as a cell, and the cell as a word
-word-back : (w : ℕ) → w < 65536 → encode 65535 (decode 65534 w) ≡ w
-unfolding encode
-word-back w h = go (decLt w 65535)
-  where
-    go : Dec (w < 65535) → encode 65535 (decode 65534 w) ≡ w
-    go (yes l) = encode-decode-number 65534 65535 (lit< tt) w (omega arith)
-    go (no n) =
-        let e : 65535 ≡ w = omega arith in
-        subst (λ v. encode 65535 (decode 65534 v) ≡ v) e (ap (encode 65535) (decode-encode 65534 65535 (lit< tt) undefined tt))
 
 -- the words of bytes
 pub words-small : (B : List ℕ) → ((i : ℕ) → getD B i 0 < 256) → (k : ℕ) → getD (words-in B) k 0 < 65536
@@ -67,15 +56,13 @@ given-cell c B h k l =
 pub loaded-holds : (B M M′ : List ℕ) (at c : ℕ) → ((k : ℕ) → getD (words-in B) k 0 < 65536) → c ≤ word-count B → at + c ≤ length M → Loaded B M M′ at c → Holds M′ at (cells-in edition-1 c B)
 loaded-holds B M M′ at c small enough room loaded k h =
     let l : k < c = omega (arith, given-counted c B enough) in
-    loaded .there k l (omega arith) ∙ sym (word-back (getD (words-in B) k 0) (small k)) ∙ ap (encode 65535) (sym (given-cell c B enough k l))
+    loaded .there k l (omega arith) ∙ sym (word-of-value (getD (words-in B) k 0) (small k)) ∙ ap (encode 65535) (sym (given-cell c B enough k l))
 
 -- ── words loaded to the front ──
 
 pub stored-is : (M : List ℕ) (i d : ℕ) → i < length M → stored M i ≡ getD M i d
 unfolding stored
-stored-is [] i d h = absurd (let z : ⊥ = omega arith in z)
-stored-is (x ∷ M) zero d h = refl
-stored-is (x ∷ M) (suc i) d h = stored-is M i d (omega arith)
+stored-is M i d h = any-default M i 65535 d h
 
 module _ (B M M′ : List ℕ) (n : ℕ) where
   pub loaded-front : n ≤ word-count B → n ≤ length M → Loaded B M M′ 0 n → take n M′ ≡ take n (words-in B)

@@ -1,15 +1,12 @@
 -- Answers of the search for a path, put together and taken apart.
-use mathlib.Core.Path.{_≡_, refl, sym, ap, _∙_, subst}
-use mathlib.Core.Bool.{Bool, true, false}
+use mathlib.Core.Path.{_≡_, refl, sym, ap, _∙_}
 use mathlib.Core.List.{List, [], _∷_, _++_}
 use Prim.Native.Nat.{ℕ, suc, _+_, _-_, _≤_, _<_}
 use native.Mathlib.Nat.{le-refl}
 use native.Mathlib.Numerals.{add-one}
 use native.Mathlib.Omega.{arith}
-use lib.Dec.{ltb}
-use lib.ListN.{length, take, drop, set, length-set, length-drop}
+use lib.ListN.{length, take, drop, set, length-set}
 use lib.Seq.{set-split, drop-at, drop-length, length-take-le}
-use borrow.Author.Tests.{ltb-true, ltb-false}
 use Rattle.eb3.specs.Scopes.{Scope}
 use Rattle.eb3.specs.Terms.{Term}
 use Rattle.eb3.specs.Sizes.{size}
@@ -19,6 +16,7 @@ use Rattle.paths.specs.Paths.{path}
 use Rattle.paths.specs.PathLaws.{path-length}
 use Rattle.deriving.specs.Derived.{passed, full, shown-count, DerivedShown}
 use Rattle.deriving.specs.Arms.{Sound, Outcome, Decided}
+use Rattle.deriving.specs.AnswerLaws.{by-order, never-full, place-room}
 use Rattle.listing.specs.Operands.{answer-is}
 
 -- ── a decision ──
@@ -45,13 +43,6 @@ decided-made c r entry b h l = record {
 
 -- ── the whole ──
 
-pub by-order : {A : Type 0} (r n : ℕ) → (r < n → A) → (n ≤ r → A) → A
-by-order {A} r n f g = go (ltb r n) refl
-  where
-    go : (b : Bool) → ltb r n ≡ b → A
-    go true e = f (ltb-true r n e)
-    go false e = g (ltb-false r n e)
-
 -- the left operand's size, and the decision in front of it
 pub decided-twice : {c n r q p : ℕ} {entry mid exit : List ℕ} → Decided (n ∷ []) r entry mid q → Decided (c ∷ []) q mid exit p → Decided (c ∷ n ∷ []) r entry exit p
 decided-twice {c} {n} {r} {q} {p} {entry} {mid} {exit} f g = record {
@@ -68,16 +59,10 @@ decided-twice {c} {n} {r} {q} {p} {entry} {mid} {exit} f g = record {
       (λ y. absurd (omega (arith, g .kept y, f .wrote l (omega (arith, g .kept y)) .0)));
 }
 
-pub sized : {c n m r q : ℕ} {entry exit : List ℕ} → n ≡ m → Decided (c ∷ n ∷ []) r entry exit q → Decided (c ∷ m ∷ []) r entry exit q
-sized {c} {n} {m} {r} {q} {entry} {exit} e h = subst (λ i. Decided (c ∷ i ∷ []) r entry exit q) e h
-
 -- the place of a decision lies in the array
 pub placed-on : {c r q : ℕ} {entry mid : List ℕ} → Decided (c ∷ []) r entry mid q → (r < passed → r ≤ length entry) → q < passed → q ≤ length mid
 placed-on {c} {r} {q} {entry} {mid} f g z =
     by-order r passed (λ y. omega (arith, f .wrote y (omega arith) .0, g y, f .same-length)) (λ y. absurd (omega (arith, f .kept y)))
-
-pub never-full : {A : Type 0} → full < full → A
-never-full z = absurd (omega (arith, z))
 
 pub sound-lost : (n k l : ℕ) → Sound n k l full
 sound-lost n k l = record { bounded = le-refl full; place-bounded = λ z. absurd (omega (arith, z)); passed-bounded = λ y z. never-full z }
@@ -169,12 +154,6 @@ module _ {o : List ℕ} {r q : ℕ} {mid exit : List ℕ} (h : Decided o r mid e
     passed-bounded = λ y z. by-order r passed (λ w. absurd (omega (arith, h .wrote w z .0))) (λ w. omega (arith, h .kept w, s .passed-bounded w (omega (arith, h .kept w))));
   }
 
-  pub before-full : q < full → r < full
-  before-full z = by-order r passed (λ y. omega arith) (λ y. omega (arith, h .kept y))
-
-  pub decided-room : r < full → (r < passed → length o ≤ r) → q < full
-  decided-room z f = by-order q full (λ y. y) (λ y. by-order r passed (λ w. absurd (omega (arith, h .lost w y, f w))) (λ w. omega (arith, h .kept w)))
-
   pub decided-outcome : {count left k : ℕ} {p : List ℕ} → q < full → Outcome count p left k mid r → Outcome count (o ++ p) left k exit q
   decided-outcome z e = record {
     found = λ l.
@@ -182,10 +161,6 @@ module _ {o : List ℕ} {r q : ℕ} {mid exit : List ℕ} (h : Decided o r mid e
         (omega (arith, w .0, e .found l .0), w .1 ∙ ap (λ x. o ++ x) (e .found l .1));
     none-found = λ l. h .kept (omega (arith, e .none-found l)) ∙ e .none-found l;
   }
-
--- A path that is w words shorter than the array leaves room for so many.
-pub place-room : (w r : ℕ) (x p : List ℕ) → r ≤ length x → drop r x ≡ p → w + length p ≤ length x → w ≤ r
-place-room w r x p a e l = omega (arith, ap length e, length-drop r x)
 
 -- there is room in front of the path of a term that is so much shorter than the array
 pub derived-room : {x : ℕ} {s M : List ℕ} {k : ℕ} {entry exit : List ℕ} {n r : ℕ} → DerivedShown x s M k entry exit n r → length exit ≡ length entry → (P : Scope) (E : Term) (rest : List ℕ) → TermAt s P E rest

@@ -26,7 +26,8 @@ use Rattle.deriving.specs.Derived.{passed, full, shown-count, Derived, D
 use Rattle.deriving.specs.Arms.{Sound, Outcome, Decided, ActionDerived, TwoDerived}
 use Rattle.deriving.specs.FitLaws.{before-second}
 use Rattle.listing.specs.Operands.{answer-is, answered-left, answered-count, first-done, first-other, second-behind, truth-none, truth-some, holds, guarded-here, front-form}
-use Rattle.deriving.proofs.Answers.{by-order, never-full, sound-lost, sound-more, sound-passed, sound-of, derived-of, outcome-of, outcome-as, outcome-early, outcome-later, outcome-place, outcome-passed, outcome-single, sound-single, decided-sound, before-full, decided-room, decided-outcome, derived-room}
+use Rattle.deriving.specs.AnswerLaws.{by-order, never-full, before-full, decided-room}
+use Rattle.deriving.proofs.Answers.{sound-lost, sound-more, sound-passed, sound-of, derived-of, outcome-of, outcome-as, outcome-early, outcome-later, outcome-place, outcome-passed, outcome-single, sound-single, decided-sound, decided-outcome, derived-room}
 use Rattle.deriving.proofs.Counts.{count-moves, count-done, count-internal, count-hidden, count-shows, count-after-done, count-sequence, count-choice, count-star, count-guard, count-shut, path-after-done, path-sequence, path-choice, path-end, path-round, path-guard, path-internal, path-perform, two-first, two-second}
 
 -- What is shown of every term that may stand there.

@@ -20,13 +20,14 @@ use Rattle.actions.specs.Sets.{in-set, mask-set, has-all, in-mask-set, in-eithe
 use Rattle.listing.specs.Listing.{Fits, code-of, codes, holding, room}
 use Rattle.listing.specs.Combining.{outside, pairs, combined}
 use Rattle.listing.specs.CodeLaws.{codes-done, codes-internal, codes-perform, codes-after-done, codes-sequence, codes-choice, codes-star, codes-both-done, codes-parallel, codes-guard, codes-shut}
+use Rattle.listing.specs.OutsideLaws.{outside-append, pairs-none, pairs-none-right}
 use Rattle.listing.specs.RoomLaws.{two-room, room-zero, room-masked}
 use Rattle.paths.specs.Paths.{shown?, shown, path, path-in-turn, paired, idle}
 use Rattle.paths.specs.ShownLaws.{shown-all, idle-none}
 use Rattle.deriving.specs.Derived.{move-count, shown-count}
 use Rattle.deriving.specs.Searching.{shown-combined}
 use Rattle.deriving.specs.Arms.{masked-path}
-use Rattle.deriving.proofs.Lists.{outside-append, outside-twice, outside-pairs, pairs-none, pairs-left}
+use Rattle.deriving.proofs.Lists.{outside-twice, outside-pairs}
 
 filtered : (x : ℕ) (l : List Move) → length (filter (shown? x) l) ≡ length (outside (in-set x) (map code-of l))
 unfolding outside
@@ -261,6 +262,6 @@ module _ (M : List ℕ) where
           arith,
           both-is M x E F δ,
           ap (λ l. length (outside (in-set (bitOr x δ)) l)) e,
-          ap (λ l. length (pairs (paired x δ) (codes (holding M) E) l)) e ∙ ap length (pairs-left (paired x δ) (codes (holding M) E)),
+          ap (λ l. length (pairs (paired x δ) (codes (holding M) E) l)) e ∙ ap length (pairs-none-right (paired x δ) (codes (holding M) E)),
           count-codes M (bitOr x δ) E,
         )

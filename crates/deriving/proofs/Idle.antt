@@ -21,7 +21,8 @@ use Rattle.paths.specs.Paths.{path, idle}
 use Rattle.deriving.specs.Derived.{passed, full, DerivedShown}
 use Rattle.deriving.specs.Arms.{Decided, RightDerived, LeftDerived, listed-path, ListedDerived, masked-path, MaskedDerived}
 use Rattle.deriving.specs.FitLaws.{before-second}
-use Rattle.deriving.proofs.Answers.{never-full, sound-lost, sound-more, sound-of, outcome-of, outcome-as, outcome-place, outcome-early, decided-sound, before-full, decided-room, decided-outcome, derived-room}
+use Rattle.deriving.specs.AnswerLaws.{never-full, before-full, decided-room}
+use Rattle.deriving.proofs.Answers.{sound-lost, sound-more, sound-of, outcome-of, outcome-as, outcome-place, outcome-early, decided-sound, decided-outcome, derived-room}
 use Rattle.deriving.proofs.Arms.{behind-sound, behind-low, behind-outcome}
 use Rattle.deriving.proofs.Counts.{both-right, both-left}
 

@@ -1,15 +1,15 @@
 -- A parallel both of whose sides may move: both sides' lists, the sides of move k among them, and the answer of the walk into the sides.
 use mathlib.Core.Path.{_≡_, refl, sym, ap, _∙_, subst}
-use mathlib.Core.List.{List, [], _++_, append-nil}
+use mathlib.Core.List.{List, _++_}
 use Prim.Native.Nat.{ℕ, _+_, _-_, _/_, _%_, _≤_, _<_}
 use native.Mathlib.Omega.{arith}
 use lib.ListN.{length, take, drop, length-append, length-drop}
-use lib.Seq.{take-at, drop-at, take-append-add, drop-length, length-take-le, slice}
+use lib.Seq.{take-at, drop-at, take-append-add, length-take-le, slice}
 use Rattle.eb3.specs.Scopes.{Scope}
 use Rattle.eb3.specs.Terms.{Term}
 use Rattle.eb3.specs.Spelling.{words}
 use Rattle.scan.specs.Checking.{last-of}
-use Rattle.scan.specs.Laws.{part, last-len}
+use Rattle.scan.specs.Laws.{part, back-rest, last-len}
 use Rattle.expressions.specs.Answering.{answer}
 use Rattle.listing.specs.Listing.{TermAt, holding, codes, Right, Listed}
 use Rattle.listing.specs.Positions.{TwoAt, second-at, behind-shorter, behind-term}
@@ -18,14 +18,9 @@ use Rattle.deriving.specs.Derived.{passed, full, shown-count}
 use Rattle.deriving.specs.Searching.{sides-of, Within, shown-combined, LocatedBy}
 use Rattle.deriving.specs.Arms.{SidesDerived, sides-path, combined-count, ListedDerived}
 use Rattle.listing.specs.Operands.{answer-is, answered-left, answered-count}
-use Rattle.deriving.proofs.Answers.{never-full, sound-lost, sound-passed}
+use Rattle.deriving.specs.AnswerLaws.{never-full}
+use Rattle.deriving.proofs.Answers.{sound-lost, sound-passed}
 use Rattle.deriving.proofs.Counts.{count-all}
-
--- A lent rest that came back.
-back-rest : (x y : List ℕ) (n : ℕ) → take n x ++ (y ++ drop (length x - n) (drop n x)) ≡ take n x ++ y
-back-rest x y n =
-    let e : drop (length x - n) (drop n x) ≡ [] = ap (λ k. drop k (drop n x)) (sym (length-drop n x)) ∙ drop-length (drop n x) in
-    ap (λ l. take n x ++ (y ++ l)) e ∙ ap (λ l. take n x ++ l) (append-nil y)
 
 lent-len : (x : List ℕ) (n : ℕ) → length (take (length x - n) (drop n x)) ≤ length x
 lent-len x n = omega (arith, ap length (part n x), length-drop n x)

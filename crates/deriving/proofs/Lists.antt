@@ -7,6 +7,7 @@ use lib.Dec.{eqb}
 use lib.ListN.{length}
 use Rattle.eb3.specs.Generic.Lists.{filter}
 use Rattle.listing.specs.Combining.{outside, equal-to, pairs}
+use Rattle.listing.specs.OutsideLaws.{outside-append}
 
 module _ (p : ℕ → Bool) where
   pub length-outside : (xs : List ℕ) → length (outside p xs) ≡ length (filter (λ c. not (p c)) xs)
@@ -17,15 +18,6 @@ module _ (p : ℕ → Bool) where
       go : (b : Bool) (o u : List ℕ) → length o ≡ length u → length (cond b o (x ∷ o)) ≡ length (cond (not b) (x ∷ u) u)
       go true o u e = e
       go false o u e = ap suc e
-
-  pub outside-append : (xs ys : List ℕ) → outside p (xs ++ ys) ≡ outside p xs ++ outside p ys
-  unfolding outside
-  outside-append [] ys = refl
-  outside-append (x ∷ xs) ys = go (p x) (outside p (xs ++ ys)) (outside p xs) (outside p ys) (outside-append xs ys)
-    where
-      go : (b : Bool) (o u v : List ℕ) → o ≡ u ++ v → cond b o (x ∷ o) ≡ cond b u (x ∷ u) ++ v
-      go true o u v e = e
-      go false o u v e = ap (λ l. x ∷ l) e
 
   twice : (x : ℕ) (o : List ℕ) (a b : Bool) → p x ≡ a → outside p (cond b o (x ∷ o)) ≡ cond (a || b) (outside p o) (x ∷ outside p o)
   unfolding outside
@@ -74,20 +66,5 @@ module _ (p : ℕ → Bool) where
   unfolding outside pairs
   outside-pairs q r h [] ys = refl
   outside-pairs q r h (x ∷ xs) ys =
-      outside-append (cond (q x) (equal-to x ys) []) (pairs q xs ys)
+      outside-append p (cond (q x) (equal-to x ys) []) (pairs q xs ys)
       ∙ (λ i. (row x ys (p x) (q x) refl ∙ ap (λ z. cond z (equal-to x ys) []) (sym (h x))) i ++ outside-pairs q r h xs ys i)
-
-  pub pairs-none : ((c : ℕ) → p c ≡ false) → (xs ys : List ℕ) → pairs p xs ys ≡ []
-  unfolding pairs
-  pairs-none h [] ys = refl
-  pairs-none h (x ∷ xs) ys = ap (λ b. cond b (equal-to x ys) [] ++ pairs p xs ys) (h x) ∙ pairs-none h xs ys
-
-  -- nothing on the right to pair with
-  pub pairs-left : (xs : List ℕ) → pairs p xs [] ≡ []
-  unfolding pairs equal-to
-  pairs-left [] = refl
-  pairs-left (x ∷ xs) = ap (λ l. l ++ pairs p xs []) (same (p x)) ∙ pairs-left xs
-    where
-      same : (b : Bool) → cond {A = List ℕ} b [] [] ≡ []
-      same true = refl
-      same false = refl

@@ -19,7 +19,8 @@ use Rattle.listing.specs.CasesByCode.{parallel-cases}
 use Rattle.deriving.specs.Derived.{passed, DerivedShown}
 use Rattle.deriving.specs.Arms.{Decided, TwoDerived, MaskedDerived}
 use Rattle.listing.specs.Operands.{answer-is, BothDone, behind-both, mask-len}
-use Rattle.deriving.proofs.Answers.{by-order, sound-more, derived-of, outcome-as, outcome-single, sound-single, decided-sound, decided-room, decided-outcome}
+use Rattle.deriving.specs.AnswerLaws.{by-order, decided-room}
+use Rattle.deriving.proofs.Answers.{sound-more, derived-of, outcome-as, outcome-single, sound-single, decided-sound, decided-outcome}
 use Rattle.deriving.proofs.Arms.{Told}
 use Rattle.deriving.proofs.Counts.{count-both-done, count-masked, count-covered, room-sides, path-both-done, path-masked, path-covered}
 

@@ -16,7 +16,8 @@ use Rattle.deriving.specs.Derived.{passed, full, shown-count, DerivedSho
 use Rattle.deriving.specs.Searching.{sides-of, Within}
 use Rattle.deriving.specs.Arms.{Decided, sides-path, SidesDerived, BothDerived}
 use Rattle.deriving.specs.FitLaws.{size-before}
-use Rattle.deriving.proofs.Answers.{never-full, decided-room, derived-room}
+use Rattle.deriving.specs.AnswerLaws.{never-full, decided-room}
+use Rattle.deriving.proofs.Answers.{derived-room}
 use Rattle.deriving.proofs.Locating.{sides-left, sides-right, sides-both}
 
 -- ── both ──

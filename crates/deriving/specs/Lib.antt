@@ -4,3 +4,4 @@ pub mod Derived
 pub mod Searching
 pub mod Arms
 pub mod FitLaws
+pub mod AnswerLaws

@@ -15,7 +15,7 @@ use Rattle.eb3.specs.Spelling.{number-words, data-words, args-words, cond-words
 use Rattle.expressions.specs.Stores.{stored, reading-in, variable-in, environment-in, before-place}
 use Rattle.expressions.specs.Answering.{value-word, truth, answer, Plain, DataAt, CondAt, Evaluated, Judged}
 use Rattle.expressions.specs.Operands.{sum-word, difference-word, equal-word, less-word, Valued, Paired, Selected, Named, Joined, Negated}
-use Rattle.expressions.proofs.Words.{word-of-value}
+use Rattle.expressions.specs.ValueLaws.{word-of-value}
 
 -- ── data ──
 

@@ -1,7 +1,7 @@
 -- A case for each way that a function of values as words, or of the store, returns; the premises have the form of what the code tells there.
 use mathlib.Core.Path.{_≡_, refl, sym, ap, _∙_}
 use mathlib.Core.List.{List, [], _∷_}
-use Prim.Native.Nat.{ℕ, zero, suc, _+_, _-_, _*_, _≤_, _<_}
+use Prim.Native.Nat.{ℕ, _+_, _-_, _*_, _≤_, _<_}
 use native.Mathlib.Omega.{arith}
 use native.Mathlib.Decide.{decLt}
 use lib.Dec.{lit<}
@@ -11,6 +11,7 @@ use Rattle.eb3.specs.Values.{Value, undefined, number, bounded, add, subtract, 
 use Rattle.eb3.specs.Attributes.{apply-in-domain}
 use Rattle.expressions.specs.Stores.{stored, cell-in, reading-in}
 use Rattle.expressions.specs.Answering.{truth, answer}
+use Rattle.expressions.specs.ValueLaws.{word-of-value, any-default}
 use Rattle.expressions.specs.Operands.{sum-word, difference-word, equal-word, less-word}
 
 pub packed : (v left : ℕ) → v < 65536 → left < 65536 → (v + 65536 * left ≡ answer v left) × (v + 65536 * left < 4294967296)
@@ -30,16 +31,6 @@ unfolding decode bounded
 decode-mark w h =
     let l : 65534 < w = omega arith in
     rw (lt-leb w 65534 l)
-
-pub word-of-value : (w : ℕ) → w < 65536 → encode 65535 (decode 65534 w) ≡ w
-unfolding encode
-word-of-value w h = go (decLt w 65535)
-  where
-    go : Dec (w < 65535) → encode 65535 (decode 65534 w) ≡ w
-    go (yes l) = rw (decode-number w l)
-    go (no n) =
-        let l : 65535 ≤ w = omega arith in
-        rw (decode-mark w l) (omega arith)
 
 -- ── arithmetic ──
 
@@ -150,11 +141,6 @@ module _ (a b : ℕ) (small-a : a < 65536) (small-b : b < 65536) where
           (rw (decode-mark a k), lit< tt)
 
 -- ── the store ──
-
-any-default : (l : List ℕ) (i d e : ℕ) → i < length l → getD l i d ≡ getD l i e
-any-default [] i d e h = absurd (omega arith)
-any-default (x ∷ l) zero d e h = refl
-any-default (x ∷ l) (suc i) d e h = any-default l i d e (omega arith)
 
 pub word-there : (M : List ℕ) (i w : ℕ) → i < length M → w ≡ getD M i 0 → w < 65536 → (w ≡ stored M i) × (w < 65536)
 unfolding stored

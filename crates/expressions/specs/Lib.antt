@@ -4,3 +4,4 @@ pub mod Stores
 pub mod Answering
 pub mod Operands
 pub mod Laws
+pub mod ValueLaws

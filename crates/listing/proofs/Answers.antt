@@ -1,16 +1,16 @@
 -- Answers of listing, put together and taken apart; one move, and two operands' lists one behind the other.
 use mathlib.Core.Path.{_≡_, refl, sym, ap, _∙_}
-use mathlib.Core.List.{List, [], _∷_, _++_, append-nil}
+use mathlib.Core.List.{List, [], _∷_, _++_}
 use Prim.Native.Nat.{ℕ, _+_, _-_, _*_, _/_, _%_, _≤_, _<_}
 use native.Mathlib.Nat.{le-refl}
 use native.Mathlib.Omega.{arith}
 use lib.ListN.{length, take, drop, set, length-append, length-drop, length-set}
-use lib.Seq.{take-append-add, drop-length, length-take-le}
+use lib.Seq.{take-append-add, length-take-le}
 use Rattle.eb3.specs.Scopes.{Scope}
 use Rattle.eb3.specs.Terms.{Term}
 use Rattle.eb3.specs.Spelling.{words}
 use Rattle.scan.specs.Checking.{last-of}
-use Rattle.scan.specs.Laws.{part}
+use Rattle.scan.specs.Laws.{part, back-rest}
 use Rattle.expressions.specs.Answering.{answer}
 use Rattle.listing.specs.Listing.{TermAt, holding, codes, room, full, Listed}
 use Rattle.listing.specs.Positions.{TwoAt, second-at, behind-shorter}
@@ -74,12 +74,6 @@ one-made code left entry l h = record {
 }
 
 -- ── two operands ──
-
--- A lent rest that came back.
-pub back-rest : (x y : List ℕ) (n : ℕ) → take n x ++ (y ++ drop (length x - n) (drop n x)) ≡ take n x ++ y
-back-rest x y n =
-    let e : drop (length x - n) (drop n x) ≡ [] = ap (λ k. drop k (drop n x)) (sym (length-drop n x)) ∙ drop-length (drop n x) in
-    ap (λ l. take n x ++ (y ++ l)) e ∙ ap (λ l. take n x ++ l) (append-nil y)
 
 -- l is the answer of the first operand's list, r that of the second's behind it
 module _ {x : ℕ} (t M entry mid : List ℕ) (l : ℕ) (first : ShownListed x t M entry mid l) (short : length t ≤ 65535) (few : length entry ≤ 131072) where

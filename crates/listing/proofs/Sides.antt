@@ -7,7 +7,7 @@ use lib.ListN.{length, take, drop, set, length-drop, length-set}
 use Rattle.eb3.specs.Scopes.{Scope}
 use Rattle.eb3.specs.Terms.{Term}
 use Rattle.scan.specs.Checking.{last-of}
-use Rattle.scan.specs.Laws.{part}
+use Rattle.scan.specs.Laws.{part, back-rest}
 use Rattle.expressions.specs.Answering.{Judged}
 use Rattle.listing.specs.Listing.{TermAt, holding, full}
 use Rattle.listing.specs.Operands.{answer-is, truth-none, truth-some, holds, guarded-here}
@@ -16,7 +16,7 @@ use Rattle.listing.specs.Shown.{shown}
 use Rattle.listing.specs.ShownLaws.{shown-star, shown-guard, shown-shut}
 use Rattle.listing.specs.RoomLaws.{room-star, room-guard}
 use Rattle.listing.specs.Arms.{ShownListed}
-use Rattle.listing.proofs.Answers.{back-rest, sound-lost, never-full, Told, listed-of, lists-as}
+use Rattle.listing.proofs.Answers.{sound-lost, never-full, Told, listed-of, lists-as}
 use Rattle.listing.proofs.Arms.{none-sound, none-lists}
 
 -- ── a star ──

@@ -45,7 +45,7 @@ module _ (p : ℕ → Bool) where
   outside-none h [] = refl
   outside-none h (x ∷ xs) = number-shown x xs (h x) ∙ ap (λ t. x ∷ t) (outside-none h xs)
 
-  pairs-none : ((n : ℕ) → p n ≡ false) → (xs ys : List ℕ) → pairs p xs ys ≡ []
+  pub pairs-none : ((n : ℕ) → p n ≡ false) → (xs ys : List ℕ) → pairs p xs ys ≡ []
   unfolding pairs
   pairs-none h [] ys = refl
   pairs-none h (x ∷ xs) ys = ap (λ b. cond b (equal-to x ys) [] ++ pairs p xs ys) (h x) ∙ pairs-none h xs ys
@@ -165,7 +165,7 @@ module _ (q : ℕ → Bool) where
   unfolding combined outside pairs
   beside-none-left ys = append-nil (outside q ys)
 
-  pairs-none-right : (xs : List ℕ) → pairs q xs [] ≡ []
+  pub pairs-none-right : (xs : List ℕ) → pairs q xs [] ≡ []
   unfolding pairs equal-to
   pairs-none-right [] = refl
   pairs-none-right (x ∷ xs) = go (q x) (pairs-none-right xs)

@@ -19,6 +19,11 @@ two-room g E F = max (room g E) (length (codes g E) + room g F)
 abbrev pub masked-room : (Cond → Bool) → Term → Term → ℕ → ℕ
 masked-room g E F n = max (room g E) (length (codes g E) + max (room g F) (length (codes g F) + n))
 
+-- one of two, neither above n
+pub either-below : (n : ℕ) (b : Bool) (x y : ℕ) → x ≤ n → y ≤ n → cond b x y ≤ n
+either-below n true x y h k = h
+either-below n false x y h k = k
+
 module _ (g : Cond → Bool) where
   pub room-after-done : (E F : Term) → done? E ≡ true → room g (Sequence E F) ≡ room g F
   unfolding room
@@ -62,10 +67,6 @@ module _ (g : Cond → Bool) where
   pub codes-below-breadth : (E : Term) → length (codes g E) ≤ breadth E
   unfolding codes
   codes-below-breadth E = omega (arith, length-map (moves g E) code-of, moves-below-breadth g E)
-
-  either-below : (n : ℕ) (b : Bool) (x y : ℕ) → x ≤ n → y ≤ n → cond b x y ≤ n
-  either-below n true x y h k = h
-  either-below n false x y h k = k
 
   parallel-bound : (z d : Bool) (lE lF rE rF bE bF n : ℕ) → lE ≤ bE → lF ≤ bF → rE ≤ 2 * bE → rF ≤ 2 * bF → n ≤ parallel-breadth z bE bF
       → cond d 1 (cond z (max rE (lE + rF)) (max rE (lE + max rF (lF + n)))) ≤ 2 * parallel-breadth z bE bF

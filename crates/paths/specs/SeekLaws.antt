@@ -11,9 +11,10 @@ use lib.ListN.{length, getElem?, length-map}
 use Rattle.eb3.specs.Generic.Lists.{filter, concat-map}
 use Rattle.eb3.specs.Reading.{pick}
 use Rattle.eb3.specs.Laws.TransitionSystems.{getElem?-unmap}
+use Rattle.paths.specs.FilterLaws.{filter-none}
 use Rattle.paths.specs.Paths.{Sought, at, beyond, one-on, seek, Sides, left-alone, right-alone, together, nowhere, pair-from, seek-pair}
 
--- ── entries of lists put together ──
+-- ── entries of lists, also of lists put together ──
 
 pub entry-first : {A : Type 0} (l r : List A) (k : ℕ) → k < length l → getElem? (l ++ r) k ≡ getElem? l k
 entry-first [] r k h = let z : ⊥ = omega arith in absurd z
@@ -24,6 +25,12 @@ pub entry-rest : {A : Type 0} (l r : List A) (k : ℕ) → getElem? (l ++ r) (le
 entry-rest [] r k = let e : 0 + k ≡ k = omega arith in ap (getElem? r) e
 entry-rest (x ∷ l) r k = let e : suc (length l) + k ≡ suc (length l + k) = omega arith in ap (getElem? (x ∷ (l ++ r))) e ∙ entry-rest l r k
 
+-- An entry that is there stands within the list.
+pub some-within : {A : Type 0} (l : List A) (k : ℕ) (x : A) → getElem? l k ≡ some x → k < length l
+some-within [] k x e = absurd (Option·none-ne-some x e)
+some-within (y ∷ l) zero x e = omega arith
+some-within (y ∷ l) (suc k) x e = omega (arith, some-within l k x e)
+
 -- An entry of a list that is made from another.
 pub entry-made : {A B : Type 0} (f : A → B) (l : List A) (r : List B) (k : ℕ) (y : B) → k < length l → getElem? (map f l ++ r) k ≡ some y → (x : A) × (getElem? l k ≡ some x) × (f x ≡ y)
 entry-made f l r k y h e = getElem?-unmap f l k y (sym (entry-first (map f l) r k (omega (arith, length-map l f))) ∙ e)
@@ -32,10 +39,6 @@ pub entry-behind : {A B : Type 0} (f : A → B) (l : List A) (r : List B) (k j :
 entry-behind f l r k j h =
     let e : k ≡ length (map f l) + j = omega (arith, length-map l f) in
     ap (getElem? (map f l ++ r)) e ∙ entry-rest (map f l) r j
-
-filter-none : {A : Type 0} (l : List A) → filter (λ x. false) l ≡ []
-filter-none [] = refl
-filter-none (x ∷ l) = filter-none l
 
 -- ── the k-th that passes a test ──
 
@@ -99,7 +102,7 @@ module _ {A : Type 0} (c : A → ℕ) (inside : A → Bool) (same : A → A → 
       → getElem? (map (made x) (filter (λ y. b && same x y) ys) ++ r) k ≡ some v → Paired (x ∷ xs) ys n v (pick b (pair-from n s go) (go k))
   paired-step true x xs ys r n k v s go h ih e = paired-here x xs ys r n k v s go h ih e
   paired-step false x xs ys r n k v s go h ih e =
-      paired-later x xs ys n v (go k) (ih k (subst (λ l. getElem? (map (made x) l ++ r) k ≡ some v) (filter-none ys) e))
+      paired-later x xs ys n v (go k) (ih k (subst (λ l. getElem? (map (made x) l ++ r) k ≡ some v) (filter-none (λ y. false) (λ y. refl) ys) e))
 
   pub pair-seen : (q : ℕ → Bool) (xs ys : List A) → ((i : ℕ) (x : A) → getElem? xs i ≡ some x → q (c x) ≡ inside x)
       → ((i j : ℕ) (x y : A) → getElem? xs i ≡ some x → getElem? ys j ≡ some y → eqb (c x) (c y) ≡ same x y)

@@ -7,7 +7,7 @@ use native.Mathlib.Omega.{arith}
 use native.Mathlib.Decide.{decLe}
 use mathlib.Core.Path.{_≡_, refl, sym, ap, _∙_}
 use mathlib.Core.Bool.{Bool, true, false}
-use mathlib.Core.List.{List, [], _∷_, _++_}
+use mathlib.Core.List.{List, [], _∷_, _++_, append-nil}
 use lib.ListN.{length, take, drop, getD, length-drop, drop-of-length-le}
 use lib.Seq.{take-all, drop-length, drop-drop, drop-append-seam}
 use lib.Dec.{ltb}
@@ -29,6 +29,12 @@ cons-form (w ∷ t) h = refl
 -- a part `&s[k..]`
 pub part : (k : ℕ) (s : List ℕ) → take (length s - k) (drop k s) ≡ drop k s
 part k s = take-all (length s - k) (drop k s) (simp length-drop (le-refl (length s - k)))
+
+-- a part `&mut s[k..]` that was lent and came back as t
+pub back-rest : (s t : List ℕ) (k : ℕ) → take k s ++ (t ++ drop (length s - k) (drop k s)) ≡ take k s ++ t
+back-rest s t k =
+    let e : drop (length s - k) (drop k s) ≡ [] = ap (λ j. drop j (drop k s)) (sym (length-drop k s)) ∙ drop-length (drop k s) in
+    ap (λ u. take k s ++ (t ++ u)) e ∙ ap (λ u. take k s ++ u) (append-nil t)
 
 pub behind-len : (s t : List ℕ) → t ≡ drop 1 s → length t ≡ length s - 1
 behind-len s t e = ap length e ∙ length-drop 1 s

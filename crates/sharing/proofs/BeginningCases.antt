@@ -9,7 +9,7 @@ use lib.ListN.{length, drop, getD, set, length-drop, length-set}
 use lib.Seq.{drop-drop}
 use Rattle.eb3.specs.Expressions.{Cond}
 use Rattle.eb3.specs.Scopes.{Scope}
-use Rattle.eb3.specs.Terms.{Term, Done, Internal, Perform, Sequence, Choice, Star, Parallel, Guard, visible, internal, done?}
+use Rattle.eb3.specs.Terms.{Term, Done, Sequence, Choice, Star, visible, internal, done?}
 use Rattle.eb3.specs.Spelling.{cond-words, words}
 use Rattle.eb3.specs.Sizes.{size}
 use Rattle.scan.specs.Checking.{last-of}
@@ -23,25 +23,12 @@ use Rattle.paths.specs.Paths.{followed, within, follow, marked}
 use Rattle.sharing.specs.Shared.{PartAt}
 use Rattle.sharing.specs.SharedLaws.{size-some}
 use Rattle.sharing.specs.Beginning.{BeganRight, Beginning, ActionNumber, EndPut}
-use Rattle.successors.specs.FollowLaws.{choice-left-follows, choice-left-marked, choice-right-follows, choice-right-marked, star-end-follows, round-follows, round-marked}
+use Rattle.successors.specs.TermLaws.{action-there, sequence-two, choice-two, star-first, guard-condition, guard-operand, right-there, left-within}
+use Rattle.successors.specs.FollowLaws.{leaf, choice-left-follows, choice-left-marked, choice-right-follows, choice-right-marked, star-end-follows, round-follows, round-marked}
 use Rattle.sharing.proofs.BeginningEnds.{Under, under-on, last-tail, part-at}
-use Rattle.sharing.proofs.BeginningTerms.{action-there, sequence-two, choice-two, star-one, guard-condition, guard-operand, right-there, left-within}
 use Rattle.sharing.proofs.BeginningGiven.{Skipped, lent, Given, begun, by-any, by-action, by-sequence, by-choice, by-star, by-guard, ended, then-began}
 
 -- ── leaves ──
-
--- Done and the internal action lead to Done.
-leaf : (G : Term) → (code-in-front G ≡ 21 → ⊥) → (code-in-front G ≡ 22 → ⊥) → (code-in-front G ≡ 23 → ⊥) → (code-in-front G ≡ 24 → ⊥) → (code-in-front G ≡ 25 → ⊥) → (code-in-front G ≡ 26 → ⊥)
-    → (p : List ℕ) → follow G p ≡ followed internal Done p
-unfolding follow code-in-front
-leaf Done a b c d e f p = refl
-leaf Internal a b c d e f p = refl
-leaf (Perform v) a b c d e f p = absurd (a refl)
-leaf (Sequence E F) a b c d e f p = absurd (b refl)
-leaf (Choice E F) a b c d e f p = absurd (c refl)
-leaf (Star E) a b c d e f p = absurd (d refl)
-leaf (Parallel Δ E F) a b c d e f p = absurd (e refl)
-leaf (Guard C E) a b c d e f p = absurd (f refl)
 
 pub leaf-case : (s p x y : List ℕ) (at r w : ℕ) → w ≡ getD s 0 0 → (w ≡ 21 → ⊥) → (w ≡ 22 → ⊥) → (w ≡ 23 → ⊥) → (w ≡ 24 → ⊥) → (w ≡ 25 → ⊥) → (w ≡ 26 → ⊥)
     → EndPut x y at (length p) 0 r → Beginning s p at x y r
@@ -49,7 +36,7 @@ unfolding size action-code
 leaf-case s p x y at r w e a b c d i f m =
     by-any (m .same-length) (m .bounded) (λ u P rest G h g k.
     let q : w ≡ code-in-front G = e ∙ h in
-    let v : follow G p ≡ followed internal Done p = leaf G (λ j. a (q ∙ j)) (λ j. b (q ∙ j)) (λ j. c (q ∙ j)) (λ j. d (q ∙ j)) (λ j. i (q ∙ j)) (λ j. f (q ∙ j)) p in
+    let v : follow G p ≡ followed internal Done p = leaf G (λ j. a (q ∙ j)) (λ j. b (q ∙ j)) (λ j. c (q ∙ j)) (λ j. d (q ∙ j)) (λ j. i (q ∙ j)) (λ j. f (q ∙ j)) p rest .0 in
     subst (λ z. BeganRight u P z at x y r) (sym v) (ended internal p m (subst (λ z. at + size 1 (z .successor) ≤ length x) v k) refl refl))
 
 module _ (s p t : List ℕ) (behind : t ≡ drop 1 s) where
@@ -211,7 +198,7 @@ module _ (s p t : List ℕ) (behind : t ≡ drop 1 s) where
           let given : Given u t P E rest q = record {
             few = g .few;
             under = under-on t (g .under) (1, behind);
-            there = subst (λ z. TermAt z P E rest) (sym behind) (star-one s P rest E (g .there));
+            there = subst (λ z. TermAt z P E rest) (sym behind) (star-first s P rest E (g .there));
             bare = g .bare;
             led = subst (λ z. marked E z ≡ true) (sym on) (round-marked p d E (g .led));
             short = omega (arith, g .short, ap length on, length-drop 1 p);

@@ -23,7 +23,7 @@ use Rattle.sharing.specs.Beginning.{began, BeganRight, Beginning, EndPut
 use Rattle.successors.specs.FollowLaws.{rest-of-path, rest-short, parallel-end-follows, parallel-left-follows, parallel-left-marked, parallel-right-follows, parallel-right-marked, parallel-both-follows, parallel-both-marked, size-marked}
 use Rattle.sharing.proofs.BeginningPuts.{put-one, one-put, put-behind}
 use Rattle.sharing.proofs.BeginningEnds.{Under, under-on, last-tail, one-word, bare-mask}
-use Rattle.sharing.proofs.BeginningTerms.{parallel-two, parallel-long, right-there, left-within}
+use Rattle.successors.specs.TermLaws.{parallel-two, parallel-long, right-there, left-within}
 use Rattle.sharing.proofs.BeginningCodes.{began-at, began-left, began-action, began-both}
 use Rattle.sharing.proofs.BeginningGiven.{Skipped, lent, Given, begun, by-parallel, ended}
 

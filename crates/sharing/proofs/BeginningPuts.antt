@@ -16,8 +16,8 @@ put-one x i c h =
 pub one-put : (x : List ℕ) (i c : ℕ) (w : List ℕ) → i < length x → w ≡ c ∷ [] → set x i c ≡ put-at i w x
 one-put x i c w h e = put-one x i c h ∙ ap (λ v. put-at i v x) (sym e)
 
-put-length : (x v : List ℕ) (i : ℕ) → i + length v ≤ length x → length (put-at i v x) ≡ length x
-put-length x v i h = omega (arith, length-append (take i x) (v ++ drop (i + length v) x), length-append v (drop (i + length v) x), length-drop (i + length v) x, length-take-le i x (omega arith))
+pub put-length : (at : ℕ) (w d : List ℕ) → at + length w ≤ length d → length (put-at at w d) ≡ length d
+put-length at w d h = omega (arith, length-append (take at d) (w ++ drop (at + length w) d), length-take-le at d (omega arith), length-append w (drop (at + length w) d), length-drop (at + length w) d)
 
 head-length : (x v : List ℕ) (i : ℕ) → i + length v ≤ length x → length (take i x ++ v) ≡ i + length v
 head-length x v i h = omega (arith, length-append (take i x) v, length-take-le i x (omega arith))
@@ -45,7 +45,7 @@ put-behind x v w y z i k h e f g = g ∙ (ap (λ j. put-at j w y) e ∙ (ap (put
 pub put-two : (x : List ℕ) (i c d : ℕ) → i + 2 ≤ length x → set (set x i c) (i + 1) d ≡ put-at i (c ∷ d ∷ []) x
 put-two x i c d h =
     let f : set x i c ≡ put-at i (c ∷ []) x = put-one x i c (omega arith) in
-    let l : length (set x i c) ≡ length x = ap length f ∙ put-length x (c ∷ []) i (omega arith) in
+    let l : length (set x i c) ≡ length x = ap length f ∙ put-length i (c ∷ []) x (omega arith) in
     put-behind x (c ∷ []) (d ∷ []) (set x i c) (set (set x i c) (i + 1) d) i (i + 1) (omega arith) refl f (put-one (set x i c) (i + 1) d (omega arith))
 
 -- ── done ──

@@ -1,21 +1,20 @@
 -- Two shared terms in parallel spelled out, behind the code and a mask without a label (document 01, "Operations": Run writes the last term).
-use mathlib.Core.Path.{_≡_, refl, sym, ap, _∙_}
+use mathlib.Core.Path.{_≡_, refl, ap, _∙_}
 use mathlib.Core.List.{List, [], _∷_, _++_, append-assoc}
-use Prim.Native.Nat.{ℕ, _+_, _-_, _*_, _/_, _%_, _≤_, _<_}
+use Prim.Native.Nat.{ℕ, _+_, _-_, _/_, _%_, _≤_, _<_}
 use native.Mathlib.Omega.{arith}
 use lib.ListN.{length, drop, getD, length-append}
 use Rattle.eb3.specs.Scopes.{Scope}
-use Rattle.eb3.specs.Terms.{Term}
 use Rattle.eb3.specs.Spelling.{words}
 use Rattle.scan.specs.Checking.{last-of}
 use Rattle.scan.specs.Laws.{last-behind}
 use Rattle.expressions.specs.Answering.{answer}
 use Rattle.listing.specs.Operands.{answer-is, answered-left, answered-count}
-use Rattle.sharing.specs.Shared.{Shared, Ended, Part, Then, Beside, term-of, part-word, shared-words, Stands}
+use Rattle.sharing.specs.Shared.{Shared, Ended, Part, Then, Beside, term-of, shared-words, Stands}
 use Rattle.sharing.specs.Beginning.{put-at}
 use Rattle.sharing.specs.Splicing.{Expanded}
-use Rattle.sharing.proofs.SplicingCases.{put-length}
-use Rattle.sharing.proofs.ExpandingCases.{put-next, Tells}
+use Rattle.sharing.proofs.BeginningPuts.{put-length, put-behind}
+use Rattle.sharing.proofs.ExpandingCases.{Tells}
 
 -- The code and the mask.
 abbrev pub head : List ℕ
@@ -71,8 +70,8 @@ module _ (t u entry : List ℕ) (at : ℕ) where
 
       beside-written : exit ≡ put-at at (head ++ (S-words ++ T-words)) entry
       beside-written =
-          let m : mid ≡ put-at at (head ++ S-words) entry = put-next at (at + 5) head S-words entry front mid f (first .1) refl (omega arith) in
-          put-next at (a / 65536) (head ++ S-words) T-words entry mid exit m (second .1) (omega (arith, place)) (omega arith)
+          let m : mid ≡ put-at at (head ++ S-words) entry = put-behind entry head S-words front mid at (at + 5) (omega arith) refl f (first .1) in
+          put-behind entry (head ++ S-words) T-words mid exit at (a / 65536) (omega arith) (omega (arith, place)) m (second .1)
 
     beside-tells : (P : Scope) (S : Shared) (rest : List ℕ) → 25 ∷ t ≡ shared-words S ++ rest → Stands u P S → Tells entry exit at r S rest
     unfolding shared-words term-of words

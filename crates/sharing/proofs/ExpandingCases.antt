@@ -1,47 +1,22 @@
 -- A shared term spelled out: a part copied from its place, done, and what is made of two terms spelled out one behind the other (document 01, "Operations": Run
 -- writes the last term).
 use mathlib.Core.Path.{_≡_, refl, sym, ap, _∙_, subst}
-use mathlib.Core.List.{List, [], _∷_, _++_, append-assoc}
-use Prim.Native.Nat.{ℕ, suc, _+_, _-_, _*_, _/_, _%_, _≤_, _<_}
-use native.Mathlib.Numerals.{add-one}
+use mathlib.Core.List.{List, [], _∷_, _++_}
+use Prim.Native.Nat.{ℕ, _+_, _-_, _*_, _/_, _%_, _≤_, _<_}
 use native.Mathlib.Omega.{arith}
-use lib.ListN.{length, take, drop, set, getD, length-append, length-set, length-drop}
-use lib.Seq.{drop-at, drop-drop, take-at, set-split, length-take-le}
+use lib.ListN.{length, take, drop, set, getD, length-append, length-set}
+use lib.Seq.{take-at, length-take-le}
 use Rattle.eb3.specs.Scopes.{Scope}
 use Rattle.eb3.specs.Terms.{Term, Done, Internal, Perform, Sequence, Choice, Star, Parallel, Guard}
 use Rattle.eb3.specs.Spelling.{words}
 use Rattle.scan.specs.Checking.{last-of}
-use Rattle.scan.specs.Laws.{last-behind}
 use Rattle.expressions.specs.Answering.{answer}
 use Rattle.listing.specs.Listing.{TermAt}
 use Rattle.listing.specs.Operands.{answer-is, answered-left, answered-count, front-form}
 use Rattle.sharing.specs.Shared.{Shared, Ended, Part, Then, Beside, term-of, part-word, shared-words, PartAt, Stands}
 use Rattle.sharing.specs.Beginning.{put-at}
 use Rattle.sharing.specs.Splicing.{Expanded, PartExpanded, DoneExpanded}
-use Rattle.sharing.proofs.SplicingCases.{put-length, put-whole}
-
--- ── words put one behind the other ──
-
-put-behind : (at : ℕ) (w d : List ℕ) → at + length w ≤ length d → drop (at + length w) (put-at at w d) ≡ drop (at + length w) d
-put-behind at w d h =
-    sym (ap (drop (at + length w)) (append-assoc (take at d) w (drop (at + length w) d)))
-    ∙ drop-at (take at d ++ w) (drop (at + length w) d) (at + length w) (omega (arith, length-append (take at d) w, length-take-le at d (omega arith)))
-
-put-then : (at : ℕ) (x y d : List ℕ) → at + (length x + length y) ≤ length d → put-at (at + length x) y (put-at at x d) ≡ put-at at (x ++ y) d
-put-then at x y d h =
-    let n : at + length x + length y ≡ at + length (x ++ y) = omega (arith, length-append x y) in
-    let e : drop (at + length x + length y) (put-at at x d) ≡ drop (at + length (x ++ y)) d =
-    sym (drop-drop (length y) (at + length x) (put-at at x d)) ∙ ap (drop (length y)) (put-behind at x d (omega arith)) ∙ drop-drop (length y) (at + length x) d ∙ ap (λ k. drop k d) n in
-    ap (λ v. v ++ (y ++ drop (at + length x + length y) (put-at at x d))) (put-whole at x d (omega arith))
-    ∙ ap (λ v. (take at d ++ x) ++ (y ++ v)) e
-    ∙ append-assoc (take at d) x (y ++ drop (at + length (x ++ y)) d)
-    ∙ ap (λ v. take at d ++ v) (sym (append-assoc x y (drop (at + length (x ++ y)) d)))
-
-pub put-next : (at at′ : ℕ) (x y d m o : List ℕ) → m ≡ put-at at x d → o ≡ put-at at′ y m → at′ ≡ at + length x → at + (length x + length y) ≤ length d → o ≡ put-at at (x ++ y) d
-put-next at at′ x y d m o e f n h = f ∙ (λ i. put-at (n i) y (e i)) ∙ put-then at x y d h
-
-pub put-one : (at v : ℕ) (d : List ℕ) → at < length d → set d at v ≡ put-at at (v ∷ []) d
-put-one at v d h = set-split d at v h ∙ ap (λ n. take at d ++ (v ∷ drop n d)) (sym (add-one at))
+use Rattle.sharing.proofs.BeginningPuts.{put-one, put-length, put-behind}
 
 -- ── a part ──
 
@@ -94,7 +69,7 @@ done-none left at entry h = record { same-length = refl; right = λ room. absurd
 pub done-made : (left at : ℕ) (entry : List ℕ) → at < length entry → DoneExpanded left at entry (set entry at 30) (left + 65536 * (at + 1))
 done-made left at entry h = record {
   same-length = length-set entry at 30;
-  right = λ room. (sym (answer-is left (at + 1)), put-one at 30 entry h);
+  right = λ room. (sym (answer-is left (at + 1)), put-one entry at 30 h);
 }
 
 -- ── a shared term by its front ──
@@ -172,8 +147,8 @@ module _ (t v u entry mid exit : List ℕ) (w at a r : ℕ) (short : length t < 
 
     then-written : exit ≡ put-at at (22 ∷ (E-words ++ words 1 F)) entry
     then-written =
-        let m : mid ≡ put-at at (22 ∷ E-words) entry = put-next at (at + 1) (22 ∷ []) E-words entry (set entry at 22) mid (put-one at 22 entry free) (first .1) refl (omega arith) in
-        put-next at (a / 65536) (22 ∷ E-words) (words 1 F) entry mid exit m (second .1) (omega (arith, place)) (omega arith)
+        let m : mid ≡ put-at at (22 ∷ E-words) entry = put-behind entry (22 ∷ []) E-words (set entry at 22) mid at (at + 1) (omega arith) refl (put-one entry at 22 free) (first .1) in
+        put-behind entry (22 ∷ E-words) (words 1 F) mid exit at (a / 65536) (omega arith) (omega (arith, place)) m (second .1)
 
   then-tells : (P : Scope) (S : Shared) (rest : List ℕ) → 22 ∷ t ≡ shared-words S ++ rest → Stands u P S → Tells entry exit at r S rest
   unfolding shared-words term-of words

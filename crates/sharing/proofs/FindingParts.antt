@@ -1,13 +1,10 @@
 -- A part of the unfolding, in which a move is looked for: there is room for its path, and what was answered of it is answered of the word that stands for it
 -- (document 01, "Moves, in order").
 use mathlib.Core.Path.{_≡_, refl, sym, ap, _∙_, subst}
-use mathlib.Core.Bool.{Bool, true, false}
 use mathlib.Core.List.{List}
 use Prim.Native.Nat.{ℕ, _+_, _-_, _*_, _≤_, _<_}
 use native.Mathlib.Omega.{arith}
-use lib.Dec.{ltb}
 use lib.ListN.{length, length-append}
-use borrow.Author.Tests.{ltb-true, ltb-false}
 use Rattle.eb3.specs.Scopes.{Scope}
 use Rattle.eb3.specs.Terms.{Term}
 use Rattle.eb3.specs.Sizes.{size}
@@ -24,13 +21,6 @@ use Rattle.sharing.specs.Shared.{part-word, PartAt}
 use Rattle.sharing.specs.RoomLaws.{unmasked-room}
 use Rattle.sharing.specs.Seeking.{Sought, Outcome}
 use Rattle.sharing.specs.Finding.{PartFound}
-
-pub by-order : {A : Type 0} (r n : ℕ) → (r < n → A) → (n ≤ r → A) → A
-by-order {A} r n f g = go (ltb r n) refl
-  where
-    go : (b : Bool) → ltb r n ≡ b → A
-    go true e = f (ltb-true r n e)
-    go false e = g (ltb-false r n e)
 
 part-size : (u : List ℕ) (P : Scope) (l : ℕ) (E : Term) → PartAt u P l E → size 1 E ≤ length u
 part-size u P l E h = omega (arith, last-len l u (last-of l u) refl, ap length (h .there .spelled), length-append (words 1 E) (h .rest), fits-length P E (h .there .fits))

@@ -16,12 +16,12 @@ use Rattle.expressions.specs.Answering.{answer}
 use Rattle.listing.specs.Listing.{holding}
 use Rattle.listing.specs.Operands.{answer-is, answered-left, answered-count}
 use Rattle.deriving.specs.Derived.{passed, full, move-count}
+use Rattle.deriving.specs.AnswerLaws.{by-order}
 use Rattle.sharing.specs.Shared.{Shared, Ended, Beside, term-of, shared-words, Stands}
 use Rattle.sharing.specs.Finding.{joined, Found}
 use Rattle.sharing.proofs.FindingMoves.{moves-joined, count-sides}
 use Rattle.sharing.proofs.FindingForms.{front-word, shared-front, when-ended, not-ended, beside-cases}
 use Rattle.sharing.proofs.FindingPlaces.{right-self, right-left, right-right}
-use Rattle.sharing.proofs.FindingParts.{by-order}
 use Rattle.sharing.proofs.FindingCases.{Told, found-of, sound-of, sound-passed}
 
 -- ── both sides are done ──

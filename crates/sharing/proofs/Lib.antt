@@ -1,3 +1,4 @@
+-- The laws that the proofs of finding, building, splicing and spelling out share (document 01, "Moves, in order"; "Operations": Run).
 mod SeekingAnswers
 mod SeekingCounts
 mod SeekingArms
@@ -9,7 +10,6 @@ mod FindingCases
 mod FindingSides
 mod BeginningPuts
 mod BeginningEnds
-mod BeginningTerms
 mod BeginningCodes
 mod BeginningGiven
 mod BeginningCases

@@ -1,14 +1,11 @@
 -- Answers of the search for a part's path, put together and taken apart (document 01, "Moves, in order").
-use mathlib.Core.Path.{_≡_, refl, sym, ap, _∙_, subst}
-use mathlib.Core.Bool.{Bool, true, false}
-use mathlib.Core.List.{List, [], _∷_, _++_}
+use mathlib.Core.Path.{_≡_, sym, ap, _∙_}
+use mathlib.Core.List.{List, [], _++_}
 use Prim.Native.Nat.{ℕ, _+_, _-_, _≤_, _<_}
 use native.Mathlib.Nat.{le-refl}
 use native.Mathlib.Omega.{arith}
-use lib.Dec.{ltb}
-use lib.ListN.{length, drop, length-drop}
+use lib.ListN.{length, drop}
 use lib.Seq.{drop-length}
-use borrow.Author.Tests.{ltb-true, ltb-false}
 use Rattle.eb3.specs.Scopes.{Scope}
 use Rattle.eb3.specs.Terms.{Term}
 use Rattle.eb3.specs.Sizes.{size}
@@ -17,21 +14,9 @@ use Rattle.paths.specs.Paths.{path}
 use Rattle.paths.specs.PathLaws.{path-length}
 use Rattle.deriving.specs.Derived.{passed, full, move-count, Derived}
 use Rattle.deriving.specs.Arms.{Decided}
+use Rattle.deriving.specs.AnswerLaws.{by-order, never-full, place-room}
 use Rattle.sharing.specs.Shared.{Unmasked}
 use Rattle.sharing.specs.Seeking.{Bounded, Outcome, Sought}
-
-pub by-order : {A : Type 0} (r n : ℕ) → (r < n → A) → (n ≤ r → A) → A
-by-order {A} r n f g = go (ltb r n) refl
-  where
-    go : (b : Bool) → ltb r n ≡ b → A
-    go true e = f (ltb-true r n e)
-    go false e = g (ltb-false r n e)
-
-pub never-full : {A : Type 0} → full < full → A
-never-full z = absurd (omega (arith, z))
-
-pub sized : {c n m r q : ℕ} {entry exit : List ℕ} → n ≡ m → Decided (c ∷ n ∷ []) r entry exit q → Decided (c ∷ m ∷ []) r entry exit q
-sized {c} {n} {m} {r} {q} {entry} {exit} e h = subst (λ i. Decided (c ∷ i ∷ []) r entry exit q) e h
 
 -- ── what is known whatever the words are ──
 
@@ -111,12 +96,6 @@ module _ {o : List ℕ} {r q : ℕ} {mid exit : List ℕ} (h : Decided o r mid e
     passed-bounded = λ y z. by-order r passed (λ w. absurd (omega (arith, h .wrote w z .0))) (λ w. omega (arith, h .kept w, s .passed-bounded w (omega (arith, h .kept w))));
   }
 
-  pub before-full : q < full → r < full
-  before-full z = by-order r passed (λ y. omega arith) (λ y. omega (arith, h .kept y))
-
-  pub decided-room : r < full → (r < passed → length o ≤ r) → q < full
-  decided-room z f = by-order q full (λ y. y) (λ y. by-order r passed (λ w. absurd (omega (arith, h .lost w y, f w))) (λ w. omega (arith, h .kept w)))
-
   pub decided-outcome : {count k : ℕ} {p : List ℕ} → q < full → Outcome count p k mid r → Outcome count (o ++ p) k exit q
   decided-outcome z e = record {
     found = λ l.
@@ -124,10 +103,6 @@ module _ {o : List ℕ} {r q : ℕ} {mid exit : List ℕ} (h : Decided o r mid e
         (omega (arith, w .0, e .found l .0), w .1 ∙ ap (λ x. o ++ x) (e .found l .1));
     none-found = λ l. h .kept (omega (arith, e .none-found l)) ∙ e .none-found l;
   }
-
--- A path that is w words shorter than the array leaves room for so many.
-place-room : (w r : ℕ) (x p : List ℕ) → r ≤ length x → drop r x ≡ p → w + length p ≤ length x → w ≤ r
-place-room w r x p a e l = omega (arith, ap length e, length-drop r x)
 
 -- there is room in front of the path of a term that is so much shorter than the array
 pub outcome-room : (M entry exit : List ℕ) (k r : ℕ) (E : Term) → Outcome (move-count M E) (path 0 (holding M) E k) k exit r → Bounded k (length entry) r → length exit ≡ length entry

@@ -23,7 +23,8 @@ use Rattle.deriving.specs.Derived.{passed, full, move-count, Derived}
 use Rattle.deriving.specs.Arms.{Decided}
 use Rattle.deriving.specs.FitLaws.{before-second}
 use Rattle.sharing.specs.Seeking.{Bounded, Sought, TwoSought}
-use Rattle.sharing.proofs.SeekingAnswers.{by-order, never-full, bounded-lost, bounded-more, bounded-passed, bounded-single, Told, sought-of, outcome-as, outcome-early, outcome-later, outcome-none, outcome-single, decided-bounds, before-full, decided-room, decided-outcome, outcome-room, derived-place, derived-outcome, derived-room}
+use Rattle.deriving.specs.AnswerLaws.{by-order, never-full, before-full, decided-room}
+use Rattle.sharing.proofs.SeekingAnswers.{bounded-lost, bounded-more, bounded-passed, bounded-single, Told, sought-of, outcome-as, outcome-early, outcome-later, outcome-none, outcome-single, decided-bounds, decided-outcome, outcome-room, derived-place, derived-outcome, derived-room}
 use Rattle.sharing.proofs.SeekingCounts.{count-done, count-internal, count-perform, count-after-done, count-sequence, count-choice, count-star, count-guard, count-shut, count-both-done, count-beside, path-after-done, path-sequence, path-choice, path-end, path-round, path-guard, path-internal, path-perform, two-first, two-second, path-both-done, path-beside}
 
 -- ── one move ──

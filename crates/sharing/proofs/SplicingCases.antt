@@ -1,13 +1,14 @@
 -- Words copied into an array, and words of it replaced by others (document 01, "Moves, in order": the term of the next state).
 use mathlib.Core.Path.{_≡_, refl, sym, ap, _∙_}
-use mathlib.Core.List.{List, [], _∷_, _++_, append-assoc}
-use Prim.Native.Nat.{ℕ, suc, _+_, _-_, _≤_, _<_}
+use mathlib.Core.List.{List, _++_, append-assoc}
+use Prim.Native.Nat.{ℕ, _+_, _-_, _≤_, _<_}
 use native.Mathlib.Numerals.{add-one}
 use native.Mathlib.Omega.{arith}
 use lib.ListN.{length, take, drop, set, getD, length-append, length-drop, length-set}
 use lib.Seq.{paste, paste-suc, slice, length-slice, length-take-le, take-all, take-at, drop-at, take-add, take-append-add}
 use Rattle.sharing.specs.Beginning.{put-at}
 use Rattle.sharing.specs.Splicing.{Spliced}
+use Rattle.sharing.proofs.BeginningPuts.{put-length}
 
 -- ── copying ──
 
@@ -24,9 +25,6 @@ copy-last T T₀ s at i h a e =
     ∙ ap (λ w. take at T₀ ++ (w ++ drop (at + length s) T₀)) (take-all (length s) s (omega arith))
 
 -- ── replacing ──
-
-pub put-length : (at : ℕ) (w d : List ℕ) → at + length w ≤ length d → length (put-at at w d) ≡ length d
-put-length at w d h = omega (arith, length-append (take at d) (w ++ drop (at + length w) d), length-take-le at d (omega arith), length-append w (drop (at + length w) d), length-drop (at + length w) d)
 
 -- A part in the middle, cut the other way round.
 pub slice-cut : (e n : ℕ) (d : List ℕ) → e ≤ n → n ≤ length d → take (n - e) (drop e d) ≡ slice e n d

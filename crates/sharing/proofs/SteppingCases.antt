@@ -13,12 +13,13 @@ use Rattle.eb3.specs.Moves.{Move, moves}
 use Rattle.eb3.specs.Sizes.{size}
 use Rattle.listing.specs.Listing.{holding}
 use Rattle.listing.specs.Operands.{answer-is, answered-left, answered-count}
+use Rattle.paths.specs.SeekLaws.{some-within}
 use Rattle.deriving.specs.Derived.{passed}
 use Rattle.sharing.specs.Shared.{Shared, term-of, shared-words, Stands}
 use Rattle.sharing.specs.Finding.{Place, FoundRight, Found}
 use Rattle.sharing.specs.Changing.{Changes, RoomFor, ChangedRight, Changed}
 use Rattle.sharing.specs.Stepping.{StepTaken, Stepped}
-use Rattle.sharing.proofs.SteppingPlaces.{some-within, shared-some, moves-here, place-room, place-taken}
+use Rattle.sharing.proofs.SteppingPlaces.{shared-some, moves-here, place-room, place-taken}
 
 -- No term that stands there has a move k.
 abbrev Never : List ℕ → List ℕ → ℕ → List ℕ → ℕ → ℕ → ℕ → Type 0

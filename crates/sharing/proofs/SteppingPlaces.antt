@@ -2,7 +2,7 @@
 use mathlib.Core.Path.{_≡_, refl, sym, ap, _∙_}
 use mathlib.Core.Bool.{true}
 use mathlib.Core.List.{List, [], _∷_, _++_, append-nil}
-use mathlib.Core.Option.{some, Option·some-injective, Option·none-ne-some}
+use mathlib.Core.Option.{some, Option·some-injective}
 use Prim.Native.Nat.{ℕ, zero, suc, _+_, _≤_, _<_}
 use native.Mathlib.Omega.{arith}
 use lib.ListN.{length, take, getElem?, length-append}
@@ -21,11 +21,6 @@ use Rattle.sharing.specs.Finding.{Moving, part, resumed, joined, Place}
 use Rattle.sharing.specs.Changing.{Changes, RoomFor, ChangedRight}
 use Rattle.sharing.specs.Changing as changing
 use Rattle.sharing.specs.Stepping.{StepTaken}
-
-pub some-within : (l : List Move) (k : ℕ) (x : Move) → getElem? l k ≡ some x → k < length l
-some-within [] k x e = absurd (Option·none-ne-some x e)
-some-within (y ∷ l) zero x e = omega arith
-some-within (y ∷ l) (suc k) x e = omega (arith, some-within l k x e)
 
 entry-within : (l : List Move) (k : ℕ) → k < length l → (x : Move) × (getElem? l k ≡ some x)
 entry-within [] k h = absurd (omega arith)

@@ -1,4 +1,5 @@
 -- Terms that share parts with the start's unfolding: what stands, what finding, building, splicing and spelling out answer.
+-- Document 01, "Moves, in order"; "Operations": Run.
 pub mod Shared
 pub mod SharedLaws
 pub mod RoomLaws

@@ -1,7 +1,7 @@
 -- A term none of whose parallels has a label in its mask has at most as many moves as words, and listing them takes at most so much room: no move of it is
 -- made by two sides together (document 01, "Moves, in order"; "Unfolding, size and breadth").
 use mathlib.Core.Path.{_≡_, sym, subst}
-use mathlib.Core.Bool.{Bool, true, false, _&&_, cond}
+use mathlib.Core.Bool.{Bool, true, _&&_, cond}
 use Prim.Native.Nat.{ℕ, _+_, _≤_, max}
 use native.Mathlib.Omega.{arith}
 use lib.ListN.{length, length-map}
@@ -11,6 +11,7 @@ use Rattle.eb3.specs.Moves.{moves}
 use Rattle.eb3.specs.Sizes.{size, breadth, zero-mask, parallel-breadth}
 use Rattle.eb3.specs.Laws.Sizes.{moves-below-breadth}
 use Rattle.listing.specs.Listing.{codes, code-of, room}
+use Rattle.listing.specs.RoomLaws.{either-below}
 use Rattle.sharing.specs.Shared.{Unmasked}
 
 -- ── breadth ──
@@ -39,10 +40,6 @@ module _ (g : Cond → Bool) where
   codes-below : (E : Term) → Unmasked E → length (codes g E) ≤ size 1 E
   unfolding codes
   codes-below E u = omega (arith, length-map (moves g E) code-of, unmasked-count g E u)
-
-  either-below : (n : ℕ) (b : Bool) (x y : ℕ) → x ≤ n → y ≤ n → cond b x y ≤ n
-  either-below n true x y h k = h
-  either-below n false x y h k = k
 
   -- without a mask one side's list stands behind the other's
   beside-below : (d z : Bool) (l r c m n q : ℕ) → z ≡ true → l ≤ m → r ≤ n → c ≤ m → cond d 1 (cond z (max l (c + r)) q) ≤ 5 + m + n

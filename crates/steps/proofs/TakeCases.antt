@@ -1,9 +1,9 @@
 -- A case for each way that finding a move's path and taking the move return (document 01, "Moves, in order"; "Operations").
 use mathlib.Core.Path.{_≡_, refl, sym, ap, _∙_, subst}
 use mathlib.Core.Bool.{true}
-use mathlib.Core.List.{List, [], _∷_, _++_, append-nil}
-use mathlib.Core.Option.{Option, none, some, Option·none-ne-some}
-use Prim.Native.Nat.{ℕ, zero, suc, _*_, _/_, _≤_, _<_}
+use mathlib.Core.List.{List, [], _++_, append-nil}
+use mathlib.Core.Option.{Option, none, some}
+use Prim.Native.Nat.{ℕ, _*_, _/_, _≤_, _<_}
 use native.Mathlib.Omega.{arith}
 use native.Mathlib.Decide.{decLt}
 use lib.ListN.{length, drop, getElem?, length-append}
@@ -20,6 +20,7 @@ use Rattle.listing.specs.FitLaws.{fits-length}
 use Rattle.listing.specs.Listing.{holding}
 use Rattle.listing.specs.RoomLaws.{room-below-breadth}
 use Rattle.paths.specs.Paths.{path, Followed, follow, followed, marked}
+use Rattle.paths.specs.SeekLaws.{some-within}
 use Rattle.paths.specs.PathLaws.{follow-path}
 use Rattle.deriving.specs.Derived.{passed, full, move-count, Derived}
 use Rattle.successors.specs.declared.Built.{Built}
@@ -83,11 +84,6 @@ pub size-below : {s : List ℕ} {n : ℕ} → length s ≤ n → (P : Scope) (E 
 size-below {s} h P E w =
     let spelled : length s ≡ length (words 1 E ++ []) = ap length (w .there .spelled) in
     omega (arith, spelled, length-append (words 1 E) [], fits-length P E (w .there .fits))
-
-some-within : (l : List Move) (k : ℕ) (x : Move) → getElem? l k ≡ some x → k < length l
-some-within [] k x e = absurd (Option·none-ne-some x e)
-some-within (y ∷ l) zero x e = omega arith
-some-within (y ∷ l) (suc k) x e = omega (arith, some-within l k x e)
 
 -- The buffer where a move's path leads to it.
 module _ (p : List ℕ) (E : Term) (x : Move) (leads : follow E p ≡ followed (x .action) (x .successor) []) where

@@ -10,7 +10,7 @@ use Rattle.eb3.specs.Scopes.{Scope}
 use Rattle.eb3.specs.Terms.{Term, Perform, Sequence, Choice, Star, Parallel, Guard, VisibleAction, Mask}
 use Rattle.eb3.specs.Spelling.{words}
 use Rattle.scan.specs.Checking.{last-of}
-use Rattle.scan.specs.Laws.{Tail, part}
+use Rattle.scan.specs.Laws.{Tail, part, back-rest}
 use Rattle.actions.specs.Codes.{action-code}
 use Rattle.listing.specs.Listing.{Fits, TermAt}
 use Rattle.listing.specs.Rows.{terms-words, terms-append, all-append}
@@ -22,7 +22,7 @@ use Rattle.successors.specs.Parts.{Bounded, Unbuilt, Made, Whole, Going,
 use Rattle.successors.specs.Unchanged.{Unchanged}
 use Rattle.successors.specs.declared.Built.{Built}
 use Rattle.successors.proofs.Ends.{last-within, last-none}
-use Rattle.successors.proofs.Writes.{never, written-behind, lent, back, back-rest, back-length}
+use Rattle.successors.proofs.Writes.{never, written-behind, lent, back, back-length}
 use Rattle.successors.proofs.Made.{bounded-within, unbuilt-bounded}
 
 -- ── one beginning out of another ──

@@ -8,7 +8,7 @@ use lib.ListN.{length, take, drop, getD, length-append, length-drop}
 use lib.Seq.{drop-drop}
 use Rattle.eb3.specs.Expressions.{Cond}
 use Rattle.eb3.specs.Scopes.{Scope}
-use Rattle.eb3.specs.Terms.{Term, Done, Internal, Perform, Sequence, Choice, Star, Parallel, Guard, VisibleAction, visible, internal, done?}
+use Rattle.eb3.specs.Terms.{Term, Done, Perform, Sequence, Choice, Star, VisibleAction, visible, internal, done?}
 use Rattle.eb3.specs.Spelling.{cond-words, words}
 use Rattle.scan.specs.Checking.{last-of}
 use Rattle.scan.specs.Laws.{part, last-len}
@@ -23,8 +23,8 @@ use Rattle.successors.specs.Building.{built-words}
 use Rattle.successors.specs.Parts.{Unbuilt, Made, Whole, Added, Begun, BegunOf, Beginning, Behind, After, with-right, Closed}
 use Rattle.successors.specs.declared.Built.{Built}
 use Rattle.successors.proofs.Ends.{behind-part, before-part, drop-past, behind-shorter}
-use Rattle.successors.proofs.Terms.{sequence-first, choice-first, star-first, guard-condition, action-there, second-of-sequence, second-of-choice, guard-operand, size-there}
-use Rattle.successors.specs.FollowLaws.{choice-left-follows, choice-left-marked, choice-right-follows, choice-right-marked, star-end-follows, round-follows, round-marked}
+use Rattle.successors.specs.TermLaws.{action-there, sequence-two, choice-two, star-first, guard-condition, guard-operand, size-there}
+use Rattle.successors.specs.FollowLaws.{leaf, choice-left-follows, choice-left-marked, choice-right-follows, choice-right-marked, star-end-follows, round-follows, round-marked}
 use Rattle.successors.proofs.Made.{bounded-within, right-bounded, unbuilt-bounded, made-left, added-made}
 use Rattle.successors.proofs.Writes.{lent}
 use Rattle.successors.proofs.Begun.{begun-within, begun-longer, begun-where, whole-begun, by-action, by-sequence, by-choice, by-star, by-guard}
@@ -45,19 +45,6 @@ operand-ends v n i f ok e k =
     k .1 _ (g .standing) _ (record { plain = i .plain; fit = g .fit; spelled = e ∙ g .there; closed = i .closed }) (g .due)
 
 -- ── leaves ──
-
--- Done and the internal action have one word and lead to Done.
-leaf : (G : Term) → (code-in-front G ≡ 21 → ⊥) → (code-in-front G ≡ 22 → ⊥) → (code-in-front G ≡ 23 → ⊥) → (code-in-front G ≡ 24 → ⊥) → (code-in-front G ≡ 25 → ⊥) → (code-in-front G ≡ 26 → ⊥)
-    → (p rest : List ℕ) → (follow G p ≡ followed internal Done p) × (drop 1 (words 1 G ++ rest) ≡ rest)
-unfolding follow words code-in-front
-leaf Done a b c d e f p rest = (refl, refl)
-leaf Internal a b c d e f p rest = (refl, refl)
-leaf (Perform v) a b c d e f p rest = absurd (a refl)
-leaf (Sequence E F) a b c d e f p rest = absurd (b refl)
-leaf (Choice E F) a b c d e f p rest = absurd (c refl)
-leaf (Star E) a b c d e f p rest = absurd (d refl)
-leaf (Parallel Δ E F) a b c d e f p rest = absurd (e refl)
-leaf (Guard C E) a b c d e f p rest = absurd (f refl)
 
 pub leaf-case : (s p x y : List ℕ) (r : Built) (w : ℕ) → w ≡ getD s 0 0 → (w ≡ 21 → ⊥) → (w ≡ 22 → ⊥) → (w ≡ 23 → ⊥) → (w ≡ 24 → ⊥) → (w ≡ 25 → ⊥) → (w ≡ 26 → ⊥)
     → (t : List ℕ) → t ≡ drop 1 s → Whole (30 ∷ []) 0 (length t) (length p) x y r → Beginning s p x y r
@@ -91,13 +78,13 @@ module _ (s p t : List ℕ) (behind : t ≡ drop 1 s) where
   sequence-done x y r u e d h m =
       by-sequence s p x y r (bounded-within (m .bounds) refl (omega (arith, ap length h, length-drop 1 t, shorter)) (omega arith)) e
       (λ P rest E F k j.
-      let i : TermAt t P E (words 1 F ++ rest) = subst (λ z. TermAt z P E (words 1 F ++ rest)) (sym behind) (sequence-first s P rest E F k) in
+      let i : TermAt t P E (words 1 F ++ rest) = subst (λ z. TermAt z P E (words 1 F ++ rest)) (sym behind) (sequence-two s P rest E F k .first) in
       let o : E ≡ Done = is-done E (sym d ∙ term-front t P E (words 1 F ++ rest) i) in
       let v : u ≡ words 1 F ++ rest = h ∙ (ap (drop 1) (i .spelled) ∙ ap (λ G. drop 1 (words 1 G ++ (words 1 F ++ rest))) o) in
       let c : marked F p ≡ true = subst (λ G. marked (Sequence G F) p ≡ true) o j in
       let g : u ≡ drop 2 s = h ∙ (ap (drop 1) behind ∙ drop-drop 1 1 s) in
       subst (λ G. BegunOf P s (follow (Sequence G F) p) rest x y r) (sym o)
-      (begun-within (2, g) (m .bounds .left-bounded) (m .begun P F rest (subst (λ z. TermAt z P F rest) (sym v) (second-of-sequence s P rest E F k)) c)))
+      (begun-within (2, g) (m .bounds .left-bounded) (m .begun P F rest (subst (λ z. TermAt z P F rest) (sym v) (sequence-two s P rest E F k .second)) c)))
 
   pub sequence-goes : (x y : List ℕ) (X r : Built) → getD s 0 0 ≡ 22 → (getD t 0 0 ≡ 30 → ⊥) → After s 1 p x y X → r ≡ with-right X → Beginning s p x y r
   unfolding follow marked words
@@ -105,7 +92,7 @@ module _ (s p t : List ℕ) (behind : t ≡ drop 1 s) where
       subst (Beginning s p x y) (sym is)
       (by-sequence s p x y (with-right X) (right-bounded (m .bounds) (omega (arith, m .due-behind)) (omega arith)) e
       (λ P rest E F k j.
-      let i : TermAt (drop 1 s) P E (words 1 F ++ rest) = sequence-first s P rest E F k in
+      let i : TermAt (drop 1 s) P E (words 1 F ++ rest) = sequence-two s P rest E F k .first in
       let n : done? E ≡ false = other-test E (λ z. d (ap (λ l. getD l 0 0) behind ∙ (term-front (drop 1 s) P E (words 1 F ++ rest) i ∙ z))) in
       let o : take 1 s ≡ 22 ∷ [] = ap (take 1) (k .spelled) in
       let c : marked E p ≡ true = sym (ap (λ b. cond b (marked F p) (marked E p)) n) ∙ j in
@@ -127,7 +114,7 @@ module _ (s p t : List ℕ) (behind : t ≡ drop 1 s) where
 
   module _ (q : List ℕ) (on : q ≡ drop 1 p) (e : getD s 0 0 ≡ 23) where
     left-there : (P : Scope) (E F : Term) (rest : List ℕ) → TermAt s P (Choice E F) rest → TermAt t P E (words 1 F ++ rest)
-    left-there P E F rest k = subst (λ z. TermAt z P E (words 1 F ++ rest)) (sym behind) (choice-first s P rest E F k)
+    left-there P E F rest k = subst (λ z. TermAt z P E (words 1 F ++ rest)) (sym behind) (choice-two s P rest E F k .first)
 
     pub choice-left : (x y z v u : List ℕ) (l c : Built) (n left : ℕ) → getD p 0 0 ≡ 0 → Beginning t q x y l → v ≡ last-of (l .left) t → RowSkipped v (l .due) n → Closed t l n y z c
         → u ≡ last-of n t → Skipped u left → Beginning s p x z (record { ok = c .ok; action = c .action; words = c .words; left = left; due = 0; «path_left» = c .«path_left» })
@@ -149,7 +136,7 @@ module _ (s p t : List ℕ) (behind : t ≡ drop 1 s) where
         (begun-where l (f .going .has-room) (cl .before) (λ ok.
         let a : n ≡ length (words 1 F ++ rest) = operand-ends v n w f ok ve k in
         let at : last-of n t ≡ words 1 F ++ rest = behind-part (words 1 E) (words 1 F ++ rest) t n (w .spelled) a in
-        let b : left ≡ length rest = sk .1 P F rest (subst (λ g. TermAt g P F rest) (sym (h ∙ at)) (second-of-choice s P rest E F i)) in
+        let b : left ≡ length rest = sk .1 P F rest (subst (λ g. TermAt g P F rest) (sym (h ∙ at)) (choice-two s P rest E F i .second)) in
         let g = cl .made (built-words E q) (words 1 F ++ rest) x (action-code (follow E q .action)) (length (follow E q .rest)) (m .bounds .same-length) (f .going) at a in
         whole-begun left b (behind-part (words 1 (Choice E F)) rest s left (i .spelled) b) (made-left left g))))
 
@@ -160,14 +147,14 @@ module _ (s p x : List ℕ) (r : Built) (n : ℕ) (e : getD s 0 0 ≡ 23) (d : g
 
   right-there : (P : Scope) (E F : Term) (rest : List ℕ) → TermAt s P (Choice E F) rest → marked (Choice E F) p ≡ true → TermAt (drop (1 + n) s) P F rest
   right-there P E F rest i j =
-      subst (λ z. TermAt z P F rest) (sym (drop-past s 1 n (words 1 E) (words 1 F ++ rest) (choice-first s P rest E F i .spelled) (left-size P E F rest i j)))
-      (second-of-choice s P rest E F i)
+      subst (λ z. TermAt z P F rest) (sym (drop-past s 1 n (words 1 E) (words 1 F ++ rest) (choice-two s P rest E F i .first .spelled) (left-size P E F rest i j)))
+      (choice-two s P rest E F i .second)
 
   pub choice-short : length s < 1 + n → Unbuilt r → Beginning s p x x r
   choice-short h u =
       by-choice s p x x r (unbuilt-bounded (length s) (length p) refl u) e
       (λ P rest E F i j.
-      absurd (omega (arith, left-size P E F rest i j, h, behind-shorter s (drop 1 s) 23 refl e (omega arith), ap length (choice-first s P rest E F i .spelled), length-append (words 1 E) (words 1 F ++ rest), length-drop 1 s)))
+      absurd (omega (arith, left-size P E F rest i j, h, behind-shorter s (drop 1 s) 23 refl e (omega arith), ap length (choice-two s P rest E F i .first .spelled), length-append (words 1 E) (words 1 F ++ rest), length-drop 1 s)))
 
   pub choice-right : (q y : List ℕ) → q ≡ drop 2 p → Beginning (lent (1 + n) s) q x y r → Beginning s p x y r
   choice-right q y on given =

@@ -1,6 +1,5 @@
 -- The laws that the proofs of the building share.
 mod Ends
-mod Terms
 mod Writes
 mod Passes
 mod Made

@@ -7,12 +7,12 @@ use native.Mathlib.Omega.{arith}
 use lib.ListN.{length, take, drop, length-append, length-drop}
 use Rattle.eb3.specs.Bytes.{written}
 use Rattle.scan.specs.Checking.{last-of}
-use Rattle.scan.specs.Laws.{part}
+use Rattle.scan.specs.Laws.{part, back-rest}
 use Rattle.writing.specs.Wrote.{Wrote}
 use Rattle.successors.specs.Parts.{Bounded, Unbuilt, Made, Whole, Added, Going, with-right, Closed}
 use Rattle.successors.specs.declared.Built.{Built}
 use Rattle.successors.proofs.Ends.{last-split, between-length, same-before}
-use Rattle.successors.proofs.Writes.{never, had-room, room-there, written-behind, lent, back, back-rest, back-length}
+use Rattle.successors.proofs.Writes.{never, had-room, room-there, written-behind, lent, back, back-length}
 
 pub bounded-within : {n m n′ m′ : ℕ} {x y z : List ℕ} {r : Built} → Bounded n m y z r → length y ≡ length x → n ≤ n′ → m ≤ m′ → Bounded n′ m′ x z r
 bounded-within b e h k = record {

@@ -18,7 +18,7 @@ use Rattle.successors.specs.Building.{built-words}
 use Rattle.successors.specs.Parts.{Unbuilt, Made, Whole, Begun, BegunOf, Beginning, BegunAfter, Behind, After, with-right, Closed, Both}
 use Rattle.successors.specs.declared.Built.{Built}
 use Rattle.successors.proofs.Ends.{last-within, behind-part, behind-dropped, drop-past, take-past}
-use Rattle.successors.proofs.Terms.{parallel-first, parallel-head, parallel-long, second-of-parallel, size-there}
+use Rattle.successors.specs.TermLaws.{parallel-two, parallel-head, parallel-long, size-there}
 use Rattle.successors.specs.FollowLaws.{rest-of-path, parallel-end-follows, parallel-left-follows, parallel-left-marked, parallel-right-follows, parallel-right-marked, parallel-both-follows, parallel-both-marked, size-marked}
 use Rattle.successors.proofs.Writes.{lent}
 use Rattle.successors.proofs.Made.{bounded-within, right-bounded, unbuilt-bounded}
@@ -32,15 +32,15 @@ module _ (s p : List ℕ) (n : ℕ) (is : n ≡ getD p 1 0) (P : Scope) (rest : 
 
   pub right-there : TermAt (drop (5 + n) s) P F rest
   right-there =
-      subst (λ z. TermAt z P F rest) (sym (drop-past s 5 n (words 1 E) (words 1 F ++ rest) (parallel-first s P rest Δ E F t .spelled) left-size)) (second-of-parallel s P rest Δ E F t)
+      subst (λ z. TermAt z P F rest) (sym (drop-past s 5 n (words 1 E) (words 1 F ++ rest) (parallel-two s P rest Δ E F t .first .spelled) left-size)) (parallel-two s P rest Δ E F t .second)
 
   pub head-there : take (5 + n) s ≡ 25 ∷ (Δ ++ words 1 E)
   head-there =
-      take-past s 5 n (words 1 E) (words 1 F ++ rest) (parallel-long s P rest Δ E F t) (parallel-first s P rest Δ E F t .spelled) left-size
+      take-past s 5 n (words 1 E) (words 1 F ++ rest) (parallel-long s P rest Δ E F t) (parallel-two s P rest Δ E F t .first .spelled) left-size
       ∙ ap (λ h. h ++ words 1 E) (parallel-head s P rest Δ E F t)
 
   long : 5 + n ≤ length s
-  long = omega (arith, left-size, ap length (parallel-first s P rest Δ E F t .spelled), length-append (words 1 E) (words 1 F ++ rest), length-drop 5 s, parallel-long s P rest Δ E F t)
+  long = omega (arith, left-size, ap length (parallel-two s P rest Δ E F t .first .spelled), length-append (words 1 E) (words 1 F ++ rest), length-drop 5 s, parallel-long s P rest Δ E F t)
 
 module _ (s p x : List ℕ) (r : Built) (e : getD s 0 0 ≡ 25) where
   pub parallel-short : length s < 5 → Unbuilt r → Beginning s p x x r
@@ -52,10 +52,10 @@ module _ (s p x : List ℕ) (r : Built) (e : getD s 0 0 ≡ 25) where
   parallel-ends y q u n j on d k h i m =
       by-parallel s p x y r (bounded-within (m .bounds) refl (omega (arith, i .0, last-len n s u h)) (omega (arith, ap length on, length-drop 1 p))) e
       (λ P rest Δ E F t _.
-      let a : TermAt (drop 5 s) P E (words 1 F ++ rest) = parallel-first s P rest Δ E F t in
+      let a : TermAt (drop 5 s) P E (words 1 F ++ rest) = parallel-two s P rest Δ E F t .first in
       let b : n ≡ length (words 1 F ++ rest) = k .1 P E (words 1 F ++ rest) (subst (λ l. TermAt l P E (words 1 F ++ rest)) (sym (part 5 s)) a) in
       let v : u ≡ words 1 F ++ rest = h ∙ behind-dropped s 5 (words 1 E) (words 1 F ++ rest) n (a .spelled) b in
-      let l : j ≡ length rest = i .1 P F rest (subst (λ c. TermAt c P F rest) (sym v) (second-of-parallel s P rest Δ E F t)) in
+      let l : j ≡ length rest = i .1 P F rest (subst (λ c. TermAt c P F rest) (sym v) (parallel-two s P rest Δ E F t .second)) in
       subst (λ o. BegunOf P s o rest x y r) (sym (parallel-end-follows p d Δ E F ∙ ap (followed internal Done) (sym on)))
       (whole-begun j l (behind-part (words 1 (Parallel Δ E F)) rest s j (t .spelled) l) (m .made)))
 
@@ -69,7 +69,7 @@ module _ (s p x : List ℕ) (r : Built) (e : getD s 0 0 ≡ 25) where
       let g : 25 ∷ (Δ ++ (b ++ words 1 F)) ≡ (take 5 s ++ b) ++ words 1 F = sym (ap (λ h. (h ++ b) ++ words 1 F) (parallel-head s P rest Δ E F t) ∙ append-assoc (25 ∷ Δ) b (words 1 F)) in
       subst (λ o. BegunOf P s o rest x y (with-right X)) (sym (parallel-left-follows p Δ E F d ∙ ap (λ c. within (λ G. Parallel Δ G F) (follow E c)) (sym on)))
       (begun-longer (take 5 s ++ b) F (25 ∷ (Δ ++ (b ++ words 1 F))) (t .fits .2) g
-      (m .begun P E (words 1 F ++ rest) (parallel-first s P rest Δ E F t) (subst (λ c. marked E c ≡ true) (sym on) (parallel-left-marked p Δ E F d j))))))
+      (m .begun P E (words 1 F ++ rest) (parallel-two s P rest Δ E F t .first) (subst (λ c. marked E c ≡ true) (sym on) (parallel-left-marked p Δ E F d j))))))
 
   module _ (n : ℕ) (is : n ≡ getD p 1 0) where
     pub parallel-right : (y q : List ℕ) → q ≡ drop 2 p → getD p 0 0 ≡ 2 → After s (5 + n) q x y r → Beginning s p x y r
@@ -102,7 +102,7 @@ module _ (s p x : List ℕ) (r : Built) (e : getD s 0 0 ≡ 25) where
           let b = built-words E q ++ built-words F (follow E q .rest) in
           subst (λ o. BegunOf P s o rest x y r) (sym (parallel-both-follows p Δ E F d0 d1 d2 ∙ ap (λ c. followed (follow E c .action) (Parallel Δ (follow E c .successor) (follow F (follow E c .rest) .successor)) (follow F (follow E c .rest) .rest)) (sym on)))
           (subst (λ h. Begun P s (h ++ b) rest (action-code (follow E q .action)) (length (follow F (follow E q .rest) .rest)) x y r) (parallel-head s P rest Δ E F t)
-          (m .begun P E F rest (parallel-first s P rest Δ E F t) (right-there s p n is P rest Δ E F t (k .0)) mE mF)))
+          (m .begun P E F rest (parallel-two s P rest Δ E F t .first) (right-there s p n is P rest Δ E F t (k .0)) mE mF)))
 
 -- ── both operands ──
 

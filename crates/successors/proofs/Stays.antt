@@ -1,4 +1,5 @@
--- The words at the front of a term that stay as they are: a case for each way that one step returns, and the steps one behind another.
+-- The words at the front of a term that stay as they are: a case for each way that one step returns, and the steps one behind another
+-- (document 01, "Moves, in order").
 use mathlib.Core.Path.{_≡_, refl, sym, ap, _∙_, subst}
 use mathlib.Core.Bool.{true, false, cond}
 use mathlib.Core.List.{List, [], _∷_, _++_, append-assoc}
@@ -20,7 +21,7 @@ use Rattle.listing.specs.Positions.{term-front}
 use Rattle.paths.specs.Paths.{within, follow, marked}
 use Rattle.successors.specs.Building.{built-words}
 use Rattle.successors.specs.Unchanged.{Moving, Ahead, leading-words, Staying, Unchanged}
-use Rattle.successors.proofs.Terms.{sequence-first, parallel-first, parallel-head}
+use Rattle.successors.specs.TermLaws.{sequence-two, parallel-two, parallel-head}
 use Rattle.successors.specs.FollowLaws.{parallel-left-follows, parallel-left-marked, parallel-right-follows, parallel-right-marked}
 use Rattle.successors.proofs.Parallels.{right-there, head-there}
 use Rattle.successors.proofs.Writes.{lent}
@@ -57,7 +58,7 @@ module _ (s p : List ℕ) where
       stays-by 1 0 (leads-none e) (omega arith) (omega arith)
       (λ P G rest k. by-sequence (λ X. TermAt s P X rest → marked X p ≡ true → Moving s p 1 0 P X rest)
       (λ E F k j.
-      let i : TermAt (drop 1 s) P E (words 1 F ++ rest) = sequence-first s P rest E F k in
+      let i : TermAt (drop 1 s) P E (words 1 F ++ rest) = sequence-two s P rest E F k .first in
       let n : done? E ≡ false = other-test E (λ z. d (ap (λ l. getD l 0 0) behind ∙ (term-front (drop 1 s) P E (words 1 F ++ rest) i ∙ z))) in
       let f : follow (Sequence E F) p ≡ within (λ x. Sequence x F) (follow E p) = ap (λ b. cond b (follow F p) (within (λ x. Sequence x F) (follow E p))) n in
       let o : take 1 s ≡ 22 ∷ [] = ap (take 1) (k .spelled) in
@@ -85,7 +86,7 @@ module _ (s p : List ℕ) where
         record {
           operand = E;
           behind = words 1 F ++ rest;
-          there = parallel-first s P rest Δ E F k;
+          there = parallel-two s P rest Δ E F k .first;
           led = parallel-left-marked p Δ E F d j;
           same-action = ap (λ x. x .action) f;
           stays = ap (λ x. words 1 (x .successor) ++ rest) f

@@ -1,13 +1,14 @@
 -- Writing words in parts, each into the rest of the buffer that is lent on.
 use mathlib.Core.Path.{_≡_, sym, ap, _∙_}
 use mathlib.Core.Bool.{Bool, true, false}
-use mathlib.Core.List.{List, [], _++_, append-nil}
+use mathlib.Core.List.{List, _++_}
 use Prim.Native.Nat.{ℕ, _-_, _*_, _≤_}
 use native.Mathlib.Omega.{arith}
-use lib.ListN.{length, take, drop, length-append, length-drop, drop-of-length-le}
+use lib.ListN.{length, take, drop, length-append, length-drop}
 use lib.Seq.{length-take-le}
 use borrow.Author.Tests.{leb-true, le-leb}
 use Rattle.eb3.specs.Bytes.{written}
+use Rattle.scan.specs.Laws.{back-rest}
 use Rattle.writing.specs.Wrote.{Wrote}
 use Rattle.writing.specs.WroteLaws.{written-then}
 
@@ -34,11 +35,6 @@ lent a x = take (length x - a) (drop a x)
 -- A buffer whose words from a on were lent, and came back as y.
 abbrev pub back : ℕ → List ℕ → List ℕ → List ℕ
 back a x y = take a x ++ (y ++ drop (length x - a) (drop a x))
-
-pub back-rest : (x y : List ℕ) (a : ℕ) → back a x y ≡ take a x ++ y
-back-rest x y a =
-    let e : drop (length x - a) (drop a x) ≡ [] = drop-of-length-le (drop a x) {i = length x - a} (simp length-drop (omega arith)) in
-    rw (e, append-nil)
 
 pub back-length : (x y : List ℕ) (a : ℕ) → a ≤ length x → length y ≡ length (drop a x) → length (back a x y) ≡ length x
 back-length x y a h e = omega (arith, ap length (back-rest x y a), length-append (take a x) y, length-take-le a x h, length-drop a x)

@@ -2,7 +2,7 @@
 -- order").
 use mathlib.Core.Path.{_≡_, refl, sym, ap, _∙_}
 use mathlib.Core.Bool.{Bool, true, false, _&&_, cond}
-use mathlib.Core.List.{List}
+use mathlib.Core.List.{List, _++_}
 use Prim.Native.Nat.{ℕ, _≤_}
 use native.Mathlib.Omega.{arith}
 use lib.Dec.{eqb}
@@ -10,9 +10,11 @@ use lib.ListN.{length, drop, getD}
 use borrow.Author.Tests.{eq-eqb, ne-eqb, eqb-true, eqb-false}
 use Rattle.eb3.specs.Terms.{Term, Done, Internal, Perform, Sequence, Choice, Star, Parallel, Guard, internal, Mask, done?}
 use Rattle.eb3.specs.Reading.{pick}
+use Rattle.eb3.specs.Spelling.{words}
 use Rattle.eb3.specs.Sizes.{size}
 use Rattle.scan.specs.Checking.{last-of}
 use Rattle.scan.specs.Laws.{Tail, tail-here, tail-on, tail-at, tail-short}
+use Rattle.listing.specs.Positions.{code-in-front}
 use Rattle.paths.specs.Paths.{Followed, followed, decision, within, follow, marked}
 
 -- ── the rest of the path ──
@@ -156,3 +158,18 @@ module _ (p : List ℕ) where
 -- What is left is no longer than the path.
 pub rest-short : (E : Term) (p : List ℕ) → length (follow E p .rest) ≤ length p
 rest-short E p = tail-short (follow E p .rest) p (follow-tail E p)
+
+-- ── a term without operands ──
+
+-- Done and the internal action have one word and lead to Done.
+pub leaf : (G : Term) → (code-in-front G ≡ 21 → ⊥) → (code-in-front G ≡ 22 → ⊥) → (code-in-front G ≡ 23 → ⊥) → (code-in-front G ≡ 24 → ⊥) → (code-in-front G ≡ 25 → ⊥) → (code-in-front G ≡ 26 → ⊥)
+    → (p rest : List ℕ) → (follow G p ≡ followed internal Done p) × (drop 1 (words 1 G ++ rest) ≡ rest)
+unfolding follow words code-in-front
+leaf Done a b c d e f p rest = (refl, refl)
+leaf Internal a b c d e f p rest = (refl, refl)
+leaf (Perform v) a b c d e f p rest = absurd (a refl)
+leaf (Sequence E F) a b c d e f p rest = absurd (b refl)
+leaf (Choice E F) a b c d e f p rest = absurd (c refl)
+leaf (Star E) a b c d e f p rest = absurd (d refl)
+leaf (Parallel Δ E F) a b c d e f p rest = absurd (e refl)
+leaf (Guard C E) a b c d e f p rest = absurd (f refl)

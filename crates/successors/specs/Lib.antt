@@ -5,3 +5,4 @@ pub mod Parts
 pub mod Passing
 pub mod Unchanged
 pub mod FollowLaws
+pub mod TermLaws

@@ -6,10 +6,10 @@ use mathlib.Core.List.{List, [], _++_, append-assoc, append-nil}
 use Prim.Native.Nat.{ℕ, _+_, _-_, _*_, _≤_, _<_}
 use native.Mathlib.Omega.{arith}
 use lib.ListN.{length, take, drop, length-append, length-drop}
-use lib.Seq.{drop-length, length-take-le}
+use lib.Seq.{length-take-le}
 use borrow.Author.Tests.{leb-true, leb-false}
 use Rattle.eb3.specs.Bytes.{written}
-use Rattle.scan.specs.Laws.{part}
+use Rattle.scan.specs.Laws.{part, back-rest}
 use Rattle.writing.specs.Wrote.{Wrote}
 use Rattle.writing.specs.WroteLaws.{words-none, written-then}
 use Rattle.unfold.specs.declared.Unfolded.{Unfolded}
@@ -37,13 +37,7 @@ puts-as S S′ x y r f p = record {
 
 -- ── the rest that is lent on ──
 
--- as it comes back
-back-rest : (y z : List ℕ) (a : ℕ) → take a y ++ (z ++ drop (length y - a) (drop a y)) ≡ take a y ++ z
-back-rest y z a = ap (λ e. take a y ++ e) (ap (λ e. z ++ e) (drop-past a y) ∙ append-nil z)
-  where
-    drop-past : (a : ℕ) (y : List ℕ) → drop (length y - a) (drop a y) ≡ []
-    drop-past a y = ap (λ n. drop n (drop a y)) (sym (length-drop a y)) ∙ drop-length (drop a y)
-
+-- its length as it comes back
 back-length : (y z : List ℕ) (a : ℕ) → a ≤ length y → length z ≡ length y - a → length (take a y ++ z) ≡ length y
 back-length y z a h e = omega (arith, length-append (take a y) z, length-take-le a y h)
 

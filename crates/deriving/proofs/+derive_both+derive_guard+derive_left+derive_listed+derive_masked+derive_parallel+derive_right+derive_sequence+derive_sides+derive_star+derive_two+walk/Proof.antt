@@ -6,7 +6,8 @@ use mathlib.Core.Path.{refl, sym, ap, _∙_}
 use lib.Dec.{lit<}
 use Rattle.scan.specs.Laws.{behind-len, last-len}
 use Rattle.listing.specs.Operands.{answer-is, front-len, mask-len}
-use Rattle.deriving.proofs.Answers.{sized, sound-single}
+use Rattle.deriving.specs.AnswerLaws.{sized}
+use Rattle.deriving.proofs.Answers.{sound-single}
 use Rattle.deriving.proofs.Arms.{internal-derived, perform-derived, two-lost, two-left, rest-count, two-right, choice-derived, sequence-right, sequence-lost, sequence-found, sequence-passed, star-end, star-round, guard-shut, guard-open, at-front, other-derived}
 use Rattle.deriving.proofs.Listed.{lent-few, listed-lost-first, whole-length, listed-lost-second, listed-fits, listed-none, listed-sides}
 use Rattle.deriving.proofs.Idle.{right-derived, left-lost, left-found, left-passed, masked-right, masked-left, masked-listed}

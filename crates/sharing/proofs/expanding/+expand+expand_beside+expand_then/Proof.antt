@@ -6,7 +6,7 @@ use lib.ListN.{length, length-set}
 use Prim.Native.Nat.{_+_, _*_}
 use Rattle.scan.specs.Laws.{behind-len, last-len}
 use Rattle.listing.specs.Operands.{front-len}
-use Rattle.sharing.proofs.SplicingCases.{put-length}
+use Rattle.sharing.proofs.BeginningPuts.{put-length}
 use Rattle.sharing.proofs.ExpandingCases.{expand-front, expand-none, done-expanded, part-expanded, then-expanded}
 use Rattle.sharing.proofs.BesideCases.{head, beside-short, beside-expanded}
 use borrow.Author.Needs.{needs}

@@ -4,7 +4,8 @@ use mathlib.Core.Path.{refl, sym, _∙_}
 use lib.Dec.{lit<}
 use Rattle.scan.specs.Laws.{behind-len, last-len}
 use Rattle.listing.specs.Operands.{front-len, mask-len}
-use Rattle.sharing.proofs.SeekingAnswers.{sized, bounded-single}
+use Rattle.deriving.specs.AnswerLaws.{sized}
+use Rattle.sharing.proofs.SeekingAnswers.{bounded-single}
 use Rattle.sharing.proofs.SeekingArms.{internal-sought, perform-sought, two-lost, two-left, rest-count, two-right, choice-sought, sequence-right, sequence-left, star-end, star-round, parallel-done, parallel-beside, guard-shut, guard-open, at-front, other-sought}
 use borrow.Author.Needs.{needs}
 use native.Mathlib.Omega.{arith}

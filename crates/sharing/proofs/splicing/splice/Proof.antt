@@ -4,7 +4,7 @@ use Prim.Native.Nat.{_+_, _-_}
 use Rattle.sharing.proofs.SplicingCases.{slice-cut, back-length}
 use mathlib.Core.Path.{refl, sym}
 use lib.Seq.{length-take-le, length-slice}
-use Rattle.sharing.proofs.SplicingCases.{splice-none, splice-same, splice-moved, put-length}
+use Rattle.sharing.proofs.SplicingCases.{splice-none, splice-same, splice-moved}
 use native.Mathlib.Omega.{arith}
 use borrow.Author.Needs.{needs}
 use Rattle.sharing.proofs.splicing.splice.Statement.{statement}
