@@ -1,1 +1,2 @@
+-- What the proofs of several functions use (document 01, "Moves, in order").
 mod Cases

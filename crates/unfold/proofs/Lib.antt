@@ -1,3 +1,4 @@
+-- What the proofs of several functions use (document 01, "Unfolding, size and breadth").
 pub mod RowCases
 pub mod ValueCases
 pub mod RuleFacts
