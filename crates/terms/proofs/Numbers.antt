@@ -1,5 +1,6 @@
 -- Answers made of answers: what the functions on numbers return, and that what they pack fits. The premises have the form of what the code tells
 -- there, so that `search` finds them.
+-- Document 01, "Unfolding, size and breadth"; refusal 10.
 use Prim.Native.Nat.{ℕ, _+_, _-_, _/_, _%_, _≤_, _<_}
 use native.Mathlib.Numerals.{add-one}
 use native.Mathlib.Omega.{arith}

@@ -1,4 +1,5 @@
--- What an answer of the check says of the reading: what was read, the words behind it and its measures (`got`), or that nothing was (`none-read`).
+-- What an answer of the check says of the reading: what was read, the words behind it and its measures (`got`), or that nothing was (`none-read`);
+-- and where only the words left are asked, `left-taken` and `left-wrong`.
 -- Document 01, "Unfolding, size and breadth"; refusal 10.
 use Prim.Native.Nat.{ℕ, _+_, _-_, _*_, _/_, _%_, _≤_, _<_}
 use native.Mathlib.Nat.{mod-eq-of-lt, div-eq-of-lt, add-mul-mod-self-left, add-mul-div-left, div-div-eq-div-mul, zero-add}
@@ -19,11 +20,12 @@ use Rattle.eb3.specs.Laws.TermReading.{term-sound}
 use Rattle.eb3.specs.Laws.Spelling.{words-length}
 use Rattle.eb3.specs.Laws.Saturation.{measure-running-sat}
 use Rattle.scan.specs.Checking.{last-of}
-use Rattle.scan.specs.Laws.{Fine, tail-at}
+use Rattle.scan.specs.Laws.{Fine, tail-short, tail-at}
+use Rattle.scan.specs.ReadingLaws.{Taken}
 use Rattle.weights.specs.Weighing.{cap}
 use Rattle.arguments.specs.Tables.{declared}
 use Rattle.terms.specs.Given.{wrong, weighed-running}
-use Rattle.terms.specs.Answers.{packed, unpacked, Answer}
+use Rattle.terms.specs.Answers.{left-of, packed, unpacked, Answer}
 use Rattle.terms.specs.Laws.{term-ends}
 
 -- ── the numbers in one ──
@@ -66,6 +68,20 @@ unfolding declared
 taken-size T t E u e =
     let h : (t ≡ words 1 E ++ u) × well-formed (declared T) E = subst (λ r. Sound (words 1) (well-formed (declared T)) t r) e (term-sound (declared T) t) in
     omega (arith, ap length (h .0), length-append (words 1 E) u, words-length (declared T) E (h .1))
+
+-- ── words left ──
+
+-- No number of words that are there is `wrong`.
+pub left-wrong : {A : Type 0} (t : List ℕ) (r : Read A) → length t ≤ 8192 → Fine t r → wrong ≡ left-of r → (k : ℕ) × (r ≡ refused k)
+unfolding left-of
+left-wrong t (refused k) h f e = (k, refl)
+left-wrong t (taken a u) h f e = absurd (let z : ⊥ = omega (arith, e, tail-short u t f) in z)
+
+pub left-taken : {A : Type 0} (t : List ℕ) (n : ℕ) (r : Read A) → Fine t r → n ≡ left-of r → (n ≡ wrong → ⊥) → Taken t n r
+unfolding left-of
+left-taken t n (refused k) f e h = absurd (h e)
+left-taken t n (taken a u) f e h =
+    record { value = a; rest = u; read = refl; left = e; words = ap (λ j. last-of j t) e ∙ tail-at u t f; short = omega (arith, e, tail-short u t f) }
 
 -- ── what was read ──
 

@@ -12,6 +12,11 @@ use Rattle.eb3.specs.Reading.{Read, refused, taken, pick}
 use Rattle.weights.specs.Weighing.{cap, parallel-by}
 use Rattle.terms.specs.Given.{wrong}
 
+-- How many words are left, where only that is asked.
+unfoldable pub left-of : {A : Type 0} → Read A → ℕ
+left-of (refused k) = wrong
+left-of (taken a t) = length t
+
 -- n words left, and a term's reach and breadth.
 abbrev pub packed : ℕ → Measure → ℕ
 packed n m = n + 65536 * (m .reach + 131072 * m .breadth)

@@ -1,5 +1,6 @@
 // The check of a given running term, with its reach and breadth in the same pass (document 01, "Unfolding, size and breadth";
-// refusal 10). An answer is one number, so that no level of nested terms stores one in memory.
+// refusal 10). An answer is one number, and the words are lent whole with the number of those still to be read: so no level of nested
+// terms stores an answer or a slice in memory.
 ghost use mathlib.Core.Path.{_≡_};
 ghost use Prim.Native.Nat.{_/_, _%_, _≤_};
 ghost use lib.ListN.{length, getD};
@@ -7,12 +8,12 @@ ghost use Rattle.eb3.specs.Limits.{edition-1};
 ghost use Rattle.eb3.specs.Terms.{Star};
 ghost use Rattle.eb3.specs.RuleSets.{sizes-of};
 ghost use Rattle.eb3.specs.Reading.{giving, both};
-ghost use Rattle.eb3.specs.TermReading.{element-of, elements-of, TermKind, action-of, term-by, read-term, given-term};
-ghost use Rattle.scan.specs.Checking.{checked};
+ghost use Rattle.eb3.specs.TermReading.{elements-of, TermKind, action-of, term-by, read-term, given-term};
+ghost use Rattle.scan.specs.Checking.{last-of};
 ghost use Rattle.weights.specs.Weighing.{measure};
 ghost use Rattle.arguments.specs.Tables.{declared};
 ghost use Rattle.terms.specs.Given.{weighed-running, given};
-ghost use Rattle.terms.specs.Answers.{packed, unpacked, Answer, Packs, Operands, Operand, join-of, joined-of, weighed-pair, guarded-of, starred-of, InFront};
+ghost use Rattle.terms.specs.Answers.{left-of, packed, unpacked, Answer, Packs, Operands, Operand, join-of, joined-of, weighed-pair, guarded-of, starred-of, InFront};
 use arguments::check_mask;
 use arguments::functions;
 use arguments::labels;
@@ -23,10 +24,7 @@ use arguments::wide32;
 use grammar::Scope;
 use grammar::check_cond;
 use scan::Checked;
-use scan::behind;
-use scan::first;
 use scan::last;
-use scan::number;
 use scan::wide;
 use weights::Limits;
 use weights::Weight;
@@ -136,52 +134,47 @@ fn under_stars(k: usize, n: usize, p: usize) -> usize
 
 // ── terms ──
 
-// Code 1 and a value below n.
-fn element(t: &[u16], n: usize) -> Checked
-    ensures { λ r. ⌜ r ≡ checked (element-of 1 n (now (t .entry))) ⌝ }
+// An element of each of some domains, code 1 and a value: how many words are left.
+fn elements(t: &[u16], n: usize, tb: &[u32], ds: &[u32]) -> usize
+    requires { ⌜ length (now t) ≤ 8192 ⌝ }
+    ensures { λ r. ⌜ r ≡ left-of (elements-of 1 (sizes-of (declared (now (tb .entry))) (now (ds .entry))) (last-of n (now (t .entry)))) ⌝ }
 {
-    if t.len() < 2 {
-        return Checked::Refused(4);
+    let s = last(t, n);
+    if s.len() / 2 < ds.len() {
+        return WRONG;
     }
-    let c = t[0];
-    if c != 1 {
-        return Checked::Refused(4);
+    let mut i = 0;
+    while i < ds.len() {
+        if s[2 * i] != 1 {
+            return WRONG;
+        }
+        if size_of(tb, wide32(ds[i])) <= wide(s[2 * i + 1]) {
+            return WRONG;
+        }
+        i = i + 1;
     }
-    if wide(t[1]) < n {
-        return Checked::Left(t.len() - 2);
-    }
-    Checked::Refused(6)
-}
-
-// An element of each of some domains.
-fn elements(t: &[u16], tb: &[u32], ds: &[u32]) -> Checked
-    ensures { λ r. ⌜ r ≡ checked (elements-of 1 (sizes-of (declared (now (tb .entry))) (now (ds .entry))) (now (t .entry))) ⌝ }
-{
-    if ds.len() == 0 {
-        return Checked::Left(t.len());
-    }
-    let d = wide32(ds[0]);
-    match element(t, size_of(tb, d)) {
-        Checked::Left(n) => elements(last(t, n), tb, &ds[1..]),
-        Checked::Refused(k) => Checked::Refused(k),
-    }
+    s.len() - 2 * ds.len()
 }
 
 // A label and its arguments.
-fn action(t: &[u16], tb: &[u32]) -> usize
+fn action(t: &[u16], n: usize, tb: &[u32]) -> usize
     requires { ⌜ length (now t) ≤ 8192 ⌝ }
-    ensures { λ r. ⌜ r ≡ weighed-running (action-of (declared (now (tb .entry))) (now (t .entry))) ⌝ }
+    ensures { λ r. ⌜ r ≡ weighed-running (action-of (declared (now (tb .entry))) (last-of n (now (t .entry)))) ⌝ }
 {
-    match number(t, 5, labels(tb)) {
-        Checked::Left(n) => {
-            let ds = row_at(tb, 18 + 3 * first(t));
-            match elements(last(t, n), tb, ds) {
-                Checked::Left(m) => pack(m, single(2 + 2 * narrow(ds.len()))),
-                Checked::Refused(k) => WRONG,
-            }
-        }
-        Checked::Refused(k) => WRONG,
+    let s = last(t, n);
+    if s.len() == 0 {
+        return WRONG;
     }
+    let l = wide(s[0]);
+    if labels(tb) <= l {
+        return WRONG;
+    }
+    let ds = row_at(tb, 18 + 3 * l);
+    let m = elements(t, s.len() - 1, tb, ds);
+    if m == WRONG {
+        return WRONG;
+    }
+    pack(m, single(2 + 2 * narrow(ds.len())))
 }
 
 // How many stars stand in front.
@@ -199,93 +192,92 @@ fn stars(t: &[u16]) -> usize
 }
 
 // A term with a star in front: the words behind that star.
-fn starred(t: &[u16], tb: &[u32]) -> usize
-    requires { ⌜ length (now t) ≤ 8192 ⌝ }
-    ensures { λ r. ⌜ r ≡ weighed-running (giving Star (read-term (declared (now (tb .entry))) (now (t .entry)))) ⌝ }
+fn starred(t: &[u16], n: usize, tb: &[u32]) -> usize
+    requires { ⌜ (length (now t) ≤ 8192) × (n ≤ length (now t)) ⌝ }
+    ensures { λ r. ⌜ r ≡ weighed-running (giving Star (read-term (declared (now (tb .entry))) (last-of n (now (t .entry))))) ⌝ }
 {
-    let k = stars(t);
-    let n = t.len() - k;
-    let p = check_running(last(t, n), tb);
+    let k = stars(last(t, n));
+    let m = n - k;
+    let p = check_running(t, m, tb);
     if p == WRONG {
         return WRONG;
     }
-    under_stars(k + 1, n, p)
+    under_stars(k + 1, m, p)
 }
 
 // Two terms in a row, which `join` knows as c.
-fn pair(t: &[u16], tb: &[u32], c: usize) -> usize
-    requires { ⌜ length (now t) ≤ 8192 ⌝ }
-    ensures { λ r. ⌜ r ≡ weighed-pair c (both (read-term (declared (now (tb .entry)))) (read-term (declared (now (tb .entry)))) (now (t .entry))) ⌝ }
+fn pair(t: &[u16], n: usize, tb: &[u32], c: usize) -> usize
+    requires { ⌜ (length (now t) ≤ 8192) × (n ≤ length (now t)) ⌝ }
+    ensures { λ r. ⌜ r ≡ weighed-pair c (both (read-term (declared (now (tb .entry)))) (read-term (declared (now (tb .entry)))) (last-of n (now (t .entry)))) ⌝ }
 {
-    let p = check_running(t, tb);
+    let p = check_running(t, n, tb);
     if p == WRONG {
         return WRONG;
     }
-    let n = left(p);
-    let q = check_running(last(t, n), tb);
+    let q = check_running(t, left(p), tb);
     if q == WRONG {
         return WRONG;
     }
-    joined(c, t.len(), p, q)
+    joined(c, n, p, q)
 }
 
 // A mask and two terms.
-fn in_parallel(t: &[u16], tb: &[u32]) -> usize
-    requires { ⌜ length (now t) ≤ 8192 ⌝ }
-    ensures { λ r. ⌜ r ≡ weighed-running (term-by (declared (now (tb .entry))) (read-term (declared (now (tb .entry)))) TermKind.parallel (now (t .entry))) ⌝ }
+fn in_parallel(t: &[u16], n: usize, tb: &[u32]) -> usize
+    requires { ⌜ (length (now t) ≤ 8192) × (n ≤ length (now t)) ⌝ }
+    ensures { λ r. ⌜ r ≡ weighed-running (term-by (declared (now (tb .entry))) (read-term (declared (now (tb .entry)))) TermKind.parallel (last-of n (now (t .entry)))) ⌝ }
 {
-    let l = labels(tb);
-    match check_mask(t, 4, l) {
-        Checked::Left(n) => {
-            if mask_zero(t) {
-                return pair(last(t, n), tb, 25);
+    let s = last(t, n);
+    match check_mask(s, 4, labels(tb)) {
+        Checked::Left(m) => {
+            if mask_zero(s) {
+                return pair(t, m, tb, 25);
             }
-            pair(last(t, n), tb, 0)
+            pair(t, m, tb, 0)
         }
         Checked::Refused(k) => WRONG,
     }
 }
 
 // A condition, whose size is the words that it took, and a term.
-fn guarded(t: &[u16], tb: &[u32]) -> usize
-    requires { ⌜ length (now t) ≤ 8192 ⌝ }
-    ensures { λ r. ⌜ r ≡ weighed-running (term-by (declared (now (tb .entry))) (read-term (declared (now (tb .entry)))) TermKind.guard (now (t .entry))) ⌝ }
+fn guarded(t: &[u16], n: usize, tb: &[u32]) -> usize
+    requires { ⌜ (length (now t) ≤ 8192) × (n ≤ length (now t)) ⌝ }
+    ensures { λ r. ⌜ r ≡ weighed-running (term-by (declared (now (tb .entry))) (read-term (declared (now (tb .entry)))) TermKind.guard (last-of n (now (t .entry)))) ⌝ }
 {
     let c = Scope {
         variables: 0,
         now: functions(tb),
         before: 0,
     };
-    match check_cond(t, c) {
-        Checked::Left(n) => {
-            let p = check_running(last(t, n), tb);
+    match check_cond(last(t, n), c) {
+        Checked::Left(m) => {
+            let p = check_running(t, m, tb);
             if p == WRONG {
                 return WRONG;
             }
-            under_guard(t.len(), n, p)
+            under_guard(n, m, p)
         }
         Checked::Refused(k) => WRONG,
     }
 }
 
-// The running term at the front.
-fn check_running(s: &[u16], tb: &[u32]) -> usize
-    requires { ⌜ length (now s) ≤ 8192 ⌝ }
-    ensures { λ r. ⌜ r ≡ weighed-running (read-term (declared (now (tb .entry))) (now (s .entry))) ⌝ }
+// The running term where n words are left.
+fn check_running(t: &[u16], n: usize, tb: &[u32]) -> usize
+    requires { ⌜ (length (now t) ≤ 8192) × (n ≤ length (now t)) ⌝ }
+    ensures { λ r. ⌜ r ≡ weighed-running (read-term (declared (now (tb .entry))) (last-of n (now (t .entry)))) ⌝ }
 {
-    if s.len() == 0 {
+    if n == 0 {
         return WRONG;
     }
-    let c = s[0];
-    let t = behind(s);
+    let c = t[t.len() - n];
+    let m = n - 1;
     match c {
-        20 => pack(t.len(), single(1)),
-        21 => action(t, tb),
-        22..=23 => pair(t, tb, wide(c)),
-        24 => starred(t, tb),
-        25 => in_parallel(t, tb),
-        26 => guarded(t, tb),
-        30 => pack(t.len(), empty()),
+        20 => pack(m, single(1)),
+        21 => action(t, m, tb),
+        22..=23 => pair(t, m, tb, wide(c)),
+        24 => starred(t, m, tb),
+        25 => in_parallel(t, m, tb),
+        26 => guarded(t, m, tb),
+        30 => pack(m, empty()),
         _ => WRONG,
     }
 }
@@ -298,7 +290,7 @@ pub fn given_term(s: &[u16], tb: &[u32]) -> Given
     if wide32(Limits::REACH) < s.len() {
         return Given::Wrong;
     }
-    let p = check_running(s, tb);
+    let p = check_running(s, s.len(), tb);
     if p == WRONG {
         return Given::Wrong;
     }
