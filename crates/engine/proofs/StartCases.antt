@@ -1,22 +1,20 @@
 -- A case for each way that Start returns.
-use mathlib.Core.Path.{_≡_, refl, ap, sym, _∙_, subst}
+use mathlib.Core.Path.{_≡_, ap, sym, _∙_, subst}
 use mathlib.Core.List.{List}
-use Prim.Native.Nat.{ℕ, _+_, _*_, _/_, _≤_, _<_}
+use Prim.Native.Nat.{ℕ, _≤_, _<_}
 use native.Mathlib.Omega.{arith}
 use lib.ListN.{length, drop, getD}
 use Rattle.eb3.specs.Limits.{edition-1}
 use Rattle.eb3.specs.RuleReading.{read-rules}
 use Rattle.eb3.specs.Blocks.{stream, open-blocks}
 use Rattle.eb3.specs.Bytes.{word-count}
-use Rattle.eb3.specs.Memory.{cell-room, memory-words}
-use Rattle.eb3.specs.Cells.{initial-cells}
-use Rattle.eb3.specs.RuleSets.{attributes}
+use Rattle.eb3.specs.Memory.{cell-room}
 use Rattle.eb3.specs.Sizes.{size}
 use Rattle.eb3.specs.Spelling.{words}
 use Rattle.eb3.specs.Bytes.{written}
 use Rattle.eb3.specs.Unfolding.{unfold-main}
 use Rattle.eb3.specs.Admission.{ended, within-limits, admission}
-use Rattle.eb3.specs.Answers.{refused, answered, and-then}
+use Rattle.eb3.specs.Answers.{refused, and-then}
 use Rattle.eb3.specs.Laws.Sizes.{size-below-reach}
 use Rattle.eb3.specs.Laws.Spelling.{words-length}
 use Rattle.eb3.specs.Laws.MainRunning.{main-running}
@@ -25,7 +23,6 @@ use Rattle.weights.specs.declared.Limits.{Limits}
 use Rattle.declarations.specs.Directory.{Directory}
 use Rattle.cells.specs.Readying.{few}
 use Rattle.steps.specs.RuledLaws.{tables-few}
-use Rattle.engine.specs.declared.starting.Started.{Started}
 use Rattle.engine.specs.declared.starting.Started.the-variants.{Size, Refused}
 use Rattle.admission.specs.Knowing.{Known}
 use Rattle.engine.specs.Memories.{Begun}
@@ -63,7 +60,8 @@ module _ (rules T D : List ℕ) (l : Limits) (k : Known rules T D l) where
         let run = main-running edition-1 R (omega arith) (k .well) in
         let n : length (words (R .width) (unfold-main R)) ≡ size (R .width) (unfold-main R) = words-length R (unfold-main R) (run .form) in
         let s : length (words 1 (unfold-main R)) ≤ word-count term = subst (λ v. length (words v (unfold-main R)) ≤ word-count term) w (omega (arith, n, size-below-reach (R .width) (unfold-main R), ex, reach-is)) in
+        let m : length (words 1 (unfold-main R)) ≤ 65535 = subst (λ v. length (words v (unfold-main R)) ≤ 65535) w (omega (arith, n, size-below-reach (R .width) (unfold-main R), k .well .reach-limit)) in
         let d = subst (λ u. Directory u T D R) (sym et) (k .directory) in
-        let p = b R (k .well .form) d (ec ∙ cells-is) (known-tables c ec .0) s g in
+        let p = b R (k .well .form) d (ec ∙ cells-is) (known-tables c ec .0) m s g in
         start-done rules term memory R (k .admitted-as) (omega (arith, ex, reach-is)) (omega (arith, ec, cells-is)) (l .size) term′ memory′ (ap (λ (y : Limits). y .size) (k .sizes))
         (p .0 ∙ ap (λ v. written (words v (unfold-main R)) term) (sym w)) (p .1)

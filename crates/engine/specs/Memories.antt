@@ -54,5 +54,6 @@ memory-started t T D M M₁ M₂ B B′ w n c ew en l₁ l₂ prepared filled sa
 
 -- Lent buffers with enough room hold main's unfolding and the cells of the start.
 abbrev pub Begun : List ℕ → List ℕ → List ℕ → ℕ → List ℕ → List ℕ → List ℕ → List ℕ → Type 0
-Begun t T D c term memory term′ memory′ = (R : RuleSet) → Form edition-1 R → Directory t T D R → c ≡ cells-needed R → c ≤ 1024 → length (words 1 (unfold-main R)) ≤ word-count term → c ≤ cell-room memory
+Begun t T D c term memory term′ memory′ = (R : RuleSet) → Form edition-1 R → Directory t T D R → c ≡ cells-needed R → c ≤ 1024 → length (words 1 (unfold-main R)) ≤ 65535 → length (words 1 (unfold-main R)) ≤ word-count term
+    → c ≤ cell-room memory
     → (term′ ≡ written (words 1 (unfold-main R)) term) × (memory′ ≡ written (memory-words edition-1 (initial-cells (attributes R))) memory)

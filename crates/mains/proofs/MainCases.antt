@@ -212,7 +212,7 @@ module _ {numbers t D : List ℕ} {w functions c reach n : ℕ} {ws ws₂ M M₂
 
 -- What unfolding main says.
 abbrev pub MainUnfolded : (t T spare spare′ : List ℕ) (n : ℕ) → Type 0
-MainUnfolded t T spare spare′ n = (R : RuleSet) → Ready t T R → 2 * length (words 1 (unfold-main R)) ≤ length spare
+MainUnfolded t T spare spare′ n = (R : RuleSet) → Ready t T R → length (words 1 (unfold-main R)) ≤ 65535 → 2 * length (words 1 (unfold-main R)) ≤ length spare
     → (n ≡ length (words 1 (unfold-main R))) × (spare′ ≡ written (words 1 (unfold-main R)) spare)
 
 -- What making the cells of the start says, of a store with room for the most cells that there may be, twice.
@@ -231,7 +231,7 @@ pub record Begun (t T D : List ℕ) (w functions c n : ℕ) (ws ws₁ M spare sp
 module _ {t T D : List ℕ} {w functions c n : ℕ} {ws ws₁ M spare spare₁ : List ℕ} (begun : Begun t T D w functions c n ws ws₁ M spare spare₁) {reach : ℕ}
     (R : RuleSet) (well : WellFormed edition-1 R) (d : Directory t T D R) (ec : c ≡ cells-needed R) (er : reach ≡ main-reach R) where
   main-unfolded : reach ≤ word-count spare → (n ≡ length (words 1 (unfold-main R))) × (spare₁ ≡ written (words 1 (unfold-main R)) spare)
-  main-unfolded room = begun .unfolded R (record { form = well .form; declares = d .declares; processes = d .processes }) (omega (arith, main-size R well, er))
+  main-unfolded room = begun .unfolded R (record { form = well .form; declares = d .declares; processes = d .processes }) (omega (arith, main-size R well, well .reach-limit)) (omega (arith, main-size R well, er))
 
   spare-words : reach ≤ word-count spare → WordsOnly spare spare₁
   spare-words room = words-written (words 1 (unfold-main R)) spare spare₁ (omega (arith, main-size R well, er)) (main-unfolded room .1)

@@ -1,12 +1,12 @@
 -- The unfolding of a process term, written into a lent buffer (document 01, "Unfolding, size and breadth": calls are replaced by bodies; 27 and 28
 -- become choices or parallels of the copies, nested to the right; each variable becomes a constant).
 use mathlib.Core.Path.{_≡_}
-use mathlib.Core.Bool.{true}
+use mathlib.Core.Bool.{Bool, _&&_}
 use mathlib.Core.List.{List, _++_}
-use Prim.Native.Nat.{ℕ, _*_, _≤_}
-use lib.ListN.{length}
+use Prim.Native.Nat.{ℕ, _+_, _*_, _/_, _%_, _≤_, _<_}
+use lib.Dec.{leb}
+use lib.ListN.{length, take, drop}
 use Rattle.eb3.specs.Generic.Lists.{Within}
-use Rattle.eb3.specs.Terms.{Term}
 use Rattle.eb3.specs.Limits.{edition-1}
 use Rattle.eb3.specs.RuleSets.{RuleTerm, RuleSet, sizes-of}
 use Rattle.eb3.specs.RuleSpelling.{rule-words}
@@ -17,7 +17,6 @@ use Rattle.eb3.specs.Bytes.{written}
 use Rattle.scan.specs.Checking.{last-of}
 use Rattle.declarations.specs.Declaring.{Declares}
 use Rattle.declarations.specs.Directory.{ProcessRows}
-use Rattle.unfold.specs.declared.Unfolded.{Unfolded}
 
 -- The stream t and the tables T say of a rule set what its terms are unfolded by.
 pub record Ready (t T : List ℕ) (R : RuleSet) : Type 0 where
@@ -36,14 +35,24 @@ pub record RuleTermAt (t : List ℕ) (n : ℕ) (R : RuleSet) (i : ℕ) (Γ σ : 
 abbrev pub unfolded-words : RuleSet → ℕ → RuleTerm → List ℕ → List ℕ
 unfolded-words R i E σ = words 1 (unfold-in R i E σ)
 
--- Where there was room.
-pub record UnfoldedRight (ws rest entry exit : List ℕ) (r : Unfolded) : Type 0 where
-  pub size : r .words ≡ length ws
-  pub left : r .left ≡ length rest
-  pub written-there : exit ≡ written ws entry
+-- Words written into a buffer from its word `at` on.
+unfoldable pub written-from : ℕ → List ℕ → List ℕ → List ℕ
+written-from at ws B = take (2 * at) B ++ written ws (drop (2 * at) B)
 
-pub record Unfolding (t T : List ℕ) (n i : ℕ) (σ entry exit : List ℕ) (r : Unfolded) : Type 0 where
+-- There is room up to word `end`, and no more words than an unfolding may have by far.
+unfoldable pub room-to : ℕ → List ℕ → Bool
+room-to end B = leb end 65535 && leb (2 * end) (length B)
+
+-- An answer below 4,294,967,296 tells the word behind those written and how many words are left behind those read; every other one, that there was no
+-- room or not what should stand there. Where there was room:
+pub record UnfoldedRight (ws rest : List ℕ) (at : ℕ) (entry exit : List ℕ) (q : ℕ) : Type 0 where
+  pub ends : q / 65536 ≡ at + length ws
+  pub left : q % 65536 ≡ length rest
+  pub written-there : exit ≡ written-from at ws entry
+
+pub record Unfolding (t T : List ℕ) (n i : ℕ) (σ : List ℕ) (at : ℕ) (entry exit : List ℕ) (q : ℕ) : Type 0 where
   pub same-length : length exit ≡ length entry
-  pub size-bounded : 2 * r .words ≤ length entry
-  pub has-room : (R : RuleSet) (Γ : List ℕ) (E : RuleTerm) (rest : List ℕ) → Ready t T R → RuleTermAt t n R i Γ σ E rest → 2 * length (unfolded-words R i E σ) ≤ length entry → r .ok ≡ true
-  pub right : (R : RuleSet) (Γ : List ℕ) (E : RuleTerm) (rest : List ℕ) → Ready t T R → RuleTermAt t n R i Γ σ E rest → r .ok ≡ true → UnfoldedRight (unfolded-words R i E σ) rest entry exit r
+  pub end-bounded : q < 4294967296 → 2 * (q / 65536) ≤ length entry
+  pub has-room : (R : RuleSet) (Γ : List ℕ) (E : RuleTerm) (rest : List ℕ) → Ready t T R → RuleTermAt t n R i Γ σ E rest
+      → at + length (unfolded-words R i E σ) ≤ 65535 → 2 * (at + length (unfolded-words R i E σ)) ≤ length entry → q < 4294967296
+  pub right : (R : RuleSet) (Γ : List ℕ) (E : RuleTerm) (rest : List ℕ) → Ready t T R → RuleTermAt t n R i Γ σ E rest → q < 4294967296 → UnfoldedRight (unfolded-words R i E σ) rest at entry exit q

@@ -1,16 +1,11 @@
-use Prim.Native.Nat.{_*_}
-use borrow.Author.Tests.{not-false}
-use Rattle.unfold.specs.PutsLaws.{sum-fits}
+use Rattle.unfold.specs.PutsLaws.{place-few, place-room}
+use Rattle.unfold.specs.SayingLaws.{term-room}
 use Rattle.unfold.proofs.ValueCases.{values-length, values-few}
 use Rattle.arguments.specs.VariableLaws.{with-length, with-few}
-use Rattle.unfold.proofs.TermCases.{mask-taken, copies-next}
-use Rattle.unfold.proofs.TermCases.{terms, parts, quantifiers, callees}
+use Rattle.unfold.proofs.TermCases.{mask-taken, copies-next, terms, parts, quantifiers, callees}
 use Rattle.unfold.proofs.RowCases.{last-size}
 use native.Mathlib.Omega.{arith}
 use borrow.Author.Needs.{needs}
-use borrow.Author.Needs.{needs}
-use native.Mathlib.Omega.{arith}
-use Prim.Native.Nat.{_*_}
 use Rattle.unfold.proofs.body.Reads as body
 use Rattle.unfold.proofs.+body+call+copies+copy+guarded+headed_copy+joined+over+starred+two_terms+unfold.Lts-body as body-lts
 use Rattle.unfold.proofs.call.Reads as call
@@ -30,8 +25,8 @@ use Rattle.unfold.proofs.+body+call+copies+copy+guarded+headed_copy+joi
 use Rattle.unfold.proofs.starred.Reads as starred
 use Rattle.unfold.proofs.+body+call+copies+copy+guarded+headed_copy+joined+over+starred+two_terms+unfold.Lts-starred as starred-lts
 use Rattle.unfold.proofs.two_terms.Reads as two-terms
-use Rattle.unfold.proofs.+body+call+copies+copy+guarded+headed_copy+joined+over+starred+two_terms+unfold.Lts-two_terms as two-terms-lts
 use Rattle.unfold.proofs.unfold.Reads as «unfold»
+use Rattle.unfold.proofs.+body+call+copies+copy+guarded+headed_copy+joined+over+starred+two_terms+unfold.Lts-two_terms as two-terms-lts
 use Rattle.unfold.proofs.+body+call+copies+copy+guarded+headed_copy+joined+over+starred+two_terms+unfold.Lts-unfold as unfold-lts
 use Rattle.unfold.proofs.+body+call+copies+copy+guarded+headed_copy+joined+over+starred+two_terms+unfold.{statement}
 use Rattle.unfold.proofs.+body+call+copies+copy+guarded+headed_copy+joined+over+starred+two_terms+unfold.Tie.{close}
@@ -60,10 +55,8 @@ pub +body+call+copies+copy+guarded+headed-copy+joined+over+starred+two-terms+unf
     (λ c. search needs)
     (λ c. search needs)
     (λ c κs. search needs)
-    (λ c κs. search needs)
     (λ c. search callees)
     (λ c. search needs)
-    (λ c κs. search needs)
     (λ c. search callees)
     (λ c κs. search needs)
     (λ c. search needs)
@@ -73,17 +66,19 @@ pub +body+call+copies+copy+guarded+headed-copy+joined+over+starred+two-terms+unf
     (λ c κs. search needs)
     (λ c. search needs)
     (λ c. search values-length)
-    (λ c κs. (omega (arith, last-size), (search needs, search values-few, search needs)))
+    (λ c κs. (omega (arith, last-size), (search needs, search values-few, search needs, search needs, search needs)))
     (λ c. search needs)
+    (λ c. search callees)
+    (λ c. omega arith)
+    (λ c. search needs)
+    (λ c. omega (arith, last-size))
     (λ c. search needs)
     (λ c. search callees))
     (λ t. call-lts.spec (call-with t)
     (call-at t)
     call.Post
     (λ c κs. search needs)
-    (λ c κs. search needs)
     (λ c. search callees)
-    (λ c κs. search needs)
     (λ c κs. search needs)
     (λ c. search callees)
     (λ c. search needs)
@@ -98,24 +93,13 @@ pub +body+call+copies+copy+guarded+headed-copy+joined+over+starred+two-terms+unf
     (λ c. search quantifiers)
     (λ c κs. search needs)
     (λ c. search needs)
-    (λ c. search needs)
-    (λ c. search needs)
-    (λ c. search needs)
-    (λ c. search needs)
-    (λ c κs. (omega (arith, last-size), search needs))
-    (λ c κs. search needs)
+    (λ c κs. (omega (arith, last-size), (search needs, search needs, search needs, search needs, c .before .before .before .loop .inv .end-bounded .1, omega (arith, c .before .before .before .loop .inv .end-bounded .0, c .before .before .before .loop .inv .same-length))))
     (λ c. search needs)
     (λ c. search quantifiers)
     (λ c. search needs)
-    (λ c. search needs)
     (λ c. omega arith)
-    (λ c. copies-next _ _ _ _ _ _ _ _ _ _ _ (c .before .before .before .before .before .before .before .before .before .loop .inv) _ (c .before .before .before .before .before .before .before .before .wide .ensures .0) (c .before .before .before .before .before .before .before .if1 .taken) _ _ (c .before .before .before .before .before .headed-copy .ensures) (not-false _ (c .before .if2 .left)))
-    (λ c. search needs)
-    (λ c. search needs)
-    (λ c. search needs)
-    (λ c. search needs)
-    (λ c κs. (omega (arith, last-size), search needs))
-    (λ c. search needs)
+    (λ c. copies-next _ _ _ _ _ _ _ _ _ _ _ _ (c .before .before .before .before .before .before .before .loop .inv) _ (c .before .before .before .before .before .before .wide .ensures .0) (c .before .before .before .before .before .if1 .taken) _ _ (c .before .before .before .headed-copy .ensures) (c .if2 .left))
+    (λ c κs. (omega (arith, last-size), (search needs, search needs, search needs, c .before .before .before .loop .inv .end-bounded .1, omega (arith, c .before .before .before .loop .inv .end-bounded .0, c .before .before .before .loop .inv .same-length))))
     (λ c. search needs)
     (λ c. search quantifiers))
     (λ t. copy-lts.spec
@@ -126,57 +110,38 @@ pub +body+call+copies+copy+guarded+headed-copy+joined+over+starred+two-terms+unf
     (λ c. search needs)
     (λ c. search needs)
     (λ c. search with-length)
-    (λ c κs. (omega (arith, last-size), (search needs, search with-few, search needs)))
+    (λ c κs. (omega (arith, last-size), (search needs, search with-few, search needs, search needs, search needs)))
     (λ c. search needs)
     (λ c. search quantifiers))
     (λ t. guarded-lts.spec (guarded-with t)
     (guarded-at t)
     guarded.Post
     (λ c κs. search needs)
-    (λ c κs. search needs)
     (λ c. search needs)
     (λ c. search parts)
-    (λ c. search needs)
-    (λ c. search needs)
-    (λ c. search needs)
-    (λ c. search needs)
-    (λ c κs. (omega (arith, last-size), search needs))
-    (λ c. omega (arith, c .before .before .before .before .before .before .before .before .before .before .before .before .before .before .before .before .before .good, sum-fits (c .before .before .before .before .before .before .before .before .before .before .before .before .before .before .before .before .before .args .out .now) (c .before .before .before .before .before .before .before .before .before .before .before .condition .last .1 .1 .1 .1 .0) (2 * c .before .before .before .before .before .before .before .before .before .before .before .condition .result .words) _ _ (c .before .before .before .before .before .before .before .before .before .before .before .condition .ensures .0 .size-bounded) (c .before .before .before .before .before .before .before .before .before .before .before .condition .ensures .0 .same-length) (c .before .before .before .before .«unfold» .ensures .size-bounded)))
+    (λ c κs. (omega (arith, last-size, c .before .before .before .before .condition .ensures .1 (c .before .if1 .left)), (search needs, search needs, search needs, place-few _ (c .before .if1 .left), place-room _ _ _ _ _ (c .before .before .before .before .condition .ensures .0) (c .before .if1 .left))))
     (λ c. search needs)
     (λ c. search parts))
     (λ t. headed-copy-lts.spec (headed-copy-with t)
     (headed-copy-at t)
     headed-copy.Post
     (λ c κs. search needs)
-    (λ c κs. search needs)
     (λ c. search needs)
     (λ c. search quantifiers)
-    (λ c. search needs)
-    (λ c. search needs)
-    (λ c. search needs)
-    (λ c. search needs)
-    (λ c κs. (omega (arith, last-size), search needs))
-    (λ c. omega (arith, c .before .before .before .before .before .before .before .before .before .before .before .before .before .before .before .before .before .before .good, sum-fits (c .before .before .before .before .before .before .before .before .before .before .before .before .before .before .before .before .before .before .args .out .now) (c .before .before .before .before .before .before .before .before .before .before .before .put-head .last .1 .1 .1 .0) (2 * c .before .before .before .before .before .before .before .before .before .before .before .put-head .result .words) _ _ (c .before .before .before .before .before .before .before .before .before .before .before .put-head .ensures .size-bounded) (c .before .before .before .before .before .before .before .before .before .before .before .put-head .ensures .same-length) (c .before .before .before .before .copy .ensures .size-bounded)))
+    (λ c κs. (omega (arith, last-size), (search needs, search needs, search needs, place-few _ (c .before .if1 .left), place-room _ _ _ _ _ (c .before .before .before .before .put-head .ensures) (c .before .if1 .left))))
     (λ c. search needs)
     (λ c. search quantifiers))
     (λ t. joined-lts.spec (joined-with t)
     (joined-at t)
     joined.Post
     (λ c κs. search needs)
-    (λ c κs. search needs)
     (λ c. search parts)
     (λ c. search needs)
     (λ c. mask-taken (c .before .before .last .result .now) _ (c .before .if1 .left))
-    (λ c κs. search needs)
-    (λ c κs. search needs)
+    (λ c κs. (omega (arith, last-size), search needs, search needs))
     (λ c. search needs)
     (λ c. search parts)
-    (λ c. search needs)
-    (λ c. search needs)
-    (λ c. search needs)
-    (λ c. search needs)
-    (λ c κs. (omega (arith, last-size), search needs))
-    (λ c. omega (arith, c .before .before .before .before .before .before .before .before .before .before .before .before .before .before .before .before .before .before .before .before .good, sum-fits (c .before .before .before .before .before .before .before .before .before .before .before .before .before .before .before .before .before .before .before .before .args .out .now) (c .before .before .before .before .before .before .before .before .before .before .before .put-head .last .1 .1 .1 .0) (2 * c .before .before .before .before .before .before .before .before .before .before .before .put-head .result .words) _ _ (c .before .before .before .before .before .before .before .before .before .before .before .put-head .ensures .size-bounded) (c .before .before .before .before .before .before .before .before .before .before .before .put-head .ensures .same-length) (c .before .before .before .before .two-terms .ensures .size-bounded)))
+    (λ c κs. (omega (arith, last-size), (search needs, search needs, search needs, place-few _ (c .before .if2 .left), place-room _ _ _ _ _ (c .before .before .before .before .put-head .ensures) (c .before .if2 .left))))
     (λ c. search needs)
     (λ c. search parts))
     (λ t. over-lts.spec (over-with t)
@@ -184,11 +149,8 @@ pub +body+call+copies+copy+guarded+headed-copy+joined+over+starred+two-terms+unf
     over.Post
     (λ c κs. search needs)
     (λ c. search needs)
-    (λ c κs. search needs)
     (λ c. search quantifiers)
-    (λ c κs. search needs)
     (λ c. search quantifiers)
-    (λ c κs. search needs)
     (λ c κs. search needs)
     (λ c κs. search needs)
     (λ c. search quantifiers)
@@ -196,7 +158,7 @@ pub +body+call+copies+copy+guarded+headed-copy+joined+over+starred+two-terms+unf
     (λ c. search needs)
     (λ c. search needs)
     (λ c. search needs)
-    (λ c κs. (omega (arith, last-size), search needs))
+    (λ c κs. (omega (arith, last-size), (search needs, search needs, search needs, search needs, omega (arith, last-size), search needs, search needs)))
     (λ c. search needs)
     (λ c. search quantifiers))
     (λ t. starred-lts.spec (starred-with t)
@@ -204,15 +166,9 @@ pub +body+call+copies+copy+guarded+headed-copy+joined+over+starred+two-terms+unf
     starred.Post
     (λ c. search needs)
     (λ c κs. search needs)
-    (λ c κs. search needs)
     (λ c. search needs)
     (λ c. search parts)
-    (λ c. search needs)
-    (λ c. search needs)
-    (λ c. search needs)
-    (λ c. search needs)
-    (λ c κs. (omega (arith, last-size), search needs))
-    (λ c. omega (arith, c .before .before .before .before .before .before .before .before .before .before .before .before .before .before .before .before .before .before .good, sum-fits (c .before .before .before .before .before .before .before .before .before .before .before .before .before .before .before .before .before .before .args .out .now) (c .before .before .before .before .before .before .before .before .before .before .before .put-head .last .1 .1 .1 .0) (2 * c .before .before .before .before .before .before .before .before .before .before .before .put-head .result .words) _ _ (c .before .before .before .before .before .before .before .before .before .before .before .put-head .ensures .size-bounded) (c .before .before .before .before .before .before .before .before .before .before .before .put-head .ensures .same-length) (c .before .before .before .before .«unfold» .ensures .size-bounded)))
+    (λ c κs. (omega (arith, last-size), (search needs, search needs, search needs, place-few _ (c .before .if1 .left), place-room _ _ _ _ _ (c .before .before .before .before .put-head .ensures) (c .before .if1 .left))))
     (λ c. search needs)
     (λ c. search parts))
     (λ t. two-terms-lts.spec
@@ -220,40 +176,31 @@ pub +body+call+copies+copy+guarded+headed-copy+joined+over+starred+two-terms+unf
     (two-terms-at t)
     two-terms.Post
     (λ c κs. (omega (arith, last-size), search needs))
-    (λ c κs. search needs)
-    (λ c. search needs)
-    (λ c. search parts)
-    (λ c κs. search needs)
     (λ c. search needs)
     (λ c. search parts)
     (λ c. search needs)
-    (λ c. search needs)
-    (λ c. search needs)
-    (λ c. search needs)
-    (λ c κs. (omega (arith, last-size), search needs))
-    (λ c. omega (arith, c .before .before .before .before .before .before .before .before .before .before .before .before .before .before .before .before .before .before .good, sum-fits (c .before .before .before .before .before .before .before .before .before .before .before .before .before .before .before .before .before .before .args .out .now) (c .before .before .before .before .before .before .before .before .before .before .before .before .«unfold» .last .1 .1 .1 .1 .1 .0) (2 * c .before .before .before .before .before .before .before .before .before .before .before .before .«unfold» .result .words) _ _ (c .before .before .before .before .before .before .before .before .before .before .before .before .«unfold» .ensures .size-bounded) (c .before .before .before .before .before .before .before .before .before .before .before .before .«unfold» .ensures .same-length) (c .before .before .before .before .unfold2 .ensures .size-bounded)))
+    (λ c. search parts)
+    (λ c κs. (omega (arith, last-size), (search needs, search needs, search needs, place-few _ (c .before .before .if1 .left), term-room _ _ _ _ _ _ _ _ _ (c .before .before .before .before .before .«unfold» .ensures) (c .before .before .if1 .left))))
     (λ c. search needs)
     (λ c. search parts))
     λ t. unfold-lts.spec (unfold-with t)
     (unfold-at t)
     unfold.Post
     (λ c κs. search needs)
-    (λ c κs. search needs)
     (λ c. search terms)
     (λ c. search needs)
     (λ c. search needs)
     (λ c. search needs)
+    (λ c κs. (omega (arith, last-size), search needs, search needs))
     (λ c κs. search needs)
-    (λ c κs. search needs)
+    (λ c κs. (omega (arith, last-size), search needs))
+    (λ c κs. (omega (arith, last-size), search needs))
+    (λ c κs. (omega (arith, last-size), (search needs, search needs, search needs, omega (arith, last-size), search needs, search needs)))
+    (λ c κs. (omega (arith, last-size), search needs))
+    (λ c κs. (omega (arith, last-size), (search needs, search needs, search needs, omega (arith, last-size), search needs, search needs)))
     (λ c κs. (omega (arith, last-size), search needs))
     (λ c κs. (omega (arith, last-size), search needs))
     (λ c κs. (omega (arith, last-size), search needs))
-    (λ c κs. (omega (arith, last-size), search needs))
-    (λ c κs. (omega (arith, last-size), search needs))
-    (λ c κs. (omega (arith, last-size), search needs))
-    (λ c κs. (omega (arith, last-size), search needs))
-    (λ c κs. (omega (arith, last-size), search needs))
-    (λ c κs. search needs)
     (λ c. search needs)
     (λ c. search terms)
     (λ c. search needs)

@@ -1,5 +1,5 @@
 -- The measures of the cycle, by which a call (a lower process) and an operand (fewer words left) fall; and the contracts that each member reads.
-use Prim.Native.Nat.{_*_}
+-- Document 01, "Unfolding, size and breadth".
 use Prim.Native.Nat.{_+_, _-_, _*_, min}
 use mathlib.Core.List.{_∷_}
 use lib.ListN.{length}
@@ -36,24 +36,23 @@ use Rattle.unfold.proofs.starred.Reads as starred
 use Rattle.unfold.proofs.starred.Kinds as starred-kinds
 use Rattle.unfold.proofs.+body+call+copies+copy+guarded+headed_copy+joined+over+starred+two_terms+unfold.Lts-starred as starred-lts
 use Rattle.unfold.proofs.two_terms.Reads as two-terms
+use Rattle.unfold.proofs.unfold.Reads as «unfold»
 use Rattle.unfold.proofs.two_terms.Kinds as two-terms-kinds
 use Rattle.unfold.proofs.+body+call+copies+copy+guarded+headed_copy+joined+over+starred+two_terms+unfold.Lts-two_terms as two-terms-lts
-use Rattle.unfold.proofs.unfold.Reads as «unfold»
 use Rattle.unfold.proofs.unfold.Kinds as unfold-kinds
 use Rattle.unfold.proofs.+body+call+copies+copy+guarded+headed_copy+joined+over+starred+two_terms+unfold.Lts-unfold as unfold-lts
 use Rattle.arguments.proofs.entry.Reads as entry-reads
 use Rattle.arguments.proofs.row_at.Reads as row-at-reads
 use Rattle.arguments.proofs.size_of.Reads as size-of-reads
 use Rattle.arguments.proofs.wide32.Reads as wide32-reads
+use Rattle.arguments.proofs.with.Reads as with-reads
 use Rattle.scan.proofs.first.Reads as first-reads
 use Rattle.scan.proofs.last.Reads as last-reads
 use Rattle.scan.proofs.wide.Reads as wide-reads
 use Rattle.unfold.proofs.rows.action.Reads as action-reads
 use Rattle.unfold.proofs.rows.condition.Reads as condition-reads
-use Rattle.unfold.proofs.rows.none.Reads as none-reads
 use Rattle.unfold.proofs.rows.put_head.Reads as put-head-reads
 use Rattle.unfold.proofs.values.arguments_of.Reads as arguments-of-reads
-use Rattle.arguments.proofs.with.Reads as with-reads
 
 abbrev pub μ-body : Measures 4 body-kinds.ps ℕ
 μ-body κs a = a .1 .1 .1 .1 .0 * 262144 + 262143
@@ -158,40 +157,40 @@ abbrev pub unfold-below : ℕ → In 4 unfold-kinds.ps
 unfold-below t = and 4 unfold-kinds.ps (falls 4 unfold-kinds.ps _<_ μ-unfold t) unfold.Pre
 
 abbrev pub body-with : ℕ → body-lts.Claims
-body-with t = (last-reads.Asked, last-reads.Learnt, row-at-reads.Asked, row-at-reads.Learnt, none-reads.Asked, none-reads.Learnt, arguments-of-reads.Asked, arguments-of-reads.Learnt, entry-reads.Asked, entry-reads.Learnt, wide32-reads.Asked, wide32-reads.Learnt, unfold-below t, unfold.Post)
+body-with t = (last-reads.Asked, last-reads.Learnt, row-at-reads.Asked, row-at-reads.Learnt, arguments-of-reads.Asked, arguments-of-reads.Learnt, entry-reads.Asked, entry-reads.Learnt, wide32-reads.Asked, wide32-reads.Learnt, unfold-below t, unfold.Post)
 
 abbrev pub call-with : ℕ → call-lts.Claims
-call-with t = (last-reads.Asked, last-reads.Learnt, none-reads.Asked, none-reads.Learnt, first-reads.Asked, first-reads.Learnt, body-below t, body.Post)
+call-with t = (last-reads.Asked, last-reads.Learnt, first-reads.Asked, first-reads.Learnt, body-below t, body.Post)
 
 abbrev pub copies-with : ℕ → copies-lts.Claims
-copies-with t = (wide-reads.Asked, wide-reads.Learnt, headed-copy-below t, headed-copy.Post, none-reads.Asked, none-reads.Learnt, copy-below t, copy.Post)
+copies-with t = (wide-reads.Asked, wide-reads.Learnt, headed-copy-below t, headed-copy.Post, copy-below t, copy.Post)
 
 abbrev pub copy-with : ℕ → copy-lts.Claims
 copy-with t = (with-reads.Asked, with-reads.Learnt, unfold-below t, unfold.Post)
 
 abbrev pub guarded-with : ℕ → guarded-lts.Claims
-guarded-with t = (condition-reads.Asked, condition-reads.Learnt, none-reads.Asked, none-reads.Learnt, unfold-below t, unfold.Post)
+guarded-with t = (condition-reads.Asked, condition-reads.Learnt, unfold-below t, unfold.Post)
 
 abbrev pub headed-copy-with : ℕ → headed-copy-lts.Claims
-headed-copy-with t = (put-head-reads.Asked, put-head-reads.Learnt, none-reads.Asked, none-reads.Learnt, copy-below t, copy.Post)
+headed-copy-with t = (put-head-reads.Asked, put-head-reads.Learnt, copy-below t, copy.Post)
 
 abbrev pub joined-with : ℕ → joined-lts.Claims
-joined-with t = (last-reads.Asked, last-reads.Learnt, none-reads.Asked, none-reads.Learnt, put-head-reads.Asked, put-head-reads.Learnt, two-terms-below t, two-terms.Post)
+joined-with t = (last-reads.Asked, last-reads.Learnt, put-head-reads.Asked, put-head-reads.Learnt, two-terms-below t, two-terms.Post)
 
 abbrev pub over-with : ℕ → over-lts.Claims
-over-with t = (last-reads.Asked, last-reads.Learnt, none-reads.Asked, none-reads.Learnt, first-reads.Asked, first-reads.Learnt, size-of-reads.Asked, size-of-reads.Learnt, copies-below t, copies.Post)
+over-with t = (last-reads.Asked, last-reads.Learnt, first-reads.Asked, first-reads.Learnt, size-of-reads.Asked, size-of-reads.Learnt, copies-below t, copies.Post)
 
 abbrev pub starred-with : ℕ → starred-lts.Claims
-starred-with t = (put-head-reads.Asked, put-head-reads.Learnt, none-reads.Asked, none-reads.Learnt, unfold-below t, unfold.Post)
+starred-with t = (put-head-reads.Asked, put-head-reads.Learnt, unfold-below t, unfold.Post)
 
 abbrev pub two-terms-with : ℕ → two-terms-lts.Claims
-two-terms-with t = (unfold-below t, unfold.Post, none-reads.Asked, none-reads.Learnt)
+two-terms-with t = (unfold-below t, unfold.Post)
 
 abbrev pub unfold-with : ℕ → unfold-lts.Claims
-unfold-with t = (last-reads.Asked, last-reads.Learnt, none-reads.Asked, none-reads.Learnt, put-head-reads.Asked, put-head-reads.Learnt, action-reads.Asked, action-reads.Learnt, joined-below t, joined.Post, starred-below t, starred.Post, guarded-below t, guarded.Post, over-below t, over.Post, call-below t, call.Post)
+unfold-with t = (last-reads.Asked, last-reads.Learnt, put-head-reads.Asked, put-head-reads.Learnt, action-reads.Asked, action-reads.Learnt, joined-below t, joined.Post, starred-below t, starred.Post, guarded-below t, guarded.Post, over-below t, over.Post, call-below t, call.Post)
 
 abbrev pub copies-Inv-loop : copies-lts.InvT-loop
-copies-Inv-loop t tb vars n i size c ms out₀ x₀ w₀ out x w = Putting (Copies t tb n i vars (c ∷ ms) 0 (size - 1)) (Copies t tb n i vars (c ∷ ms) x (size - 1 - x)) w out₀ out
+copies-Inv-loop t tb vars n i size c ms out₀ at x₀ w₀ out x w = Putting (Copies t tb n i vars (c ∷ ms) 0 (size - 1)) (Copies t tb n i vars (c ∷ ms) x (size - 1 - x)) at w out₀ out
 
 abbrev pub copies-μ-loop : copies-lts.MeasureT-loop
-copies-μ-loop t tb vars n i size c ms out₀ x₀ w₀ out x w = size - x
+copies-μ-loop t tb vars n i size c ms out₀ at x₀ w₀ out x w = size - x

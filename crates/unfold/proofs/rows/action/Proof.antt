@@ -1,7 +1,5 @@
-use Rattle.unfold.specs.PutsLaws.{sum-fits}
-use Prim.Native.Nat.{_*_}
-use Rattle.unfold.proofs.RowCases.{actions, one-taken}
-use native.Mathlib.Omega.{arith}
+use Rattle.unfold.proofs.RowCases.{actions, one-taken, last-size}
+use Rattle.unfold.specs.PutsLaws.{place-few, place-room}
 use native.Mathlib.Omega.{arith}
 use borrow.Author.Needs.{needs}
 use Rattle.unfold.proofs.rows.action.Statement.{statement}
@@ -12,23 +10,16 @@ action-spec =
     tie.close
     (tie.spec
     (λ c κs. search needs)
-    (λ c κs. search needs)
     (λ c. search actions)
+    (λ c. search needs)
     (λ c. one-taken (c .before .before .last .result .now) (c .before .if1 .left))
-    (λ c. search needs)
-    (λ c κs. search needs)
-    (λ c κs. search needs)
+    (λ c κs. (omega (arith, last-size), omega arith, omega arith))
     (λ c. search needs)
     (λ c. search actions)
     (λ c κs. search needs)
     (λ c. search needs)
     (λ c. search needs)
     (λ c κs. search needs)
-    (λ c. search needs)
-    (λ c. search needs)
-    (λ c. search needs)
-    (λ c. search needs)
-    (λ c κs. (search needs, omega arith))
-    (λ c. omega (arith, c .before .before .before .before .before .before .before .before .before .before .before .before .before .before .before .before .before .before .before .before .before .before .good, sum-fits (c .before .before .before .before .before .before .before .before .before .before .before .before .before .before .before .before .before .before .before .before .before .before .args .out .now) (c .before .before .before .before .before .before .before .before .before .before .before .before .before .put-head .last .1 .1 .1 .0) (2 * c .before .before .before .before .before .before .before .before .before .before .before .before .before .put-head .result .words) _ _ (c .before .before .before .before .before .before .before .before .before .before .before .before .before .put-head .ensures .size-bounded) (c .before .before .before .before .before .before .before .before .before .before .before .before .before .put-head .ensures .same-length) (c .before .before .before .before .put-row .ensures .0 .size-bounded)))
+    (λ c κs. (search needs, omega arith, place-few _ (c .before .before .before .if2 .left), place-room _ _ _ _ _ (c .before .before .before .before .before .before .put-head .ensures) (c .before .before .before .if2 .left)))
     (λ c. search needs)
     (λ c. search actions))
