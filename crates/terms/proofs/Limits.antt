@@ -13,8 +13,7 @@ use Rattle.eb3.specs.Measures.{sat, Measure}
 use Rattle.eb3.specs.Reading.{Read, refused, taken}
 use Rattle.eb3.specs.TermReading.{read-term, term-alone, given-term}
 use Rattle.eb3.specs.Laws.Sizes.{size-below-reach}
-use Rattle.scan.specs.Checking.{last-of}
-use Rattle.scan.specs.Laws.{nil-form, last-all}
+use Rattle.scan.specs.Laws.{nil-form}
 use Rattle.weights.specs.Weighing.{cap}
 use Rattle.arguments.specs.Tables.{declared}
 use Rattle.terms.specs.declared.Given.{Given}
@@ -58,10 +57,7 @@ module _ (T s : List ℕ) where
       go (taken E []) e = alone-far E (omega (arith, taken-size T s E [] e, size-below-reach 1 E)) ∙ sym (by-reading (taken E []) e)
       go (taken E (w ∷ u)) e = sym (by-reading (taken E (w ∷ u)) e)
 
-  module _ (p : ℕ) (fits : length s ≤ 8192) (f : p ≡ weighed-running (read-term (declared T) (last-of (length s) s))) where
-    e : p ≡ weighed-running (read-term (declared T) s)
-    e = f ∙ ap (λ u. weighed-running (read-term (declared T) u)) (last-all (length s) s (omega arith))
-
+  module _ (p : ℕ) (fits : length s ≤ 8192) (e : p ≡ weighed-running (read-term (declared T) s)) where
     pub given-none : p ≡ wrong → Wrong ≡ given (given-term edition-1 (declared T) s)
     unfolding given
     given-none h =

@@ -3,7 +3,7 @@
 use Prim.Native.Nat.{ℕ, zero, suc, _+_, _-_, _%_, _≤_, _<_}
 use native.Mathlib.Numerals.{add-one}
 use native.Mathlib.Omega.{arith}
-use mathlib.Core.Path.{_≡_, refl, sym, ap, _∙_, subst}
+use mathlib.Core.Path.{_≡_, refl, sym, ap, _∙_}
 use mathlib.Core.Bool.{Bool, true, false}
 use mathlib.Core.List.{List, [], _∷_}
 use lib.Dec.{eqb}
@@ -16,12 +16,11 @@ use Rattle.eb3.specs.Measures.{sat, star-of, measure-running}
 use Rattle.eb3.specs.Reading.{Read, refused, taken, pick, giving}
 use Rattle.eb3.specs.TermReading.{TermKind, term-kind, read-term}
 use Rattle.scan.specs.Checking.{last-of}
-use Rattle.scan.specs.Laws.{tail-at}
 use Rattle.weights.specs.Weighing.{cap}
 use Rattle.arguments.specs.Tables.{declared}
 use Rattle.terms.specs.Given.{wrong, weighed-running}
 use Rattle.terms.specs.Answers.{packed, unpacked, Answer, stars-of, starred-of, stars-in-front, InFront}
-use Rattle.terms.specs.Laws.{last-length, last-last, term-case}
+use Rattle.terms.specs.Laws.{term-case}
 use Rattle.terms.specs.AnswerLaws.{refused-wrong, Got, got, none-read}
 
 -- ── counting ──
@@ -92,50 +91,42 @@ unfolding stars-around stars-of measure-running
 stars-measured zero E = refl
 stars-measured (suc k) E = ap (star-of (sat cap)) (stars-measured k E)
 
--- s is the words to be read, the last n of t, with k stars in front
-module _ (T t : List ℕ) (n : ℕ) (s : List ℕ) (k p : ℕ) (fits : length t ≤ 8192) (short : n ≤ length t) (l : s ≡ last-of n t) (i : InFront s k) where
-  here : length s ≡ n
-  here = ap length l ∙ last-length n t short
+-- k stars stand in front of t, and r is what stands behind them
+module _ (T t : List ℕ) (k : ℕ) (r : List ℕ) (p : ℕ) (fits : length t ≤ 8192) (i : InFront t k) (l : r ≡ last-of (length t - k) t) (e : p ≡ weighed-running (read-term (declared T) r)) where
+  f : k ≡ stars-in-front t
+  f = i .front
 
-  pub star-left : k ≤ n
-  star-left = omega (arith, i .short, here)
+  behind-stars : r ≡ drop k t
+  unfolding last-of
+  behind-stars =
+      let n : length t - (length t - k) ≡ k = omega arith in
+      l ∙ ap (λ j. drop j t) n
 
-  long : length (last-of (n - k) t) ≡ n - k
-  long = last-length (n - k) t (omega arith)
+  long : length r ≡ length t - k
+  long = ap length behind-stars ∙ length-drop k t
 
-  few : length (last-of (n - k) t) ≤ 8192
-  few = omega (arith, long)
-
-  behind-stars : last-of (n - k) t ≡ drop k s
-  behind-stars = sym (last-last (n - k) n t short (omega arith)) ∙ ap (last-of (n - k)) (sym l) ∙ at-end
-    where
-      at-end : last-of (n - k) s ≡ drop k s
-      at-end = ap (λ j. last-of j s) (ap (λ j. j - k) (sym here) ∙ sym (length-drop k s)) ∙ tail-at (drop k s) s (k, refl)
-
-  all-read : giving Star (read-term (declared T) (last-of n t)) ≡ stars-over (suc k) (read-term (declared T) (last-of (n - k) t))
+  all-read : giving Star (read-term (declared T) t) ≡ stars-over (suc k) (read-term (declared T) r)
   unfolding stars-over
-  all-read = ap (λ u. giving Star (read-term (declared T) u)) (sym l)
-      ∙ ap (giving Star) (stars-read (declared T) s ∙ (λ j. stars-over (sym (i .front) j) (read-term (declared T) (drop (sym (i .front) j) s))) ∙ ap (λ u. stars-over k (read-term (declared T) u)) (sym behind-stars))
+  all-read = ap (giving Star) (stars-read (declared T) t ∙ (λ j. stars-over (sym f j) (read-term (declared T) (drop (sym f j) t))) ∙ ap (λ u. stars-over k (read-term (declared T) u)) (sym behind-stars))
 
-  module _ (e : p ≡ weighed-running (read-term (declared T) (last-of (n - k) t))) where
-    pub star-none : p ≡ wrong → wrong ≡ weighed-running (giving Star (read-term (declared T) (last-of n t)))
-    star-none h =
-        let g = none-read T (last-of (n - k) t) p few e h in
-        refused-wrong _ (g .0) (all-read ∙ ap (stars-over (suc k)) (g .1) ∙ stars-refused (suc k) (g .0))
+  pub star-none : p ≡ wrong → wrong ≡ weighed-running (giving Star (read-term (declared T) t))
+  star-none h =
+      let g = none-read T r p (omega (arith, long)) e h in
+      refused-wrong _ (g .0) (all-read ∙ ap (stars-over (suc k)) (g .1) ∙ stars-refused (suc k) (g .0))
 
-    module _ (h : p ≡ wrong → ⊥) where
-      under : Got T (last-of (n - k) t) p
-      under = got T (last-of (n - k) t) p few e h
+  module _ (h : p ≡ wrong → ⊥) where
+    under : Got T r p
+    under = got T r p (omega (arith, long)) e h
 
-      pub star-fits : Answer (n - k) p
-      star-fits = subst (λ j. Answer j p) long (under .answer)
+    pub star-fits : Answer (length t - k) p
+    star-fits = rw (← long) (under .answer)
 
-      pub star-in : (x : ℕ) → x ≡ starred-of (k + 1) (n - k) p → x ≡ weighed-running (giving Star (read-term (declared T) (last-of n t)))
-      unfolding starred-of weighed-running
-      star-in x g =
-          let o = under in
-          let m : unpacked (n - k - p % 65536) p ≡ measure-running (sat cap) 1 (o .value) = (λ j. unpacked (sym long j - p % 65536) p) ∙ o .measured in
-          let z : giving Star (read-term (declared T) (last-of n t)) ≡ taken (stars-around (suc k) (o .value)) (o .rest) = all-read ∙ ap (stars-over (suc k)) (o .read) ∙ stars-taken (suc k) (o .value) (o .rest) in
-          g ∙ (λ j. packed (o .left j) (stars-of (add-one k j) (m j))) ∙ (λ j. packed (length (o .rest)) (sym (stars-measured (suc k) (o .value)) j)) ∙ sym (ap weighed-running z)
+    pub star-in : (x : ℕ) → x ≡ starred-of (k + 1) (length t - k) p → x ≡ weighed-running (giving Star (read-term (declared T) t))
+    unfolding starred-of weighed-running
+    star-in x g =
+        let o = under in
+        let m : unpacked (length t - k - p % 65536) p ≡ measure-running (sat cap) 1 (o .value) = (λ j. unpacked (sym long j - p % 65536) p) ∙ o .measured in
+        let z : giving Star (read-term (declared T) t) ≡ taken (stars-around (suc k) (o .value)) (o .rest) = all-read ∙ ap (stars-over (suc k)) (o .read) ∙ stars-taken (suc k) (o .value) (o .rest) in
+        g ∙ (λ j. packed (o .left j) (stars-of (add-one k j) (m j))) ∙ (λ j. packed (length (o .rest)) (sym (stars-measured (suc k) (o .value)) j)) ∙ sym (ap weighed-running z)
 
 pub ruleset starred-terms = (star-none, star-fits, star-in)

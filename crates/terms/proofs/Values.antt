@@ -14,7 +14,6 @@ use borrow.Author.Tests.{eq-eqb, ne-eqb, lt-ltb, le-ltb}
 use Rattle.eb3.specs.RuleSets.{domain-size, sizes-of}
 use Rattle.eb3.specs.Reading.{Read, refused, taken, pick, giving, then, both, number-in}
 use Rattle.eb3.specs.TermReading.{element-of, elements-of}
-use Rattle.scan.specs.Checking.{last-of}
 use Rattle.arguments.specs.Tables.{declared}
 use Rattle.terms.specs.Given.{wrong}
 use Rattle.terms.specs.Answers.{left-of}
@@ -73,22 +72,21 @@ pub record Met (T ds s : List ℕ) (i : ℕ) : Type 0 where
   pub room : 2 * length ds ≤ length s
   pub same : words-left T ds s ≡ words-left T (drop i ds) (drop (2 * i) s)
 
--- s is the words to be read, the last n of t
-module _ (T ds t : List ℕ) (n : ℕ) (s : List ℕ) (l : s ≡ last-of n t) where
-  pub elements-few : length s / 2 < length ds → wrong ≡ left-of (elements-of 1 (sizes-of (declared T) ds) (last-of n t))
-  elements-few h = few-words (sizes-of (declared T) ds) s (omega (arith, length-map ds (domain-size (declared T)))) ∙ ap (words-left T ds) l
+module _ (T ds s : List ℕ) where
+  pub elements-few : length s / 2 < length ds → wrong ≡ left-of (elements-of 1 (sizes-of (declared T) ds) s)
+  elements-few h = few-words (sizes-of (declared T) ds) s (omega (arith, length-map ds (domain-size (declared T))))
 
   pub elements-start : length ds ≤ length s / 2 → Met T ds s 0
   elements-start h = record { within = omega arith; room = omega arith; same = refl }
 
   module _ (i : ℕ) (m : Met T ds s i) where
-    pub elements-all : length ds ≤ i → length s - 2 * length ds ≡ left-of (elements-of 1 (sizes-of (declared T) ds) (last-of n t))
+    pub elements-all : length ds ≤ i → length s - 2 * length ds ≡ left-of (elements-of 1 (sizes-of (declared T) ds) s)
     unfolding elements-of left-of
     elements-all h =
         let e : i ≡ length ds = omega (arith, m .within) in
         let a : words-left T ds s ≡ length (drop (2 * i) s) = m .same ∙ ap (λ es. words-left T es (drop (2 * i) s)) (drop-of-length-le ds {i = i} h) in
         let b : length s - 2 * length ds ≡ length (drop (2 * i) s) = omega (arith, length-drop (2 * i) s) in
-        b ∙ sym a ∙ ap (words-left T ds) l
+        b ∙ sym a
 
     module _ (h : i < length ds) where
       two-words : drop (2 * i) s ≡ getD s (2 * i) 0 ∷ getD s (2 * i + 1) 0 ∷ drop (2 * (i + 1)) s
@@ -107,19 +105,19 @@ module _ (T ds t : List ℕ) (n : ℕ) (s : List ℕ) (l : s ≡ last-of n t) wh
           ∙ one-more (domain-size (declared T) (getD ds i 0)) (sizes-of (declared T) (drop (suc i) ds)) (getD s (2 * i) 0) (getD s (2 * i + 1) 0) (drop (2 * (i + 1)) s)
           ∙ (λ j. pick (eqb (getD s (2 * i) 0) 1) (pick (ltb (getD s (2 * i + 1) 0) (sym f j)) (words-left T (drop (sym (add-one i) j) ds) (drop (2 * (i + 1)) s)) wrong) wrong)
 
-      pub elements-other : (getD s (2 * i) 0 ≡ 1 → ⊥) → wrong ≡ left-of (elements-of 1 (sizes-of (declared T) ds) (last-of n t))
+      pub elements-other : (getD s (2 * i) 0 ≡ 1 → ⊥) → wrong ≡ left-of (elements-of 1 (sizes-of (declared T) ds) s)
       elements-other c =
           let k : eqb (getD s (2 * i) 0) 1 ≡ false = ne-eqb (getD s (2 * i) 0) 1 c in
           let x : ℕ = domain-size (declared T) (getD ds i 0) in
-          sym (this-one x refl ∙ ap (λ b. pick b (pick (ltb (getD s (2 * i + 1) 0) x) (words-left T (drop (i + 1) ds) (drop (2 * (i + 1)) s)) wrong) wrong) k) ∙ ap (words-left T ds) l
+          sym (this-one x refl ∙ ap (λ b. pick b (pick (ltb (getD s (2 * i + 1) 0) x) (words-left T (drop (i + 1) ds) (drop (2 * (i + 1)) s)) wrong) wrong) k)
 
       -- d is the domain, x its size and v the value
       module _ (d x v : ℕ) (o : d ≡ getD ds i 0) (f : x ≡ domain-size (declared T) d) (e : v ≡ getD s (2 * i + 1) 0) where
         by-value : (b : Bool) → ltb v x ≡ b → words-left T ds s ≡ pick (eqb (getD s (2 * i) 0) 1) (pick b (words-left T (drop (i + 1) ds) (drop (2 * (i + 1)) s)) wrong) wrong
         by-value b z = this-one x (f ∙ ap (domain-size (declared T)) o) ∙ ap (λ y. pick (eqb (getD s (2 * i) 0) 1) (pick y (words-left T (drop (i + 1) ds) (drop (2 * (i + 1)) s)) wrong) wrong) (ap (λ y. ltb y x) (sym e) ∙ z)
 
-        pub elements-high : x ≤ v → wrong ≡ left-of (elements-of 1 (sizes-of (declared T) ds) (last-of n t))
-        elements-high g = by-tests (eqb (getD s (2 * i) 0) 1) false (words-left T (drop (i + 1) ds) (drop (2 * (i + 1)) s)) (λ y. cc) ∙ sym (by-value false (le-ltb v x g)) ∙ ap (words-left T ds) l
+        pub elements-high : x ≤ v → wrong ≡ left-of (elements-of 1 (sizes-of (declared T) ds) s)
+        elements-high g = by-tests (eqb (getD s (2 * i) 0) 1) false (words-left T (drop (i + 1) ds) (drop (2 * (i + 1)) s)) (λ y. cc) ∙ sym (by-value false (le-ltb v x g))
 
         pub elements-next : getD s (2 * i) 0 ≡ 1 → v < x → Met T ds s (i + 1)
         elements-next c g = record {

@@ -1,14 +1,12 @@
--- Laws of the last words (`last-..`) and of reading running terms, over any rule set: what is left is an end of the words (`term-ends`), and the
--- reader is its own step, since a depth of more codes than words changes nothing (`term-case`).
+-- Laws of reading running terms, over any rule set: what is left is an end of the words (`term-ends`), and the reader is its own step, since a depth
+-- of more codes than words changes nothing (`term-case`).
 -- Document 01, "Unfolding, size and breadth"; refusal 10.
-use Prim.Native.Nat.{ℕ, zero, suc, _+_, _-_, _≤_, _<_}
+use Prim.Native.Nat.{ℕ, zero, suc, _≤_}
 use native.Mathlib.Nat.{le-refl, le-trans, le-of-suc-le-suc, not-suc-le-zero}
-use native.Mathlib.Omega.{arith}
-use mathlib.Core.Path.{_≡_, refl, sym, ap, _∙_}
+use mathlib.Core.Path.{_≡_, refl, ap, _∙_}
 use mathlib.Core.List.{List, [], _∷_}
 use lib.Dec.{eqb, ltb}
-use lib.ListN.{length, drop, getD, length-drop}
-use lib.Seq.{drop-cons, drop-drop}
+use lib.ListN.{length, drop, getD}
 use Rattle.eb3.specs.Refusal
 use Rattle.eb3.specs.Scopes.{guard-scope}
 use Rattle.eb3.specs.Terms.{Term, Star, Parallel, Guard}
@@ -16,38 +14,10 @@ use Rattle.eb3.specs.RuleSets.{RuleSet, sizes-of, label, attributes}
 use Rattle.eb3.specs.Reading.{Reader, refused, taken, pick, giving, then, both, number-in}
 use Rattle.eb3.specs.ExpressionReading.{read-cond}
 use Rattle.eb3.specs.TermReading.{mask-of, element-of, elements-of, perform, TermKind, term-kind, action-of, term-by, terms, read-term}
-use Rattle.scan.specs.Checking.{last-of}
-use Rattle.scan.specs.Laws.{Tail, Ends, Same, tail-here, tail-on, tail-at, giving-fine, then-fine, both-ends, step-fine, pick-fine, both-same, by-number-ends}
+use Rattle.scan.specs.Laws.{Ends, Same, tail-here, giving-fine, then-fine, both-ends, step-fine, pick-fine, both-same, by-number-ends}
 use Rattle.scan.specs.RowLaws.{number-in-ends}
 use Rattle.grammar.specs.Laws.{cond-ends}
 use Rattle.arguments.specs.TableLaws.{mask-ends}
-
--- ── the last words ──
-
-pub last-length : (n : ℕ) (t : List ℕ) → n ≤ length t → length (last-of n t) ≡ n
-unfolding last-of
-last-length n t h = length-drop (length t - n) t ∙ omega arith
-
-pub last-last : (m n : ℕ) (t : List ℕ) → n ≤ length t → m ≤ n → last-of m (last-of n t) ≡ last-of m t
-unfolding last-of
-last-last m n t h l =
-    let e : length t - n + (length (drop (length t - n) t) - m) ≡ length t - m = omega (arith, length-drop (length t - n) t) in
-    drop-drop (length (drop (length t - n) t) - m) (length t - n) t ∙ ap (λ j. drop j t) e
-
--- The first of the last n words, and those behind it.
-pub last-front : (n : ℕ) (t : List ℕ) → (n ≡ 0 → ⊥) → n ≤ length t → last-of n t ≡ getD t (length t - n) 0 ∷ last-of (n - 1) t
-unfolding last-of
-last-front n t z h =
-    let i : length t - n < length t = omega arith in
-    let e : suc (length t - n) ≡ length t - (n - 1) = omega arith in
-    drop-cons t (length t - n) 0 i ∙ ap (λ j. getD t (length t - n) 0 ∷ drop j t) e
-
--- However many of the words were asked for.
-pub last-next : (n : ℕ) (s t : List ℕ) → s ≡ last-of n t → last-of (length s - 1) t ≡ drop 1 s
-unfolding last-of
-last-next n s t e =
-    let k : Tail (drop 1 s) t = tail-on (drop 1 s) s t (length t - n, e) (1, refl) in
-    ap (λ j. last-of j t) (sym (length-drop 1 s)) ∙ tail-at (drop 1 s) t k
 
 -- ── ends ──
 

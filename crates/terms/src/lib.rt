@@ -1,6 +1,5 @@
 // The check of a given running term, with its reach and breadth in the same pass (document 01, "Unfolding, size and breadth";
-// refusal 10). An answer is one number, and the words are lent whole with the number of those still to be read: so no level of nested
-// terms stores an answer or a slice in memory.
+// refusal 10). An answer is one number, so that no level of nested terms stores one in memory.
 ghost use mathlib.Core.Path.{_≡_};
 ghost use Prim.Native.Nat.{_/_, _%_, _≤_};
 ghost use lib.ListN.{length, getD};
@@ -9,7 +8,6 @@ ghost use Rattle.eb3.specs.Terms.{Star};
 ghost use Rattle.eb3.specs.RuleSets.{sizes-of};
 ghost use Rattle.eb3.specs.Reading.{giving, both};
 ghost use Rattle.eb3.specs.TermReading.{elements-of, TermKind, action-of, term-by, read-term, given-term};
-ghost use Rattle.scan.specs.Checking.{last-of};
 ghost use Rattle.weights.specs.Weighing.{measure};
 ghost use Rattle.arguments.specs.Tables.{declared};
 ghost use Rattle.terms.specs.Given.{weighed-running, given};
@@ -24,6 +22,7 @@ use arguments::wide32;
 use grammar::Scope;
 use grammar::check_cond;
 use scan::Checked;
+use scan::behind;
 use scan::last;
 use scan::wide;
 use weights::Limits;
@@ -135,42 +134,39 @@ fn under_stars(k: usize, n: usize, p: usize) -> usize
 // ── terms ──
 
 // An element of each of some domains, code 1 and a value: how many words are left.
-fn elements(t: &[u16], n: usize, tb: &[u32], ds: &[u32]) -> usize
-    requires { ⌜ length (now t) ≤ 8192 ⌝ }
-    ensures { λ r. ⌜ r ≡ left-of (elements-of 1 (sizes-of (declared (now (tb .entry))) (now (ds .entry))) (last-of n (now (t .entry)))) ⌝ }
+fn elements(t: &[u16], tb: &[u32], ds: &[u32]) -> usize
+    ensures { λ r. ⌜ r ≡ left-of (elements-of 1 (sizes-of (declared (now (tb .entry))) (now (ds .entry))) (now (t .entry))) ⌝ }
 {
-    let s = last(t, n);
-    if s.len() / 2 < ds.len() {
+    if t.len() / 2 < ds.len() {
         return WRONG;
     }
     let mut i = 0;
     while i < ds.len() {
-        if s[2 * i] != 1 {
+        if t[2 * i] != 1 {
             return WRONG;
         }
-        if size_of(tb, wide32(ds[i])) <= wide(s[2 * i + 1]) {
+        if size_of(tb, wide32(ds[i])) <= wide(t[2 * i + 1]) {
             return WRONG;
         }
         i = i + 1;
     }
-    s.len() - 2 * ds.len()
+    t.len() - 2 * ds.len()
 }
 
 // A label and its arguments.
-fn action(t: &[u16], n: usize, tb: &[u32]) -> usize
+fn action(t: &[u16], tb: &[u32]) -> usize
     requires { ⌜ length (now t) ≤ 8192 ⌝ }
-    ensures { λ r. ⌜ r ≡ weighed-running (action-of (declared (now (tb .entry))) (last-of n (now (t .entry)))) ⌝ }
+    ensures { λ r. ⌜ r ≡ weighed-running (action-of (declared (now (tb .entry))) (now (t .entry))) ⌝ }
 {
-    let s = last(t, n);
-    if s.len() == 0 {
+    if t.len() == 0 {
         return WRONG;
     }
-    let l = wide(s[0]);
+    let l = wide(t[0]);
     if labels(tb) <= l {
         return WRONG;
     }
     let ds = row_at(tb, 18 + 3 * l);
-    let m = elements(t, s.len() - 1, tb, ds);
+    let m = elements(behind(t), tb, ds);
     if m == WRONG {
         return WRONG;
     }
@@ -192,92 +188,93 @@ fn stars(t: &[u16]) -> usize
 }
 
 // A term with a star in front: the words behind that star.
-fn starred(t: &[u16], n: usize, tb: &[u32]) -> usize
-    requires { ⌜ (length (now t) ≤ 8192) × (n ≤ length (now t)) ⌝ }
-    ensures { λ r. ⌜ r ≡ weighed-running (giving Star (read-term (declared (now (tb .entry))) (last-of n (now (t .entry))))) ⌝ }
+fn starred(t: &[u16], tb: &[u32]) -> usize
+    requires { ⌜ length (now t) ≤ 8192 ⌝ }
+    ensures { λ r. ⌜ r ≡ weighed-running (giving Star (read-term (declared (now (tb .entry))) (now (t .entry)))) ⌝ }
 {
-    let k = stars(last(t, n));
-    let m = n - k;
-    let p = check_running(t, m, tb);
+    let k = stars(t);
+    let n = t.len() - k;
+    let p = check_running(last(t, n), tb);
     if p == WRONG {
         return WRONG;
     }
-    under_stars(k + 1, m, p)
+    under_stars(k + 1, n, p)
 }
 
 // Two terms in a row, which `join` knows as c.
-fn pair(t: &[u16], n: usize, tb: &[u32], c: usize) -> usize
-    requires { ⌜ (length (now t) ≤ 8192) × (n ≤ length (now t)) ⌝ }
-    ensures { λ r. ⌜ r ≡ weighed-pair c (both (read-term (declared (now (tb .entry)))) (read-term (declared (now (tb .entry)))) (last-of n (now (t .entry)))) ⌝ }
+fn pair(t: &[u16], tb: &[u32], c: usize) -> usize
+    requires { ⌜ length (now t) ≤ 8192 ⌝ }
+    ensures { λ r. ⌜ r ≡ weighed-pair c (both (read-term (declared (now (tb .entry)))) (read-term (declared (now (tb .entry)))) (now (t .entry))) ⌝ }
 {
-    let p = check_running(t, n, tb);
+    let p = check_running(t, tb);
     if p == WRONG {
         return WRONG;
     }
-    let q = check_running(t, left(p), tb);
+    let n = left(p);
+    let q = check_running(last(t, n), tb);
     if q == WRONG {
         return WRONG;
     }
-    joined(c, n, p, q)
+    joined(c, t.len(), p, q)
 }
 
 // A mask and two terms.
-fn in_parallel(t: &[u16], n: usize, tb: &[u32]) -> usize
-    requires { ⌜ (length (now t) ≤ 8192) × (n ≤ length (now t)) ⌝ }
-    ensures { λ r. ⌜ r ≡ weighed-running (term-by (declared (now (tb .entry))) (read-term (declared (now (tb .entry)))) TermKind.parallel (last-of n (now (t .entry)))) ⌝ }
+fn in_parallel(t: &[u16], tb: &[u32]) -> usize
+    requires { ⌜ length (now t) ≤ 8192 ⌝ }
+    ensures { λ r. ⌜ r ≡ weighed-running (term-by (declared (now (tb .entry))) (read-term (declared (now (tb .entry)))) TermKind.parallel (now (t .entry))) ⌝ }
 {
-    let s = last(t, n);
-    match check_mask(s, 4, labels(tb)) {
-        Checked::Left(m) => {
-            if mask_zero(s) {
-                return pair(t, m, tb, 25);
+    let l = labels(tb);
+    match check_mask(t, 4, l) {
+        Checked::Left(n) => {
+            if mask_zero(t) {
+                return pair(last(t, n), tb, 25);
             }
-            pair(t, m, tb, 0)
+            pair(last(t, n), tb, 0)
         }
         Checked::Refused(k) => WRONG,
     }
 }
 
 // A condition, whose size is the words that it took, and a term.
-fn guarded(t: &[u16], n: usize, tb: &[u32]) -> usize
-    requires { ⌜ (length (now t) ≤ 8192) × (n ≤ length (now t)) ⌝ }
-    ensures { λ r. ⌜ r ≡ weighed-running (term-by (declared (now (tb .entry))) (read-term (declared (now (tb .entry)))) TermKind.guard (last-of n (now (t .entry)))) ⌝ }
+fn guarded(t: &[u16], tb: &[u32]) -> usize
+    requires { ⌜ length (now t) ≤ 8192 ⌝ }
+    ensures { λ r. ⌜ r ≡ weighed-running (term-by (declared (now (tb .entry))) (read-term (declared (now (tb .entry)))) TermKind.guard (now (t .entry))) ⌝ }
 {
     let c = Scope {
         variables: 0,
         now: functions(tb),
         before: 0,
     };
-    match check_cond(last(t, n), c) {
-        Checked::Left(m) => {
-            let p = check_running(t, m, tb);
+    match check_cond(t, c) {
+        Checked::Left(n) => {
+            let p = check_running(last(t, n), tb);
             if p == WRONG {
                 return WRONG;
             }
-            under_guard(n, m, p)
+            under_guard(t.len(), n, p)
         }
         Checked::Refused(k) => WRONG,
     }
 }
 
-// The running term where n words are left.
-fn check_running(t: &[u16], n: usize, tb: &[u32]) -> usize
-    requires { ⌜ (length (now t) ≤ 8192) × (n ≤ length (now t)) ⌝ }
-    ensures { λ r. ⌜ r ≡ weighed-running (read-term (declared (now (tb .entry))) (last-of n (now (t .entry)))) ⌝ }
+// The running term at the front.
+fn check_running(s: &[u16], tb: &[u32]) -> usize
+    requires { ⌜ length (now s) ≤ 8192 ⌝ }
+    ensures { λ r. ⌜ r ≡ weighed-running (read-term (declared (now (tb .entry))) (now (s .entry))) ⌝ }
 {
-    if n == 0 {
+    if s.len() == 0 {
         return WRONG;
     }
-    let c = t[t.len() - n];
-    let m = n - 1;
+    let c = s[0];
+    let t = behind(s);
     match c {
-        20 => pack(m, single(1)),
-        21 => action(t, m, tb),
-        22..=23 => pair(t, m, tb, wide(c)),
-        24 => starred(t, m, tb),
-        25 => in_parallel(t, m, tb),
-        26 => guarded(t, m, tb),
-        30 => pack(m, empty()),
+        20 => pack(t.len(), single(1)),
+        21 => action(t, tb),
+        22..=23 => pair(t, tb, wide(c)),
+        24 => starred(t, tb),
+        25 => in_parallel(t, tb),
+        26 => guarded(t, tb),
+        30 => pack(t.len(), empty()),
         _ => WRONG,
     }
 }
@@ -290,7 +287,7 @@ pub fn given_term(s: &[u16], tb: &[u32]) -> Given
     if wide32(Limits::REACH) < s.len() {
         return Given::Wrong;
     }
-    let p = check_running(s, s.len(), tb);
+    let p = check_running(s, tb);
     if p == WRONG {
         return Given::Wrong;
     }

@@ -1,9 +1,12 @@
-use Prim.Native.Nat.{ℕ, _+_, _*_, _≤_, _<_}
+use Prim.Native.Nat.{_+_, _*_}
 use native.Mathlib.Omega.{arith}
-use borrow.Author.Needs.{needs}
-use Rattle.terms.proofs.Nested.{star-left, starred-terms}
-use Rattle.terms.proofs.Parts.{pair-left, parallel-left, guarded-left, pairs, parallels, guards}
+use lib.ListN.{length}
+use Rattle.scan.specs.Laws.{behind-len, last-len}
+use Rattle.terms.proofs.Nested.{starred-terms}
+use Rattle.terms.proofs.Parts.{pairs, parallels, guards}
 use Rattle.terms.proofs.Codes.{codes}
+use borrow.Author.Needs.{needs}
+use Prim.Native.Nat.{ℕ, _<_}
 use borrow.Fn.Kinds.{In}
 use borrow.Fn.PlainCycle.{Measures, is, falls, and}
 use Rattle.terms.proofs.check_running.Reads as check-running
@@ -22,14 +25,15 @@ use Rattle.terms.proofs.starred.Reads as starred
 use Rattle.terms.proofs.starred.Kinds as starred-kinds
 use Rattle.terms.proofs.+check_running+guarded+in_parallel+pair+starred.Lts-starred as starred-lts
 use Rattle.arguments.proofs.check_mask.Reads as check-mask-reads
-use Rattle.arguments.proofs.functions.Reads as functions-reads
-use Rattle.arguments.proofs.labels.Reads as labels-reads
 use Rattle.arguments.proofs.mask_zero.Reads as mask-zero-reads
 use Rattle.grammar.proofs.check_cond.Reads as check-cond-reads
+use Rattle.scan.proofs.behind.Reads as behind-reads
 use Rattle.scan.proofs.last.Reads as last-reads
 use Rattle.scan.proofs.wide.Reads as wide-reads
 use Rattle.terms.proofs.action.Reads as action-reads
+use Rattle.arguments.proofs.functions.Reads as functions-reads
 use Rattle.terms.proofs.joined.Reads as joined-reads
+use Rattle.arguments.proofs.labels.Reads as labels-reads
 use Rattle.terms.proofs.left.Reads as left-reads
 use Rattle.terms.proofs.pack.Reads as pack-reads
 use Rattle.terms.proofs.stars.Reads as stars-reads
@@ -41,19 +45,19 @@ use Rattle.terms.proofs.+check_running+guarded+in_parallel+pair+starred
 use Rattle.terms.proofs.+check_running+guarded+in_parallel+pair+starred.Tie.{close}
 
 abbrev μ-check-running : Measures 2 check-running-kinds.ps ℕ
-μ-check-running κs a = 3 * a .1 .0
+μ-check-running κs a = 3 * length (a .0 .now)
 
 abbrev μ-guarded : Measures 2 guarded-kinds.ps ℕ
-μ-guarded κs a = 3 * a .1 .0 + 1
+μ-guarded κs a = 3 * length (a .0 .now) + 1
 
 abbrev μ-in-parallel : Measures 2 in-parallel-kinds.ps ℕ
-μ-in-parallel κs a = 3 * a .1 .0 + 2
+μ-in-parallel κs a = 3 * length (a .0 .now) + 2
 
 abbrev μ-pair : Measures 2 pair-kinds.ps ℕ
-μ-pair κs a = 3 * a .1 .0 + 1
+μ-pair κs a = 3 * length (a .0 .now) + 1
 
 abbrev μ-starred : Measures 2 starred-kinds.ps ℕ
-μ-starred κs a = 3 * a .1 .0 + 1
+μ-starred κs a = 3 * length (a .0 .now) + 1
 
 abbrev check-running-at : ℕ → In 2 check-running-kinds.ps
 check-running-at t =
@@ -94,19 +98,19 @@ abbrev starred-below : ℕ → In 2 starred-kinds.ps
 starred-below t = and 2 starred-kinds.ps (falls 2 starred-kinds.ps _<_ μ-starred t) starred.Pre
 
 abbrev check-running-with : ℕ → check-running-lts.Claims
-check-running-with t = (single-reads.Asked, single-reads.Learnt, pack-reads.Asked, pack-reads.Learnt, action-reads.Asked, action-reads.Learnt, starred-below t, starred.Post, in-parallel-below t, in-parallel.Post, guarded-below t, guarded.Post, empty-reads.Asked, empty-reads.Learnt, wide-reads.Asked, wide-reads.Learnt, pair-below t, pair.Post)
+check-running-with t = (behind-reads.Asked, behind-reads.Learnt, single-reads.Asked, single-reads.Learnt, pack-reads.Asked, pack-reads.Learnt, action-reads.Asked, action-reads.Learnt, starred-below t, starred.Post, in-parallel-below t, in-parallel.Post, guarded-below t, guarded.Post, empty-reads.Asked, empty-reads.Learnt, wide-reads.Asked, wide-reads.Learnt, pair-below t, pair.Post)
 
 abbrev guarded-with : ℕ → guarded-lts.Claims
-guarded-with t = (functions-reads.Asked, functions-reads.Learnt, last-reads.Asked, last-reads.Learnt, check-cond-reads.Asked, check-cond-reads.Learnt, check-running-below t, check-running.Post, under-guard-reads.Asked, under-guard-reads.Learnt)
+guarded-with t = (functions-reads.Asked, functions-reads.Learnt, check-cond-reads.Asked, check-cond-reads.Learnt, last-reads.Asked, last-reads.Learnt, check-running-below t, check-running.Post, under-guard-reads.Asked, under-guard-reads.Learnt)
 
 abbrev in-parallel-with : ℕ → in-parallel-lts.Claims
-in-parallel-with t = (last-reads.Asked, last-reads.Learnt, labels-reads.Asked, labels-reads.Learnt, check-mask-reads.Asked, check-mask-reads.Learnt, mask-zero-reads.Asked, mask-zero-reads.Learnt, pair-below t, pair.Post)
+in-parallel-with t = (labels-reads.Asked, labels-reads.Learnt, check-mask-reads.Asked, check-mask-reads.Learnt, mask-zero-reads.Asked, mask-zero-reads.Learnt, last-reads.Asked, last-reads.Learnt, pair-below t, pair.Post)
 
 abbrev pair-with : ℕ → pair-lts.Claims
-pair-with t = (check-running-below t, check-running.Post, left-reads.Asked, left-reads.Learnt, joined-reads.Asked, joined-reads.Learnt)
+pair-with t = (check-running-below t, check-running.Post, left-reads.Asked, left-reads.Learnt, last-reads.Asked, last-reads.Learnt, joined-reads.Asked, joined-reads.Learnt)
 
 abbrev starred-with : ℕ → starred-lts.Claims
-starred-with t = (last-reads.Asked, last-reads.Learnt, stars-reads.Asked, stars-reads.Learnt, check-running-below t, check-running.Post, under-stars-reads.Asked, under-stars-reads.Learnt)
+starred-with t = (stars-reads.Asked, stars-reads.Learnt, last-reads.Asked, last-reads.Learnt, check-running-below t, check-running.Post, under-stars-reads.Asked, under-stars-reads.Learnt)
 
 pub +check-running+guarded+in-parallel+pair+starred-spec : {M : Type 1} → statement M
 +check-running+guarded+in-parallel+pair+starred-spec =
@@ -114,20 +118,18 @@ pub +check-running+guarded+in-parallel+pair+starred-spec : {M : Type 1} → stat
     (check-running-at t)
     check-running.Post
     (λ c. search codes)
-    (λ c. omega arith)
     (λ c. search needs)
-    (λ c. omega arith)
-    (λ c. omega arith)
+    (λ c κs. search needs)
     (λ c κs. search needs)
     (λ c κs. search codes)
-    (λ c κs. omega arith)
-    (λ c κs. (omega arith, (omega arith, omega arith)))
-    (λ c κs. (omega arith, (omega arith, omega arith)))
-    (λ c κs. (omega arith, (omega arith, omega arith)))
+    (λ c κs. omega (arith, behind-len))
+    (λ c κs. (omega (arith, behind-len), omega (arith, behind-len)))
+    (λ c κs. (omega (arith, behind-len), omega (arith, behind-len)))
+    (λ c κs. (omega (arith, behind-len), omega (arith, behind-len)))
     (λ c κs. search needs)
     (λ c κs. search codes)
     (λ c κs. search needs)
-    (λ c κs. (omega arith, (omega arith, omega arith)))
+    (λ c κs. (omega (arith, behind-len), omega (arith, behind-len)))
     (λ c. search codes)
     (λ c. search codes)
     (λ c. search codes)
@@ -142,9 +144,9 @@ pub +check-running+guarded+in-parallel+pair+starred-spec : {M : Type 1} → stat
     guarded.Post
     (λ c κs. search needs)
     (λ c κs. search needs)
-    (λ c κs. search needs)
     (λ c. search needs)
-    (λ c κs. let m : c .before .m .given .0 .0 ≤ c .before .before .before .before .before .before .before .before .args .n = search guarded-left in (omega arith, (omega arith, omega arith)))
+    (λ c κs. search needs)
+    (λ c κs. (omega (arith, last-len), omega (arith, last-len)))
     (λ c. search guards)
     (λ c κs. search guards)
     (λ c. search needs)
@@ -155,22 +157,24 @@ pub +check-running+guarded+in-parallel+pair+starred-spec : {M : Type 1} → stat
     in-parallel.Post
     (λ c κs. search needs)
     (λ c κs. search needs)
-    (λ c κs. search needs)
     (λ c. search needs)
     (λ c κs. search needs)
-    (λ c κs. let m : c .before .before .before .m .given .0 .0 ≤ c .before .before .before .before .before .before .before .before .before .before .args .n = search parallel-left in (omega arith, (omega arith, omega arith)))
+    (λ c κs. search needs)
+    (λ c κs. (omega (arith, last-len), omega (arith, last-len)))
     (λ c. search parallels)
-    (λ c κs. let m : c .before .before .before .m .given .0 .0 ≤ c .before .before .before .before .before .before .before .before .before .before .args .n = search parallel-left in (omega arith, (omega arith, omega arith)))
+    (λ c κs. search needs)
+    (λ c κs. (omega (arith, last-len), omega (arith, last-len)))
     (λ c. search needs)
     (λ c. search parallels)
     (λ c. search parallels))
     (λ t. pair-lts.spec (pair-with t)
     (pair-at t)
     pair.Post
-    (λ c κs. (omega arith, (omega arith, omega arith)))
+    (λ c κs. (omega arith, search needs))
     (λ c. search pairs)
     (λ c κs. search needs)
-    (λ c κs. let m : c .left .result ≤ c .before .before .before .before .before .args .n = search pair-left in (omega arith, (omega arith, omega arith)))
+    (λ c κs. search needs)
+    (λ c κs. (omega (arith, last-len), omega (arith, last-len)))
     (λ c. search pairs)
     (λ c κs. search pairs)
     (λ c. search pairs))
@@ -178,9 +182,9 @@ pub +check-running+guarded+in-parallel+pair+starred-spec : {M : Type 1} → stat
     (starred-at t)
     starred.Post
     (λ c κs. search needs)
+    (λ c. omega arith)
     (λ c κs. search needs)
-    (λ c. search star-left)
-    (λ c κs. (omega arith, (omega arith, omega arith)))
+    (λ c κs. (omega (arith, last-len), omega (arith, last-len)))
     (λ c. search starred-terms)
     (λ c. omega arith)
     (λ c κs. search starred-terms)

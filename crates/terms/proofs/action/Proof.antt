@@ -7,7 +7,6 @@ pub action-spec : {M : Type 1} → statement M
 action-spec =
     tie.close
     (tie.spec
-    (λ c κs. search needs)
     (λ c. search actions)
     (λ c. search needs)
     (λ c κs. search needs)
@@ -16,7 +15,7 @@ action-spec =
     (λ c. search needs)
     (λ c. search needs)
     (λ c κs. search needs)
-    (λ c. search needs)
+    (λ c κs. search needs)
     (λ c κs. search needs)
     (λ c. search actions)
     (λ c κs. search needs)

@@ -7,10 +7,10 @@ use Rattle.terms.proofs.elements.Statement.{statement}
 use Rattle.terms.proofs.elements.Tie as tie
 
 abbrev Inv-loop : tie.InvT-loop
-Inv-loop t n tb ds s i₀ i = Met tb ds s i
+Inv-loop t tb ds i₀ i = Met tb ds t i
 
 abbrev μ-loop : tie.MeasureT-loop
-μ-loop t n tb ds s i₀ i = length ds - i
+μ-loop t tb ds i₀ i = length ds - i
 
 pub elements-spec : {M : Type 1} → statement M
 elements-spec =
@@ -18,7 +18,6 @@ elements-spec =
     (tie.spec
     Inv-loop
     μ-loop
-    (λ c κs. search needs)
     (λ c. search some-elements)
     (λ c. search some-elements)
     (λ c. search needs)
@@ -37,7 +36,7 @@ elements-spec =
     (λ c. search some-elements)
     (λ c. search needs)
     (λ c. search needs)
-    (λ c. elements-next _ _ _ _ _ (c .before .before .before .before .before .before .before .before .before .before .before .last .ensures) _ (c .before .before .before .before .before .before .before .before .before .loop .inv) (c .before .before .before .before .before .before .before .before .loop-test .taken) _ _ _ (c .before .before .before .before .wide32 .ensures .0) (c .before .before .before .size-of .ensures .0) (c .before .wide .ensures .0) (c .before .before .before .before .before .before .if2 .left) (c .if3 .left))
+    (λ c. elements-next _ _ _ _ (c .before .before .before .before .before .before .before .before .before .loop .inv) (c .before .before .before .before .before .before .before .before .loop-test .taken) _ _ _ (c .before .before .before .before .wide32 .ensures .0) (c .before .before .before .size-of .ensures .0) (c .before .wide .ensures .0) (c .before .before .before .before .before .before .if2 .left) (c .if3 .left))
     (λ c. search needs)
     (λ c. search needs)
     (λ c. search some-elements))
