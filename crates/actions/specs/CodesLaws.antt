@@ -3,10 +3,10 @@
 use mathlib.Core.Path.{_≡_, refl, ap, _∙_, subst}
 use mathlib.Core.Bool.{Bool, true, false, cond}
 use mathlib.Core.List.{List, [], _∷_}
-use Prim.Native.Nat.{ℕ, _-_, _/_, _%_, _^_, _<_}
+use Prim.Native.Nat.{ℕ, _-_, _/_, _%_, _^_, _≤_, _<_}
 use native.Mathlib.Omega.{arith}
 use lib.Dec.{T, eqb, eqb→eq, eqb-refl}
-use lib.ListN.{take}
+use lib.ListN.{length, take}
 use lib.Seq.{getD-take}
 use borrow.Author.Tests.{ne-eqb}
 use Rattle.eb3.specs.Generic.AllLists.{All}
@@ -32,6 +32,14 @@ module _ (a : VisibleAction) (small : Small (visible a)) where
   pub arguments-back : (action-code (visible a) - 1) / 64 ≡ arguments-code (a .arguments)
   unfolding action-code
   arguments-back = omega (arith, small .0)
+
+-- Two arguments below 64 have a number of at most 4,224.
+pub few-arguments : (xs : List ℕ) → length xs ≤ 2 → All (λ x. x < 64) xs → arguments-code xs ≤ 4224
+unfolding arguments-code
+few-arguments [] l h = omega arith
+few-arguments (x ∷ []) l h = omega (arith, h .0)
+few-arguments (x ∷ y ∷ []) l h = omega (arith, h .0, h .1 .0)
+few-arguments (x ∷ y ∷ z ∷ xs) l h = absurd (omega arith)
 
 pub visible-positive : (a : VisibleAction) → action-code (visible a) ≡ 0 → ⊥
 unfolding action-code
@@ -59,7 +67,8 @@ codes-same (visible a) (visible b) h k e =
     let q : arguments-code (a .arguments) ≡ arguments-code (b .arguments) = omega (arith, h .0, k .0) in
     λ i. visible (record { label = p i; arguments = arguments-same (a .arguments) (b .arguments) (h .2) (k .2) q i })
 
-same-test : (b c : Bool) → (T b → T c) → (T c → T b) → b ≡ c
+-- Tests that pass where the other does.
+pub same-test : (b c : Bool) → (T b → T c) → (T c → T b) → b ≡ c
 same-test true true f g = refl
 same-test true false f g = absurd (f tt)
 same-test false true f g = absurd (g tt)

@@ -6,7 +6,7 @@ use native.Mathlib.Omega.{arith}
 use mathlib.Core.Path.{_≡_, refl, sym, ap, _∙_}
 use mathlib.Core.Bool.{true, false, _&&_}
 use mathlib.Core.List.{List, [], _∷_}
-use lib.ListN.{length, take, drop, getD, length-drop, drop-of-length-le, List·getD-eq-default}
+use lib.ListN.{length, take, drop, getD, length-drop, drop-of-length-le}
 use lib.Seq.{take-all, drop-length, take-nil}
 use lib.Dec.{lit<, eqb}
 use borrow.Author.Tests.{lt-ltb, le-ltb, le-leb, lt-leb, eq-eqb, ne-eqb}
@@ -19,12 +19,9 @@ use Rattle.eb3.specs.RuleSets.{domain-size}
 use Rattle.eb3.specs.Reading.{refused, pick, then, number-of, by-number, number-in}
 use Rattle.eb3.specs.RuleReading.{argument-of}
 use Rattle.arguments.specs.Tables.{row, declared, constant-of-domain, variable-of-domain}
-use Rattle.arguments.specs.TableLaws.{domain-at, domain-beyond, argument-is}
+use Rattle.arguments.specs.TableLaws.{domain-at, domain-beyond, argument-is, entry-beyond}
 
 -- ── the tables ──
-
-pub entry-beyond : (T : List ℕ) (at : ℕ) → length T ≤ at → _≡_ {A = ℕ} 0 (getD T at 0)
-entry-beyond T at h = sym (List·getD-eq-default T 0 h)
 
 pub row-all : (T : List ℕ) (at n : ℕ) → n ≡ getD T at 0 → take (at + 1 + n - (at + 1)) (drop (at + 1) T) ≡ row T at
 unfolding row

@@ -1,17 +1,17 @@
 -- What the loops over a mask's words and over arguments keep: what is still to be checked answers as the whole does.
-use Prim.Native.Nat.{ℕ, zero, suc, _+_, _-_, _^_, _≤_, _<_, min}
+use Prim.Native.Nat.{ℕ, suc, _+_, _-_, _^_, _≤_, _<_, min}
 use native.Mathlib.Nat.{le-refl}
 use native.Mathlib.Numerals.{add-one}
 use native.Mathlib.Omega.{arith}
 use mathlib.Core.Path.{_≡_, refl, sym, ap, _∙_}
 use mathlib.Core.List.{List, [], _∷_}
 use lib.ListN.{length, drop, getD, length-drop, drop-of-length-le}
-use lib.Seq.{drop-cons, drop-drop}
+use lib.Seq.{drop-cons}
 use borrow.Author.Tests.{lt-ltb, le-ltb}
 use Rattle.scan.specs.declared.Checked.{Checked}
 use Rattle.scan.specs.declared.Checked.the-variants.{Left, Refused}
 use Rattle.scan.specs.Checking.{checked, last-of}
-use Rattle.scan.specs.Laws.{Fine, last-all, tail-short, checked-giving, both-in, both-out}
+use Rattle.scan.specs.Laws.{Fine, last-all, tail-short, checked-giving, both-in, both-out, last-length, last-last}
 use Rattle.eb3.specs.Reading.{Read, refused, taken, pick, giving, then, both, number-of}
 use Rattle.eb3.specs.TermReading.{mask-of}
 use Rattle.eb3.specs.RuleReading.{argument-of, arguments-of}
@@ -82,16 +82,6 @@ pub record Passed (T Γ ds t : List ℕ) (i n : ℕ) : Type 0 where
   pub within : i ≤ length ds
   pub short : n ≤ length t
   pub same : checked (arguments-of (declared T) Γ ds t) ≡ checked (arguments-of (declared T) Γ (drop i ds) (last-of n t))
-
-last-length : (n : ℕ) (t : List ℕ) → n ≤ length t → length (last-of n t) ≡ n
-unfolding last-of
-last-length n t h = length-drop (length t - n) t ∙ omega arith
-
-last-last : (m n : ℕ) (t : List ℕ) → n ≤ length t → m ≤ n → last-of m (last-of n t) ≡ last-of m t
-unfolding last-of
-last-last m n t h l =
-    let e : length t - n + (length (drop (length t - n) t) - m) ≡ length t - m = omega (arith, length-drop (length t - n) t) in
-    drop-drop (length (drop (length t - n) t) - m) (length t - n) t ∙ ap (λ j. drop j t) e
 
 left-short : {A : Type 0} (u : List ℕ) (m : ℕ) (r : Read A) → Fine u r → Left m ≡ checked r → m ≤ length u
 unfolding checked

@@ -28,6 +28,10 @@ use Rattle.scan.specs.Laws.{Fine, Ends, tail-here, giving-fine, then-fine, both
 use Rattle.scan.specs.RowLaws.{number-in-ends}
 use Rattle.arguments.specs.Tables.{from, row, label-place, some-function, process-row, declared, constant-of-domain, variable-of-domain}
 
+-- Past the end of a table there is 0.
+pub entry-beyond : (T : List ℕ) (at : ℕ) → length T ≤ at → _≡_ {A = ℕ} 0 (getD T at 0)
+entry-beyond T at h = sym (List·getD-eq-default T 0 h)
+
 -- ── f i, f (i + 1) and so on ──
 
 pub from-length : {A : Type 0} (i n : ℕ) (f : ℕ → A) → length (from i n f) ≡ n

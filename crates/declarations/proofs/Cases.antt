@@ -2,19 +2,19 @@
 use Prim.Native.Nat.{ℕ, zero, suc, _+_, _-_, _*_, _≤_, _<_}
 use native.Mathlib.Numerals.{add-one, sub-one}
 use native.Mathlib.Omega.{arith}
-use mathlib.Core.Path.{_≡_, refl, sym, ap, _∙_}
+use mathlib.Core.Path.{_≡_, refl, ap, _∙_}
 use mathlib.Core.List.{List, [], _∷_}
-use lib.ListN.{length, getD, set, length-set}
+use lib.ListN.{length, getD, set}
 use lib.Seq.{paste, paste-suc, length-paste}
 use Rattle.scan.specs.declared.Checked.{Checked}
 use Rattle.scan.specs.declared.Checked.the-variants.{Left, Refused}
-use Rattle.eb3.specs.Reading.{Read, refused, taken, Reader, giving, then, both, number-of, count-of, repeat, counted}
+use Rattle.eb3.specs.Reading.{Read, refused, taken, Reader, giving, then, both, number-of, repeat, counted}
 use Rattle.scan.specs.Checking.{checked, last-of}
 use Rattle.scan.specs.Laws.{Ends, number-ends}
 use Rattle.scan.specs.RowLaws.{count-ends, counted-ends, counted-in, counted-out, repeat-none, repeat-out, repeat-in, loop-start, loop-fail, loop-next, loop-end}
 use Rattle.arguments.specs.Tables.{row}
 use Rattle.declarations.specs.Entering.{put-row, put-rows, Entered}
-use Rattle.declarations.specs.Rows.{RowAt, numbers-row}
+use Rattle.declarations.specs.Rows.{numbers-row}
 
 pub ruleset rows = (counted-out, counted-in, count-ends, number-ends, repeat-none, repeat-out, repeat-in, loop-start, loop-fail, loop-next, loop-end)
 
@@ -22,9 +22,6 @@ pub ruleset rows = (counted-out, counted-in, count-ends, number-ends, repeat-non
 
 pub copy-more : (T T₀ s : List ℕ) (at n i w : ℕ) → i < n → at + n ≤ length T₀ → n ≤ length s → w ≡ getD s i 0 → T ≡ paste T₀ at s i → set T (at + i) w ≡ paste T₀ at s (i + 1)
 copy-more T T₀ s at n i w h a b f e = rw (e, f) (rw (add-one i) (paste-suc T₀ at s i 0 (omega arith) (omega arith)))
-
-pub copy-len : (T T₀ : List ℕ) (k v : ℕ) → length T ≡ length T₀ → length (set T k v) ≡ length T₀
-copy-len T T₀ k v h = length-set T k v ∙ h
 
 pub copy-last : (T T₀ s : List ℕ) (at n i : ℕ) → n ≤ i → i ≤ n → T ≡ paste T₀ at s i → T ≡ paste T₀ at s n
 copy-last T T₀ s at n i h a e =

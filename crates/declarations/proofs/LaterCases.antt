@@ -14,15 +14,15 @@ use Rattle.eb3.specs.Spelling.{data-words}
 use Rattle.eb3.specs.Reading.{Read, refused, taken, Reader, giving, then, both, for-each}
 use Rattle.eb3.specs.ExpressionReading.{read-data}
 use Rattle.scan.specs.Checking.{checked, last-of}
-use Rattle.scan.specs.Laws.{Tail, tail-on, last-all, tail-at, tail-short, got}
+use Rattle.scan.specs.Laws.{Tail, tail-on, last-all, tail-at, tail-short, got, last-tail, last-length}
 use Rattle.scan.specs.ReadingLaws.{checked-refused, not-taken}
-use Rattle.scan.specs.RowLaws.{last-tail, passed}
+use Rattle.scan.specs.RowLaws.{passed}
 use Rattle.grammar.specs.Laws.{data-ends}
 use Rattle.arguments.specs.Tables.{from, row}
 use Rattle.declarations.specs.Entering.{labels-of}
 use Rattle.declarations.specs.ScopeFacts.{at-label, label-scope}
 use Rattle.declarations.specs.Directory.{Stands, Standing}
-use Rattle.declarations.specs.DirectoryLaws.{last-length, stands-noted, standing-kept, standing-more}
+use Rattle.declarations.specs.DirectoryLaws.{stands-noted, standing-kept, standing-more}
 use Rattle.declarations.specs.Noting.{for-label, label-expressions, LabelsNoted}
 
 -- The rest of the labels, from l on.

@@ -17,9 +17,8 @@ use Rattle.eb3.specs.Reading.{Read, refused, taken, both, number-of, series}
 use Rattle.eb3.specs.ExpressionReading.{read-data}
 use Rattle.eb3.specs.RuleReading.{function-from, read-function}
 use Rattle.scan.specs.Checking.{checked, last-of}
-use Rattle.scan.specs.Laws.{Tail, Fine, tail-at, tail-on}
+use Rattle.scan.specs.Laws.{Tail, Fine, tail-at, tail-on, last-tail}
 use Rattle.scan.specs.ReadingLaws.{checked-refused, not-taken}
-use Rattle.scan.specs.RowLaws.{last-tail}
 use Rattle.grammar.specs.Laws.{data-ends}
 use Rattle.arguments.specs.Tables.{declared}
 use Rattle.arguments.specs.TableLaws.{from-length}

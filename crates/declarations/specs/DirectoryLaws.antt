@@ -2,9 +2,9 @@
 -- Document 01, "Blocks and the rule stream", items 2 to 5; refusals 4 and 5.
 use mathlib.Core.Path.{_≡_, refl, sym, ap, _∙_, subst}
 use mathlib.Core.List.{List, [], _∷_, _++_}
-use Prim.Native.Nat.{ℕ, suc, _+_, _*_, _-_, _%_, _≤_, _<_}
+use Prim.Native.Nat.{ℕ, suc, _+_, _*_, _-_, _%_, _<_}
 use native.Mathlib.Omega.{arith}
-use lib.ListN.{length, getD, length-drop, length-append}
+use lib.ListN.{length, getD, length-append}
 use Rattle.eb3.specs.Expressions.{Data}
 use Rattle.eb3.specs.Scopes.{Scope, data-in-scope}
 use Rattle.eb3.specs.RuleSets.{Function, Process, RuleSet}
@@ -65,10 +65,6 @@ left-is f ends t p m a v e h g =
     let k : Left m ≡ Left (length v) = sym h ∙ e ∙ ap checked g in
     let l : length v ≡ m = cc in
     sym (tail-at v t (subst (Fine t) g (ends t))) ∙ ap (λ n. last-of n t) l
-
-pub last-length : (n : ℕ) (t : List ℕ) → n ≤ length t → length (last-of n t) ≡ n
-unfolding last-of
-last-length n t h = omega (arith, length-drop (length t - n) t)
 
 -- ── where words stand ──
 

@@ -12,6 +12,7 @@ use Rattle.scan.specs.Checking.{last-of}
 use Rattle.scan.specs.Laws.{part, back-rest, last-len}
 use Rattle.expressions.specs.Answering.{answer}
 use Rattle.listing.specs.Listing.{TermAt, holding, codes, Right, Listed}
+use Rattle.listing.specs.PartLaws.{lent-len}
 use Rattle.listing.specs.Positions.{TwoAt, second-at, behind-shorter, behind-term}
 use Rattle.paths.specs.Paths.{Sides, alone, paired, locate}
 use Rattle.deriving.specs.Derived.{passed, full, shown-count}
@@ -21,9 +22,6 @@ use Rattle.listing.specs.Operands.{answer-is, answered-left, answered-count}
 use Rattle.deriving.specs.AnswerLaws.{never-full}
 use Rattle.deriving.proofs.Answers.{sound-lost, sound-passed}
 use Rattle.deriving.proofs.Counts.{count-all}
-
-lent-len : (x : List ℕ) (n : ℕ) → length (take (length x - n) (drop n x)) ≤ length x
-lent-len x n = omega (arith, ap length (part n x), length-drop n x)
 
 pub lent-few : {t M acts mid : List ℕ} {l : ℕ} → Listed t M acts mid l → length acts ≤ 131072 → length (take (length mid - l / 65536) (drop (l / 65536) mid)) ≤ 131072
 lent-few {t} {M} {acts} {mid} {l} h k = omega (arith, lent-len mid (l / 65536), h .same-length)

@@ -7,7 +7,7 @@ use lib.Dec.{eqb}
 use lib.ListN.{length}
 use Rattle.eb3.specs.Generic.Lists.{filter}
 use Rattle.listing.specs.Combining.{outside, equal-to, pairs}
-use Rattle.listing.specs.OutsideLaws.{outside-append}
+use Rattle.listing.specs.OutsideLaws.{outside-append, equal-hidden}
 
 module _ (p : ℕ → Bool) where
   pub length-outside : (xs : List ℕ) → length (outside p xs) ≡ length (filter (λ c. not (p c)) xs)
@@ -34,16 +34,6 @@ module _ (p : ℕ → Bool) where
       twice x (outside q xs) (p x) (q x) refl ∙ ap (λ z. cond z (outside p (outside q xs)) (x ∷ outside p (outside q xs))) (sym (h x)) ∙ ap (λ l. cond (r x) l (x ∷ l)) (outside-twice q r h xs)
 
   -- of a number repeated
-  equal-none : (a : ℕ) (b : Bool) (o : List ℕ) → p a ≡ true → outside p o ≡ [] → outside p (cond b (a ∷ o) o) ≡ []
-  unfolding outside
-  equal-none a true o e h = ap (λ z. cond z (outside p o) (a ∷ outside p o)) e ∙ h
-  equal-none a false o e h = h
-
-  none-equal : (a : ℕ) (ys : List ℕ) → p a ≡ true → outside p (equal-to a ys) ≡ []
-  unfolding outside equal-to
-  none-equal a [] e = refl
-  none-equal a (y ∷ ys) e = equal-none a (eqb y a) (equal-to a ys) e (none-equal a ys e)
-
   equal-all : (a : ℕ) (b : Bool) (o : List ℕ) → p a ≡ false → outside p o ≡ o → outside p (cond b (a ∷ o) o) ≡ cond b (a ∷ o) o
   unfolding outside
   equal-all a true o e h = ap (λ z. cond z (outside p o) (a ∷ outside p o)) e ∙ ap (λ l. a ∷ l) h
@@ -56,7 +46,7 @@ module _ (p : ℕ → Bool) where
 
   row : (x : ℕ) (ys : List ℕ) (a b : Bool) → p x ≡ a → outside p (cond b (equal-to x ys) []) ≡ cond (b && not a) (equal-to x ys) []
   unfolding outside
-  row x ys true true e = none-equal x ys e
+  row x ys true true e = equal-hidden p x ys e
   row x ys true false e = refl
   row x ys false true e = all-equal x ys e
   row x ys false false e = refl

@@ -4,12 +4,13 @@ use mathlib.Core.Bool.{Bool, true, false, cond}
 use mathlib.Core.List.{List, [], _∷_, _++_}
 use Prim.Native.Nat.{ℕ, suc, _+_, _-_, _*_, _≤_, _<_}
 use native.Mathlib.Omega.{arith}
-use lib.Dec.{T, eqb, ltb, eqb→eq, eqb-refl}
+use lib.Dec.{eqb, ltb}
 use lib.ListN.{length, length-append}
 use borrow.Author.Tests.{eqb-true, eqb-false, lt-ltb, le-ltb}
 use Rattle.eb3.specs.Generic.Lists.{filter}
 use Rattle.eb3.specs.Reading.{pick}
 use Rattle.listing.specs.Combining.{equal-to, pairs}
+use Rattle.listing.specs.CodeLaws.{turned}
 use Rattle.paths.specs.Paths.{Sought, at, beyond, one-on, seek, Sides, together, pair-from, seek-pair}
 use Rattle.deriving.specs.Derived.{passed}
 use Rattle.deriving.specs.Searching.{nth-place, pair-or, nth-pair}
@@ -57,15 +58,6 @@ module _ (q : ℕ → Bool) where
   place-below i xs k h = below (placed i xs k) h
 
 -- ── pairs ──
-
-both-ways : (b c : Bool) → (T b → T c) → (T c → T b) → b ≡ c
-both-ways true true f g = refl
-both-ways true false f g = absurd (f tt)
-both-ways false true f g = absurd (g tt)
-both-ways false false f g = refl
-
-turned : (m n : ℕ) → eqb m n ≡ eqb n m
-turned m n = both-ways (eqb m n) (eqb n m) (λ t. subst (λ k. T (eqb k m)) (eqb→eq m n t) (eqb-refl m)) (λ t. subst (λ k. T (eqb k n)) (eqb→eq n m t) (eqb-refl n))
 
 length-either : (b : Bool) (x y : ℕ) (o u : List ℕ) → length o ≡ length u → length (cond b (x ∷ o) o) ≡ length (cond b (y ∷ u) u)
 length-either true x y o u e = ap suc e

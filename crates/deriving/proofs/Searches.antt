@@ -1,23 +1,19 @@
 -- Searching numbers step by step, as the loops do it.
 use mathlib.Core.Path.{_≡_, refl, sym, ap, _∙_}
 use mathlib.Core.Bool.{Bool, true, false, not, _&&_, cond}
-use mathlib.Core.List.{List, [], _∷_}
+use mathlib.Core.List.{List, _∷_}
 use Prim.Native.Nat.{ℕ, _+_, _-_, _*_, _≤_, _<_}
 use native.Mathlib.Numerals.{add-one}
 use native.Mathlib.Omega.{arith}
 use lib.Dec.{eqb}
 use lib.ListN.{length, getD}
-use lib.Seq.{slice, slice-cons, slice-empty}
+use lib.Seq.{slice, slice-cons}
 use borrow.Author.Tests.{eq-eqb, ne-eqb, lt-ltb, le-ltb}
 use Rattle.actions.specs.Sets.{in-set}
+use Rattle.listing.specs.PartLaws.{slice-end}
 use Rattle.paths.specs.Paths.{paired}
 use Rattle.deriving.specs.Derived.{passed}
 use Rattle.deriving.specs.Searching.{nth-place, pair-or, nth-pair}
-
-slice-end : (i to : ℕ) (x : List ℕ) → i ≤ to → to ≤ i → slice i to x ≡ []
-slice-end i to x h k =
-    let e : i ≡ to = omega arith in
-    ap (λ n. slice n to x) e ∙ slice-empty to x
 
 pub search-end : (q : ℕ → Bool) (a i to k : ℕ) (x : List ℕ) → i ≤ to → to ≤ i → nth-place q a (slice i to x) k ≡ passed + k
 unfolding nth-place

@@ -1,14 +1,13 @@
 -- A case for each way that a step from given cells returns (document 01, "Operations": Move and Present).
 use mathlib.Core.Path.{_≡_, refl, ap, sym, _∙_, subst}
 use mathlib.Core.Bool.{Bool, true, false}
-use mathlib.Core.List.{List, [], _∷_}
+use mathlib.Core.List.{List}
 use mathlib.Core.Option.{Option, none, some}
 use Prim.Native.Nat.{ℕ, _+_, _%_, _≤_, _<_}
 use native.Mathlib.Omega.{arith}
 use lib.ListN.{length, getD, getElem?}
 use denote.Enum.Declared.{tagOf}
 use Rattle.eb3.specs.Refusal
-use Rattle.eb3.specs.Generic.AllLists.{All}
 use Rattle.eb3.specs.Generic.PositionsLaws.{beyond-none}
 use Rattle.eb3.specs.Values.{Value}
 use Rattle.eb3.specs.Limits.{edition-1}
@@ -27,8 +26,8 @@ use Rattle.eb3.specs.Laws.Sizes.{size-below-reach, move-size, moves-below-bread
 use Rattle.eb3.specs.Laws.Running.{move-running, move-action}
 use Rattle.eb3.specs.Answers.{answered, Moved as Answer·moved, Written}
 use Rattle.eb3.specs.Operations.{cells-needed, cells-given, or-refused, listed, numbered, writing, moved}
-use Rattle.actions.specs.Codes.{arguments-code, action-code, Small}
-use Rattle.actions.specs.CodesLaws.{visible-positive}
+use Rattle.actions.specs.Codes.{action-code, Small}
+use Rattle.actions.specs.CodesLaws.{visible-positive, few-arguments}
 use Rattle.actions.specs.ActionLaws.{action-small}
 use Rattle.listing.specs.Listing.{holding}
 use Rattle.cells.specs.Preparing.{Saved}
@@ -73,17 +72,10 @@ told-visible code y n l k x₀ x₁ z e el ek e₀ e₁ (visible a) h f =
 -- ── the wanted move ──
 
 -- The number of a small action fits into a word of 32 bits.
-arguments-below : (xs : List ℕ) → length xs ≤ 2 → All (λ x. x < 64) xs → arguments-code xs ≤ 4224
-unfolding arguments-code
-arguments-below [] h a = omega arith
-arguments-below (x ∷ []) h a = omega (arith, a .0)
-arguments-below (x ∷ y ∷ []) h a = omega (arith, a .0, a .1 .0)
-arguments-below (x ∷ y ∷ z ∷ xs) h a = absurd (let w : ⊥ = omega arith in w)
-
 code-below : (ρ : Action) → Small ρ → action-code ρ < 4294967296
 unfolding action-code
 code-below internal h = omega arith
-code-below (visible a) h = omega (arith, h .0, arguments-below (a .arguments) (h .1) (h .2))
+code-below (visible a) h = omega (arith, h .0, few-arguments (a .arguments) (h .1) (h .2))
 
 -- Past the end there is no move.
 at-place : (xs : List Move) (o : Option ℕ) (r : ℕ) → length xs ≤ 65535 → r ≡ place-of o → getElem? xs r ≡ numbered xs o

@@ -1,8 +1,8 @@
 -- A case for each way that the front of a row is told; the premises have the form of what the code tells there, so that `search` finds them.
 use Prim.Native.Nat.{ℕ, suc, _+_, _≤_, _<_}
 use native.Mathlib.Omega.{arith}
-use native.Mathlib.Decide.{ℕ-discrete, decLe}
-use mathlib.Core.Logic.{_⊎_, inl, inr, ⊎-elim}
+use native.Mathlib.Decide.{decLe}
+use mathlib.Core.Logic.{⊎-elim}
 use mathlib.Core.Path.{_≡_, refl, sym, ap, _∙_}
 use mathlib.Core.List.{List, [], _∷_}
 use mathlib.Core.Bool.{true, false}
@@ -19,7 +19,7 @@ use Rattle.scan.specs.Laws.{then-checked}
 use Rattle.grammar.specs.declared.Front.{Front}
 use Rattle.grammar.specs.declared.Front.the-variants.{On, Other, Wrong}
 use Rattle.grammar.specs.Fronts.{Behind, Operand, Facing, DataFront, CondFront}
-use Rattle.grammar.specs.Laws.{whole, data-case, cond-case}
+use Rattle.grammar.specs.Laws.{whole, data-case, cond-case, two-ways}
 use Rattle.grammar.specs.RowLaws.{forget, forget-giving, then-then, then-left, then-ended, row-step, row-join, row-more, one-left, two-left, led}
 
 -- ── a number in front ──
@@ -82,14 +82,6 @@ data-other P w h a b = simp (ne-eqb w 0 (h .0 .0 .0 .0 .0 .1), ne-eqb w 1 (h .0 
 
 cond-other : (w : ℕ) → (w ≡ 8 → ⊥) → (w ≡ 9 → ⊥) → (w ≡ 10 → ⊥) → (w ≡ 11 → ⊥) → OtherC w → cond-kind w ≡ CondKind.wrong
 cond-other w a b c d h = simp (ne-eqb w 8 a, ne-eqb w 9 b, ne-eqb w 10 c, ne-eqb w 11 d, ne-eqb w 12 (h .0 .1), ne-eqb w 13 (h .1))
-
--- One of two codes.
-two-ways : (w a : ℕ) → a ≤ w → w ≤ suc a → (w ≡ a) ⊎ (w ≡ suc a)
-two-ways w a l u = go (ℕ-discrete w a)
-  where
-    go : Dec (w ≡ a) → (w ≡ a) ⊎ (w ≡ suc a)
-    go (yes e) = inl e
-    go (no n) = inr (omega arith)
 
 -- ── no word ──
 

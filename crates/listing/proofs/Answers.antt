@@ -1,6 +1,6 @@
 -- Answers of listing, put together and taken apart; one move, and two operands' lists one behind the other.
 use mathlib.Core.Path.{_≡_, refl, sym, ap, _∙_}
-use mathlib.Core.List.{List, [], _∷_, _++_}
+use mathlib.Core.List.{List, _++_}
 use Prim.Native.Nat.{ℕ, _+_, _-_, _*_, _/_, _%_, _≤_, _<_}
 use native.Mathlib.Nat.{le-refl}
 use native.Mathlib.Omega.{arith}
@@ -10,10 +10,11 @@ use Rattle.eb3.specs.Scopes.{Scope}
 use Rattle.eb3.specs.Terms.{Term}
 use Rattle.eb3.specs.Spelling.{words}
 use Rattle.scan.specs.Checking.{last-of}
-use Rattle.scan.specs.Laws.{part, back-rest}
+use Rattle.scan.specs.Laws.{part, back-rest, set-first}
 use Rattle.expressions.specs.Answering.{answer}
 use Rattle.listing.specs.Listing.{TermAt, holding, codes, room, full, Listed}
 use Rattle.listing.specs.Positions.{TwoAt, second-at, behind-shorter}
+use Rattle.listing.specs.PartLaws.{lent-len}
 use Rattle.listing.specs.Operands.{answer-is, answered-left, answered-count}
 use Rattle.listing.specs.Arms.{Lists, Sound, OneListed, ShownListed, TwoListed}
 use Rattle.listing.specs.Shown.{shown}
@@ -62,15 +63,11 @@ one-none code left entry h = record {
   right = λ z. never-full z;
 }
 
-front-set : (entry : List ℕ) (code : ℕ) → (length entry ≡ 0 → ⊥) → take 1 (set entry 0 code) ≡ code ∷ []
-front-set [] code h = absurd (h refl)
-front-set (x ∷ entry) code h = refl
-
 pub one-made : (code left : ℕ) (entry : List ℕ) → left ≤ 65535 → (length entry ≡ 0 → ⊥) → OneListed code left entry (set entry 0 code) (left + 65536)
 one-made code left entry l h = record {
   sound = record { same-length = length-set entry 0 code; bounded = omega arith; count-bounded = λ z. omega arith };
   has-room = λ k. omega arith;
-  right = λ z. record { counted = omega (arith, answer-is left 1); listed = front-set entry code h };
+  right = λ z. record { counted = omega (arith, answer-is left 1); listed = set-first entry code h };
 }
 
 -- ── two operands ──
@@ -174,9 +171,6 @@ module _ {x : ℕ} (t M entry mid : List ℕ) (l : ℕ) (first : ShownListed x t
           }
 
 -- ── what the recursion asks ──
-
-pub lent-len : (x : List ℕ) (n : ℕ) → length (take (length x - n) (drop n x)) ≤ length x
-lent-len x n = omega (arith, ap length (part n x), length-drop n x)
 
 pub star-lent : (entry : List ℕ) → length entry ≤ 131072 → length (take (length (set entry 0 0) - 1) (drop 1 (set entry 0 0))) ≤ 131072
 star-lent entry h = omega (arith, lent-len (set entry 0 0) 1, length-set entry 0 0)

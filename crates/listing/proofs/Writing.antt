@@ -7,9 +7,10 @@ use native.Mathlib.Nat.{le-refl}
 use native.Mathlib.Numerals.{add-one}
 use native.Mathlib.Omega.{arith}
 use lib.ListN.{length, take, drop, set, getD, length-append, length-drop, take-append-drop}
-use lib.Seq.{length-take-le, drop-cons, take-append-le, take-take, set-at, take-at, drop-at, drop-drop, getD-take, slice, slice-cons, slice-empty}
+use lib.Seq.{length-take-le, drop-cons, take-append-le, take-take, set-at, take-at, drop-at, drop-drop, getD-take, slice, slice-cons}
 use borrow.Author.Tests.{eq-eqb, ne-eqb}
 use Rattle.listing.specs.Listing.{full}
+use Rattle.listing.specs.PartLaws.{slice-end}
 use Rattle.listing.specs.Combining.{outside, equal-to, pairs, Written, Wrote}
 
 pub written-none : (e : ℕ) (x : List ℕ) → e ≤ length x → Written [] e x x e
@@ -124,11 +125,6 @@ module _ {all : List ℕ} {e : ℕ} {x0 x : List ℕ} {at : ℕ} {todo : List �
   }
 
 -- ── the three lists, step by step ──
-
-pub slice-end : (i to : ℕ) (x : List ℕ) → i ≤ to → to ≤ i → slice i to x ≡ []
-slice-end i to x h k =
-    let e : i ≡ to = omega arith in
-    ap (λ n. slice n to x) e ∙ slice-empty to x
 
 module _ (i to : ℕ) (x : List ℕ) (h : i < to) (k : to ≤ length x) where
   slice-next : slice i to x ≡ getD x i 0 ∷ slice (i + 1) to x

@@ -16,7 +16,7 @@ use Rattle.eb3.specs.Terms.{Term, Done, Internal, Perform, Sequence, Choice, St
 use Rattle.eb3.specs.Moves.{Move, move, moves, sequenced, left-move, right-move, synchronised, outside-mask?, synchronise?, parallel-moves}
 use Rattle.eb3.specs.Sizes.{zero-mask}
 use Rattle.actions.specs.Codes.{action-code, Small}
-use Rattle.actions.specs.CodesLaws.{label-in, masked-code, masked-is, same-code}
+use Rattle.actions.specs.CodesLaws.{label-in, masked-code, masked-is, same-code, same-test}
 use Rattle.listing.specs.Listing.{Fits, code-of, codes}
 use Rattle.listing.specs.Combining.{outside, equal-to, pairs, combined}
 use Rattle.listing.specs.OutsideLaws.{combined-none}
@@ -61,6 +61,9 @@ smalls-rows Δ ys (x ∷ l) h = smalls-append (map (synchronised Δ x) (filter (
 
 -- ── a parallel ──
 
+pub turned : (m n : ℕ) → eqb m n ≡ eqb n m
+turned m n = same-test (eqb m n) (eqb n m) (λ t. subst (λ k. T (eqb k m)) (eqb→eq m n t) (eqb-refl m)) (λ t. subst (λ k. T (eqb k n)) (eqb→eq n m t) (eqb-refl n))
+
 chosen : (b : Bool) (x : Move) (l : List Move) (m : List ℕ) → map code-of l ≡ m → map code-of (cond (not b) (x ∷ l) l) ≡ cond b m (code-of x ∷ m)
 chosen true x l m e = e
 chosen false x l m e = ap (λ t. code-of x ∷ t) e
@@ -76,15 +79,6 @@ module _ (Δ : Mask) where
   module _ (x : Move) (s : Small (x .action)) where
     same-number : (y : Move) → Small (y .action) → same-action (x .action) (y .action) ≡ eqb (code-of y) (code-of x)
     same-number y h = same-code (x .action) (y .action) s h ∙ turned (code-of x) (code-of y)
-      where
-        both : (b c : Bool) → (T b → T c) → (T c → T b) → b ≡ c
-        both true true f g = refl
-        both true false f g = absurd (f tt)
-        both false true f g = absurd (g tt)
-        both false false f g = refl
-
-        turned : (m n : ℕ) → eqb m n ≡ eqb n m
-        turned m n = both (eqb m n) (eqb n m) (λ t. subst (λ k. T (eqb k m)) (eqb→eq m n t) (eqb-refl m)) (λ t. subst (λ k. T (eqb k n)) (eqb→eq n m t) (eqb-refl n))
 
     picked : (b : Bool) (y : Move) (l : List Move) (m : List ℕ) → map code-of (map (synchronised Δ x) l) ≡ m
         → map code-of (map (synchronised Δ x) (cond b (y ∷ l) l)) ≡ cond b (code-of x ∷ m) m

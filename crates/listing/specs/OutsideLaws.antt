@@ -22,6 +22,16 @@ module _ (p : ℕ → Bool) where
   unfolding outside
   outside-one x e = number-hidden x [] e
 
+  -- of a number repeated
+  pub equal-hidden : (a : ℕ) (ys : List ℕ) → p a ≡ true → outside p (equal-to a ys) ≡ []
+  unfolding outside equal-to
+  equal-hidden a [] e = refl
+  equal-hidden a (y ∷ ys) e = go (eqb y a) (equal-hidden a ys e)
+    where
+      go : (b : Bool) → outside p (equal-to a ys) ≡ [] → outside p (cond b (a ∷ equal-to a ys) (equal-to a ys)) ≡ []
+      go true i = number-hidden a (equal-to a ys) e ∙ i
+      go false i = i
+
   pub outside-append : (xs ys : List ℕ) → outside p (xs ++ ys) ≡ outside p xs ++ outside p ys
   unfolding outside
   outside-append [] ys = refl
@@ -107,15 +117,6 @@ module _ (p q : ℕ → Bool) where
 
   -- ── of a parallel ──
 
-  equal-hidden : (a : ℕ) (ys : List ℕ) → p a ≡ true → outside p (equal-to a ys) ≡ []
-  unfolding outside equal-to
-  equal-hidden a [] e = refl
-  equal-hidden a (y ∷ ys) e = go (eqb y a) (equal-hidden a ys e)
-    where
-      go : (b : Bool) → outside p (equal-to a ys) ≡ [] → outside p (cond b (a ∷ equal-to a ys) (equal-to a ys)) ≡ []
-      go true i = number-hidden p a (equal-to a ys) e ∙ i
-      go false i = i
-
   equal-shown : (a : ℕ) (ys : List ℕ) → p a ≡ false → outside p (equal-to a ys) ≡ equal-to a (outside p ys)
   unfolding outside equal-to
   equal-shown a [] e = refl
@@ -136,7 +137,7 @@ module _ (p q : ℕ → Bool) where
 
   row-hidden : (b : Bool) (x : ℕ) (ys : List ℕ) → p x ≡ true → outside p (cond b (equal-to x ys) []) ≡ []
   unfolding outside
-  row-hidden true x ys e = equal-hidden x ys e
+  row-hidden true x ys e = equal-hidden p x ys e
   row-hidden false x ys e = refl
 
   row-kept : (b : Bool) (x : ℕ) (ys : List ℕ) → p x ≡ false → outside p (cond b (equal-to x ys) []) ≡ cond b (equal-to x (outside p ys)) []

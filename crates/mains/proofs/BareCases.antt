@@ -6,7 +6,7 @@ use mathlib.Core.List.{List, [], _∷_, append-nil}
 use Prim.Native.Nat.{ℕ, _+_, _/_, _%_, _≤_}
 use native.Mathlib.Omega.{arith}
 use lib.Dec.{eqb}
-use lib.ListN.{length, take, drop, getD, set, length-take}
+use lib.ListN.{length, take, drop, getD, length-take}
 use lib.Seq.{take-at}
 use Rattle.eb3.specs.Scopes.{Scope, guard-scope}
 use Rattle.eb3.specs.Terms.{Term, Done, Internal, Perform, Sequence, Choice, Star, Parallel, Guard, done?}
@@ -72,11 +72,7 @@ held-alone R form E running unmasked u d e word is-word first =
       words-are = first ∙ ap (λ x. x ∷ []) is-word ∙ sym (q .3);
     }
 
--- A word written at the front, and a front of an array that is not long.
-pub set-first : (d : List ℕ) (x : ℕ) → (length d ≡ 0 → ⊥) → take 1 (set d 0 x) ≡ x ∷ []
-set-first [] x h = absurd (h refl)
-set-first (y ∷ d) x h = refl
-
+-- A front of an array that is not long.
 pub front-within : (n : ℕ) (d d₁ f : List ℕ) → f ≡ take n d₁ → length d₁ ≡ length d → length f ≤ length d
 front-within n d d₁ f e same = omega (arith, ap length e, length-take n d₁)
 

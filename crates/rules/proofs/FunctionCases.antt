@@ -13,9 +13,9 @@ use Rattle.eb3.specs.RuleReading.{parameter-limit, read-parameter-counts, read-
 use Rattle.scan.specs.declared.Checked.{Checked}
 use Rattle.scan.specs.declared.Checked.the-variants.{Left, Refused as Checked·refused}
 use Rattle.scan.specs.Checking.{checked, last-of}
-use Rattle.scan.specs.Laws.{Tail, Fine, tail-at, tail-on}
+use Rattle.scan.specs.Laws.{Tail, Fine, tail-at, tail-on, last-tail}
 use Rattle.scan.specs.ReadingLaws.{checked-refused, then-refused, then-taken, not-taken}
-use Rattle.scan.specs.RowLaws.{count-word, last-tail}
+use Rattle.scan.specs.RowLaws.{count-word}
 use Rattle.rule_terms.specs.declared.Weighed.{Weighed}
 use Rattle.rule_terms.specs.declared.Weighed.the-variants.{Found, Refused}
 use Rattle.weights.specs.Weighing.{cap, weight}

@@ -16,8 +16,7 @@ use Rattle.weights.specs.declared.Weight.{Weight}
 use Rattle.scan.specs.declared.Checked.{Checked}
 use Rattle.scan.specs.declared.Checked.the-variants.{Left, Refused as Checked·refused}
 use Rattle.scan.specs.Checking.{checked, last-of}
-use Rattle.scan.specs.Laws.{Tail, tail-on}
-use Rattle.scan.specs.RowLaws.{last-tail}
+use Rattle.scan.specs.Laws.{Tail, tail-on, last-tail}
 use Rattle.rule_terms.specs.declared.Weighed.{Weighed}
 use Rattle.rule_terms.specs.declared.Weighed.the-variants.{Found, Refused}
 use Rattle.rule_terms.specs.Weighed.{weighed}

@@ -15,9 +15,9 @@ use Rattle.eb3.specs.Laws.Reading.{Sound, count-sound}
 use Rattle.scan.specs.declared.Checked.{Checked}
 use Rattle.scan.specs.declared.Checked.the-variants.{Left, Refused as Checked·refused}
 use Rattle.scan.specs.Checking.{checked, last-of}
-use Rattle.scan.specs.Laws.{Tail, tail-on, number-ends, got}
+use Rattle.scan.specs.Laws.{Tail, tail-on, number-ends, got, last-tail}
 use Rattle.scan.specs.ReadingLaws.{checked-refused, then-refused, then-taken, not-taken}
-use Rattle.scan.specs.RowLaws.{count-word, repeat-ends, counted-ends, last-tail}
+use Rattle.scan.specs.RowLaws.{count-word, repeat-ends, counted-ends}
 use Rattle.rule_terms.specs.declared.Weighed.{Weighed}
 use Rattle.rule_terms.specs.declared.Weighed.the-variants.{Refused}
 use Rattle.arguments.specs.Tables.{row, declared}

@@ -1,19 +1,17 @@
 -- From what the check of a rule set answers to what Admit answers of its words: the end, then main's measures.
 -- Document 01, "Blocks and the rule stream", items 2 to 5; refusals 4 to 6.
 use mathlib.Core.Path.{_≡_, refl, ap, sym, _∙_, subst}
-use mathlib.Core.Bool.{Bool, true, false, _&&_}
-use mathlib.Core.List.{List, [], _∷_, _++_}
+use mathlib.Core.List.{List}
 use Prim.Native.Nat.{ℕ, _-_, _≤_, _<_}
 use native.Mathlib.Omega.{arith}
 use lib.Dec.{T, ltb, ltb→lt, lt→ltb}
-use lib.ListN.{length, drop, length-append}
-use lib.Seq.{drop-append-seam}
+use lib.ListN.{length}
 use Rattle.eb3.specs.Refusal
 use Rattle.eb3.specs.Generic.Booleans.{T-and, T-fst, T-snd}
 use Rattle.eb3.specs.Cells.{total-cells}
 use Rattle.eb3.specs.Limits.{edition-1}
 use Rattle.eb3.specs.RuleSets.{RuleSet, attributes}
-use Rattle.eb3.specs.Measures.{sat, Measure, measure-main}
+use Rattle.eb3.specs.Measures.{sat, measure-main}
 use Rattle.eb3.specs.WellFormedness.{Form}
 use Rattle.eb3.specs.Laws.CellCounts.{cells-below}
 use Rattle.eb3.specs.RuleSpelling.{rules-words}
@@ -24,9 +22,10 @@ use Rattle.eb3.specs.Laws.RuleReading.{rules-sound}
 use Rattle.eb3.specs.Answers.{Answer}
 use Rattle.eb3.specs.Admission.{all-zero, ends-right}
 use Rattle.eb3.specs.Laws.Judging.{judged, whole-of, whole-refused, whole-taken}
-use Rattle.weights.specs.Weighing.{cap, measure, weight}
+use Rattle.weights.specs.Weighing.{cap, measure}
 use Rattle.weights.specs.declared.Weight.{Weight}
 use Rattle.scan.specs.Checking.{last-of}
+use Rattle.scan.specs.Laws.{behind-part}
 use Rattle.rules.specs.declared.Rules.{Rules}
 use Rattle.rules.specs.declared.Rules.the-variants.{Found, Refused}
 use Rattle.rules.specs.Sections.{rules-weighed}
@@ -62,12 +61,6 @@ pub record Whole (t : List ℕ) (r : Read RuleSet) (left cells : ℕ) (w : Weigh
   pub few : cells ≤ 1024
   pub weighs : measure w ≡ measure-main (sat cap) R
 
-end-of : (s rest t : List ℕ) (n : ℕ) → t ≡ s ++ rest → n ≡ length rest → last-of n t ≡ rest
-unfolding last-of
-end-of s rest t n e l =
-    let k : length t - n ≡ length s = omega (arith, ap length e, length-append s rest) in
-    ap (λ j. drop j t) k ∙ (ap (drop (length s)) e ∙ drop-append-seam s rest)
-
 whole-by : (t : List ℕ) (r : Read RuleSet) → Sound rules-words (Form edition-1) t r → (left cells : ℕ) (w : Weight) → Found left cells w ≡ rules-weighed r → Whole t r left cells w
 unfolding rules-weighed
 whole-by t (refused k) s left cells w e = absurd (subst IsFound e tt)
@@ -79,7 +72,7 @@ whole-by t (taken R rest) s left cells w e =
       rest = rest;
       reading = refl;
       left-is = l;
-      end = end-of (rules-words R) rest t left (s .0) l;
+      end = behind-part (rules-words R) rest t left (s .0) l;
       cells-are = c;
       few = omega (arith, c, cells-below R (s .1));
       weighs = ap (λ x. measure (weight-in w x)) e;

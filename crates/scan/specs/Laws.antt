@@ -1,5 +1,6 @@
--- Laws of reading, for any reader: what is left is an end of the words (`Ends`), readers that agree (`Same`), and how the answer of a check is made
--- of the answers of its parts: `..-out`, the first is refused; `..-in`, the first is read and the rest is checked on what is left.
+-- Laws of words and of the last words (`last-..`), and of reading, for any reader: what is left is an end of the words (`Ends`), readers that agree
+-- (`Same`), and how the answer of a check is made of the answers of its parts: `..-out`, the first is refused; `..-in`, the first is read and the rest
+-- is checked on what is left.
 -- Document 01, "Operations": 4, 5 and 6 by the first offending word of the stream.
 use Prim.Native.Nat.{ℕ, suc, _+_, _-_, _≤_, _<_}
 use native.Mathlib.Nat.{le-refl, le-trans}
@@ -8,7 +9,7 @@ use native.Mathlib.Decide.{decLe}
 use mathlib.Core.Path.{_≡_, refl, sym, ap, _∙_}
 use mathlib.Core.Bool.{Bool, true, false}
 use mathlib.Core.List.{List, [], _∷_, _++_, append-nil}
-use lib.ListN.{length, take, drop, getD, length-drop, drop-of-length-le}
+use lib.ListN.{length, take, drop, getD, set, length-drop, length-set, drop-of-length-le}
 use lib.Seq.{take-all, drop-length, drop-drop, drop-append-seam}
 use lib.Dec.{ltb}
 use Rattle.scan.specs.declared.Checked.{Checked}
@@ -39,6 +40,26 @@ back-rest s t k =
 pub behind-len : (s t : List ℕ) → t ≡ drop 1 s → length t ≡ length s - 1
 behind-len s t e = ap length e ∙ length-drop 1 s
 
+-- Where a word stands in front, the words behind it are fewer.
+pub behind-fewer : (s t : List ℕ) (w : ℕ) → t ≡ drop 1 s → getD s 0 0 ≡ w → 1 ≤ w → 1 + length t ≤ length s
+behind-fewer [] t w e h k = absurd (omega arith)
+behind-fewer (v ∷ s) t w e h k = omega (arith, ap length e)
+
+-- A word written at the front.
+pub set-first : (d : List ℕ) (x : ℕ) → (length d ≡ 0 → ⊥) → take 1 (set d 0 x) ≡ x ∷ []
+set-first [] x h = absurd (h refl)
+set-first (y ∷ d) x h = refl
+
+-- A word written into a copy.
+pub copy-len : (T T₀ : List ℕ) (k v : ℕ) → length T ≡ length T₀ → length (set T k v) ≡ length T₀
+copy-len T T₀ k v h = length-set T k v ∙ h
+
+-- ── the last words ──
+
+pub last-length : (n : ℕ) (t : List ℕ) → n ≤ length t → length (last-of n t) ≡ n
+unfolding last-of
+last-length n t h = length-drop (length t - n) t ∙ omega arith
+
 pub last-len : (n : ℕ) (s t : List ℕ) → t ≡ last-of n s → length t ≤ length s
 unfolding last-of
 last-len n s t e = omega (arith, ap length e, length-drop (length s - n) s)
@@ -48,6 +69,12 @@ unfolding last-of
 last-all n s h =
     let k : length s - n ≡ 0 = omega arith in
     ap (λ j. drop j s) k
+
+pub last-last : (m n : ℕ) (t : List ℕ) → n ≤ length t → m ≤ n → last-of m (last-of n t) ≡ last-of m t
+unfolding last-of
+last-last m n t h l =
+    let e : length t - n + (length (drop (length t - n) t) - m) ≡ length t - m = omega (arith, length-drop (length t - n) t) in
+    drop-drop (length (drop (length t - n) t) - m) (length t - n) t ∙ ap (λ j. drop j t) e
 
 -- ── what is left is an end of the words ──
 
@@ -88,6 +115,14 @@ tail-at t s p = go (decLe (p .0) (length s))
 -- The last words, as many as what stands behind others.
 pub last-behind : (a r : List ℕ) → last-of (length r) (a ++ r) ≡ r
 last-behind a r = tail-at r (a ++ r) (length a, sym (drop-append-seam a r))
+
+-- What stands behind a part is the last so many words.
+pub behind-part : (a b t : List ℕ) (n : ℕ) → t ≡ a ++ b → n ≡ length b → last-of n t ≡ b
+behind-part a b t n e h = ap (λ k. last-of k t) h ∙ ap (last-of (length b)) e ∙ last-behind a b
+
+pub last-tail : (k : ℕ) (t : List ℕ) → Tail (last-of k t) t
+unfolding last-of
+last-tail k t = (length t - k, refl)
 
 pub fine-on : {B : Type 0} (s t : List ℕ) (r : Read B) → Tail t s → Fine t r → Fine s r
 fine-on s t (refused k) p h = tt

@@ -14,7 +14,7 @@ use Rattle.scan.specs.declared.Checked.{Checked}
 use Rattle.scan.specs.declared.Checked.the-variants.{Left, Refused}
 use Rattle.eb3.specs.Reading.{Read, refused, taken, Reader, pick, giving, then, both, number-of, count-of, repeat, counted, for-each, series, number-in}
 use Rattle.scan.specs.Checking.{checked, last-of}
-use Rattle.scan.specs.Laws.{nil-form, cons-form, Ends, Fine, Tail, tail-here, tail-on, tail-at, tail-short, giving-fine, then-fine, both-ends, number-ends, checked-giving, both-in, both-out, then-out, last-all}
+use Rattle.scan.specs.Laws.{nil-form, cons-form, Ends, Fine, Tail, tail-here, tail-on, tail-at, tail-short, giving-fine, then-fine, both-ends, number-ends, checked-giving, both-in, both-out, then-out, last-all, last-tail}
 
 -- ── one count ──
 
@@ -181,10 +181,6 @@ passed u m (taken a v) h e =
     let k : m ≡ length v = cc in
     let l : last-of m u ≡ v = ap (λ j. last-of j u) k ∙ tail-at v u h in
     rw l (h, sym k)
-
-pub last-tail : (k : ℕ) (t : List ℕ) → Tail (last-of k t) t
-unfolding last-of
-last-tail k t = (length t - k, refl)
 
 module _ {A : Type 0} (f : Reader A) (ends : Ends f) (t u : List ℕ) (n left i : ℕ) (p : Checked) (inv : Repeating f t n left i) (lt : i < n) (is-u : u ≡ last-of left t) (e : p ≡ checked (f u)) where
   one-more : n - i ≡ suc (n - (i + 1))

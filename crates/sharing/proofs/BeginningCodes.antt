@@ -1,20 +1,12 @@
 -- The actions of running terms have numbers below 1,048,576, so that three numbers stand in one (document 01, "Moves, in order").
 use mathlib.Core.Path.{_≡_}
-use mathlib.Core.List.{List, [], _∷_}
+use mathlib.Core.List.{List}
 use Prim.Native.Nat.{ℕ, _+_, _*_, _/_, _%_, _≤_, _<_}
 use native.Mathlib.Omega.{arith}
-use lib.ListN.{length}
-use Rattle.eb3.specs.Generic.AllLists.{All}
-use Rattle.eb3.specs.Terms.{VisibleAction, Action, internal, visible}
-use Rattle.actions.specs.Codes.{arguments-code, action-code, Small, ActionAt}
+use Rattle.eb3.specs.Terms.{Action, internal, visible}
+use Rattle.actions.specs.Codes.{action-code, Small}
+use Rattle.actions.specs.CodesLaws.{few-arguments}
 use Rattle.sharing.specs.Beginning.{began, ActionNumber}
-
-few-arguments : (xs : List ℕ) → length xs ≤ 2 → All (λ x. x < 64) xs → arguments-code xs ≤ 4224
-unfolding arguments-code
-few-arguments [] l h = omega arith
-few-arguments (x ∷ []) l h = omega (arith, h .0)
-few-arguments (x ∷ y ∷ []) l h = omega (arith, h .0, h .1 .0)
-few-arguments (x ∷ y ∷ z ∷ xs) l h = absurd (omega arith)
 
 small-number : (ρ : Action) → Small ρ → action-code ρ < 1048576
 unfolding action-code

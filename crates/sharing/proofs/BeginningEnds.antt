@@ -42,11 +42,6 @@ last-tail n s v e = (length s - n, e)
 pub lent-length : (k : ℕ) (s : List ℕ) → length (take (length s - k) (drop k s)) ≡ length s - k
 lent-length k s = ap length (part k s) ∙ length-drop k s
 
--- Where a word stands in front, the words behind it are fewer.
-pub behind-fewer : (s t : List ℕ) (w : ℕ) → t ≡ drop 1 s → getD s 0 0 ≡ w → 1 ≤ w → 1 + length t ≤ length s
-behind-fewer [] t w e h k = absurd (omega arith)
-behind-fewer (v ∷ s) t w e h k = omega (arith, ap length e)
-
 -- ── parts ──
 
 pub part-at : {u v : List ℕ} {P : Scope} {F : Term} {rest : List ℕ} → Under u v → TermAt v P F rest → Unmasked F → PartAt u P (length v) F

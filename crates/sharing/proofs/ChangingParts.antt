@@ -4,12 +4,13 @@ use mathlib.Core.Bool.{true}
 use mathlib.Core.List.{List, [], _∷_, _++_}
 use Prim.Native.Nat.{ℕ, _+_, _-_, _*_, _/_, _%_, _≤_, _<_}
 use native.Mathlib.Omega.{arith}
-use lib.ListN.{length, take, drop, set, length-append, length-set, length-drop}
+use lib.ListN.{length, take, drop, set, length-append, length-set}
 use lib.Seq.{slice, length-slice, length-take-le, take-append-seam, take-suc-set}
 use Rattle.eb3.specs.Scopes.{Scope}
 use Rattle.eb3.specs.Terms.{Term, Action}
 use Rattle.eb3.specs.Sizes.{size}
 use Rattle.scan.specs.Checking.{last-of}
+use Rattle.scan.specs.Laws.{last-length}
 use Rattle.listing.specs.Listing.{TermAt}
 use Rattle.actions.specs.Codes.{action-code}
 use Rattle.paths.specs.Paths.{Followed, follow, followed, marked}
@@ -88,10 +89,6 @@ no-part h = record { same-length = refl; mid-same-length = refl; right = λ P l 
 began-is : (at left a : ℕ) → began at left a ≡ at + 65536 * (left + 65536 * a)
 unfolding began
 began-is at left a = refl
-
-last-length : (l : ℕ) (u : List ℕ) → l ≤ length u → length (last-of l u) ≡ l
-unfolding last-of
-last-length l u h = omega (arith, length-drop (length u - l) u)
 
 module _ {u d : List ℕ} {n i e w : ℕ} {p mid mid1 d′ mid2 s : List ℕ} {r k : ℕ} (within : n ≤ length d) (ie : i ≤ e) (en : e ≤ n) (short-u : length u ≤ 65503) (short-d : length d ≤ 65535)
     (short-p : length p ≤ 65535) (short-mid : length mid ≤ 65535) (is : s ≡ last-of (w - 32) u) (b : Beginning s p 0 mid mid1 r) (c : Spliced d mid1 n i e (r % 65536) d′ mid2 k) where

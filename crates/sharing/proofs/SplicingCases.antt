@@ -4,7 +4,7 @@ use mathlib.Core.List.{List, _++_, append-assoc}
 use Prim.Native.Nat.{ℕ, _+_, _-_, _≤_, _<_}
 use native.Mathlib.Numerals.{add-one}
 use native.Mathlib.Omega.{arith}
-use lib.ListN.{length, take, drop, set, getD, length-append, length-drop, length-set}
+use lib.ListN.{length, take, drop, set, getD, length-append, length-drop}
 use lib.Seq.{paste, paste-suc, slice, length-slice, length-take-le, take-all, take-at, drop-at, take-add, take-append-add}
 use Rattle.sharing.specs.Beginning.{put-at}
 use Rattle.sharing.specs.Splicing.{Spliced}
@@ -14,9 +14,6 @@ use Rattle.sharing.proofs.BeginningPuts.{put-length}
 
 pub copy-more : (T T₀ s : List ℕ) (at i w : ℕ) → i < length s → at + length s ≤ length T₀ → w ≡ getD s i 0 → T ≡ paste T₀ at s i → set T (at + i) w ≡ paste T₀ at s (i + 1)
 copy-more T T₀ s at i w h a f e = rw (e, f) (rw (add-one i) (paste-suc T₀ at s i 0 (omega arith) (omega arith)))
-
-pub copy-len : (T T₀ : List ℕ) (k v : ℕ) → length T ≡ length T₀ → length (set T k v) ≡ length T₀
-copy-len T T₀ k v h = length-set T k v ∙ h
 
 pub copy-last : (T T₀ s : List ℕ) (at i : ℕ) → length s ≤ i → i ≤ length s → T ≡ paste T₀ at s i → T ≡ put-at at s T₀
 copy-last T T₀ s at i h a e =

@@ -11,7 +11,7 @@ use Rattle.eb3.specs.Scopes.{Scope}
 use Rattle.eb3.specs.Terms.{Term, Done, Perform, Sequence, Choice, Star, VisibleAction, visible, internal, done?}
 use Rattle.eb3.specs.Spelling.{cond-words, words}
 use Rattle.scan.specs.Checking.{last-of}
-use Rattle.scan.specs.Laws.{part, last-len}
+use Rattle.scan.specs.Laws.{part, last-len, behind-part, behind-fewer}
 use Rattle.expressions.specs.Answering.{CondAt}
 use Rattle.actions.specs.Codes.{action-code, ActionAt}
 use Rattle.listing.specs.Listing.{TermAt}
@@ -22,7 +22,7 @@ use Rattle.paths.specs.Paths.{followed, within, follow, marked}
 use Rattle.successors.specs.Building.{built-words}
 use Rattle.successors.specs.Parts.{Unbuilt, Made, Whole, Added, Begun, BegunOf, Beginning, Behind, After, with-right, Closed}
 use Rattle.successors.specs.declared.Built.{Built}
-use Rattle.successors.proofs.Ends.{behind-part, before-part, drop-past, behind-shorter}
+use Rattle.successors.proofs.Ends.{before-part, drop-past}
 use Rattle.successors.specs.TermLaws.{action-there, sequence-two, choice-two, star-first, guard-condition, guard-operand, size-there}
 use Rattle.successors.specs.FollowLaws.{leaf, choice-left-follows, choice-left-marked, choice-right-follows, choice-right-marked, star-end-follows, round-follows, round-marked}
 use Rattle.successors.proofs.Made.{bounded-within, right-bounded, unbuilt-bounded, made-left, added-made}
@@ -154,7 +154,7 @@ module _ (s p x : List ℕ) (r : Built) (n : ℕ) (e : getD s 0 0 ≡ 23) (d : g
   choice-short h u =
       by-choice s p x x r (unbuilt-bounded (length s) (length p) refl u) e
       (λ P rest E F i j.
-      absurd (omega (arith, left-size P E F rest i j, h, behind-shorter s (drop 1 s) 23 refl e (omega arith), ap length (choice-two s P rest E F i .first .spelled), length-append (words 1 E) (words 1 F ++ rest), length-drop 1 s)))
+      absurd (omega (arith, left-size P E F rest i j, h, behind-fewer s (drop 1 s) 23 refl e (omega arith), ap length (choice-two s P rest E F i .first .spelled), length-append (words 1 E) (words 1 F ++ rest), length-drop 1 s)))
 
   pub choice-right : (q y : List ℕ) → q ≡ drop 2 p → Beginning (lent (1 + n) s) q x y r → Beginning s p x y r
   choice-right q y on given =

@@ -1,18 +1,14 @@
 -- Plain laws of lists: the first and the last words of a list, and what stands before and behind a part.
 use mathlib.Core.Path.{_≡_, refl, sym, ap, _∙_}
-use mathlib.Core.List.{List, [], _∷_, _++_, append-assoc}
+use mathlib.Core.List.{List, [], _++_, append-assoc}
 use Prim.Native.Nat.{ℕ, _+_, _-_, _≤_}
 use native.Mathlib.Omega.{arith}
 use lib.ListN.{length, take, drop, getD, length-append, length-drop, take-append-drop}
 use lib.Seq.{take-at, drop-at, drop-drop, drop-length, getD-drop}
 use Rattle.scan.specs.Checking.{last-of}
-use Rattle.scan.specs.Laws.{Tail, tail-on, tail-at, last-behind}
+use Rattle.scan.specs.Laws.{Tail, tail-on, tail-at, last-length, last-tail, behind-part}
 
 -- ── the last words ──
-
-pub last-length : (n : ℕ) (s : List ℕ) → n ≤ length s → length (last-of n s) ≡ n
-unfolding last-of
-last-length n s h = omega (arith, length-drop (length s - n) s)
 
 pub last-none : (s : List ℕ) → last-of 0 s ≡ []
 unfolding last-of
@@ -23,10 +19,6 @@ last-none s =
 pub last-short : (n : ℕ) (s t : List ℕ) → t ≡ last-of n s → length t ≤ n
 unfolding last-of
 last-short n s t e = omega (arith, ap length e, length-drop (length s - n) s)
-
-last-tail : (n : ℕ) (s : List ℕ) → Tail (last-of n s) s
-unfolding last-of
-last-tail n s = (length s - n, refl)
 
 -- The last words of an end of s are those of s.
 pub last-within : (s u : List ℕ) (n : ℕ) → Tail u s → n ≤ length u → last-of n u ≡ last-of n s
@@ -54,15 +46,12 @@ same-before a b c e =
     let l : length b ≡ length a = omega (arith, ap length e, length-append a c, length-append b c) in
     sym (take-at a c (length a) refl) ∙ (ap (take (length a)) e ∙ take-at b c (length a) l)
 
--- What stands behind a part is the last so many words, and what stands before it the others.
-pub behind-part : (a b t : List ℕ) (n : ℕ) → t ≡ a ++ b → n ≡ length b → last-of n t ≡ b
-behind-part a b t n e h = ap (λ k. last-of k t) h ∙ ap (last-of (length b)) e ∙ last-behind a b
-
--- The same where so many words stand before the first part.
+-- What stands behind a part is the last so many words, also where others stand before the part.
 pub behind-dropped : (s : List ℕ) (m : ℕ) (a b : List ℕ) (n : ℕ) → drop m s ≡ a ++ b → n ≡ length b → last-of n s ≡ b
 behind-dropped s m a b n e h =
     behind-part (take m s ++ a) b s n (sym (take-append-drop m s) ∙ (ap (λ l. take m s ++ l) e ∙ sym (append-assoc (take m s) a b))) h
 
+-- What stands before the last so many words.
 pub before-part : (a b t : List ℕ) (n : ℕ) → t ≡ a ++ b → n ≡ length b → take (length t - n) t ≡ a
 before-part a b t n e h =
     let k : length a ≡ length t - n = omega (arith, ap length e, length-append a b) in
@@ -77,11 +66,6 @@ pub take-past : (s : List ℕ) (m n : ℕ) (a b : List ℕ) → m ≤ length s �
 take-past s m n a b l e h =
     let k : length (take m s ++ a) ≡ m + n = omega (arith, length-append (take m s) a, ap length e, length-append a b, length-drop m s, ap length (take-append-drop m s), length-append (take m s) (drop m s)) in
     ap (take (m + n)) (sym (take-append-drop m s) ∙ (ap (λ z. take m s ++ z) e ∙ sym (append-assoc (take m s) a b))) ∙ take-at (take m s ++ a) b (m + n) k
-
--- Where a word stands in front, the words behind it are fewer.
-pub behind-shorter : (s t : List ℕ) (w : ℕ) → t ≡ drop 1 s → getD s 0 0 ≡ w → 1 ≤ w → 1 + length t ≤ length s
-behind-shorter [] t w e h k = absurd (omega arith)
-behind-shorter (v ∷ s) t w e h k = omega (arith, ap length e)
 
 pub second-word : (p : List ℕ) → getD (drop 1 p) 0 0 ≡ getD p 1 0
 second-word p = getD-drop 1 p 0 0

@@ -10,14 +10,14 @@ use Rattle.eb3.specs.Terms.{Term, Done, Parallel, Mask, internal}
 use Rattle.eb3.specs.Spelling.{words}
 use Rattle.eb3.specs.Sizes.{size}
 use Rattle.scan.specs.Checking.{last-of}
-use Rattle.scan.specs.Laws.{part, last-len}
+use Rattle.scan.specs.Laws.{part, last-len, behind-part}
 use Rattle.actions.specs.Codes.{action-code}
 use Rattle.listing.specs.Listing.{TermAt}
 use Rattle.paths.specs.Paths.{followed, within, follow, marked}
 use Rattle.successors.specs.Building.{built-words}
 use Rattle.successors.specs.Parts.{Unbuilt, Made, Whole, Begun, BegunOf, Beginning, BegunAfter, Behind, After, with-right, Closed, Both}
 use Rattle.successors.specs.declared.Built.{Built}
-use Rattle.successors.proofs.Ends.{last-within, behind-part, behind-dropped, drop-past, take-past}
+use Rattle.successors.proofs.Ends.{last-within, behind-dropped, drop-past, take-past}
 use Rattle.successors.specs.TermLaws.{parallel-two, parallel-head, parallel-long, size-there}
 use Rattle.successors.specs.FollowLaws.{rest-of-path, parallel-end-follows, parallel-left-follows, parallel-left-marked, parallel-right-follows, parallel-right-marked, parallel-both-follows, parallel-both-marked, size-marked}
 use Rattle.successors.proofs.Writes.{lent}

@@ -1,10 +1,9 @@
 -- A case for each code of a running term. The premises have the form of what the code tells there, so that `search` finds them.
 -- Document 01, "Unfolding, size and breadth"; refusal 10.
-use Prim.Native.Nat.{ℕ, suc, _≤_, _<_}
+use Prim.Native.Nat.{ℕ, _≤_, _<_}
 use native.Mathlib.Omega.{arith}
-use native.Mathlib.Decide.{ℕ-discrete}
 use mathlib.Core.Path.{_≡_, refl, sym, ap, _∙_}
-use mathlib.Core.Logic.{_⊎_, inl, inr, ⊎-elim}
+use mathlib.Core.Logic.{⊎-elim}
 use mathlib.Core.List.{List}
 use lib.ListN.{length, drop, getD}
 use borrow.Author.Tests.{ne-eqb}
@@ -12,6 +11,7 @@ use Rattle.eb3.specs.Terms.{Term, Star, Sequence, Choice}
 use Rattle.eb3.specs.Measures.{sat, Measure, leaf, nothing, measure-running}
 use Rattle.eb3.specs.Reading.{Read, refused, taken, giving, both}
 use Rattle.eb3.specs.TermReading.{TermKind, term-kind, action-of, term-by, terms, read-term}
+use Rattle.grammar.specs.Laws.{two-ways}
 use Rattle.scan.specs.Laws.{nil-form, behind-len}
 use Rattle.weights.specs.declared.Weight.{Weight}
 use Rattle.weights.specs.Weighing.{cap, measure}
@@ -34,14 +34,6 @@ weighed-choice : (s : Read (Term × Term)) → weighed-pair 23 s ≡ weighed-run
 unfolding weighed-pair weighed-running giving measure-running join-of
 weighed-choice (refused k) = refl
 weighed-choice (taken s t) = refl
-
--- One of two codes.
-two-ways : (w a : ℕ) → a ≤ w → w ≤ suc a → (w ≡ a) ⊎ (w ≡ suc a)
-two-ways w a l u = go (ℕ-discrete w a)
-  where
-    go : Dec (w ≡ a) → (w ≡ a) ⊎ (w ≡ suc a)
-    go (yes e) = inl e
-    go (no n) = inr (omega arith)
 
 above : (w : ℕ) → (w ≡ 20 → ⊥) → (w ≡ 21 → ⊥) → 20 ≤ w → 22 ≤ w
 above w a b l = omega arith

@@ -4,15 +4,12 @@ use mathlib.Core.List.{List, [], _∷_, _++_}
 use Prim.Native.Nat.{ℕ, zero, suc, _+_, _*_, _≤_, _<_}
 use native.Mathlib.Numerals.{add-one}
 use native.Mathlib.Omega.{arith}
-use lib.ListN.{length, take, getD, set, List·getD-eq-default}
+use lib.ListN.{length, take, getD, set}
 use lib.Seq.{take-suc-set}
 use borrow.Author.Tests.{eq-eqb, ne-eqb}
 use Rattle.arguments.specs.Tables.{from}
 use Rattle.arguments.specs.TableLaws.{from-length}
 use Rattle.unfold.specs.Saying.{argument-at}
-
-pub beyond : (s : List ℕ) (i : ℕ) → length s ≤ i → _≡_ {A = ℕ} 0 (getD s i 0)
-beyond s i h = sym (List·getD-eq-default s 0 h)
 
 -- ── arguments ──
 

@@ -4,7 +4,8 @@ use Prim.Native.Nat.{_-_, _≤_}
 use mathlib.Core.Path.{_≡_, refl}
 use lib.ListN.{length}
 use lib.Seq.{paste, paste-zero}
-use Rattle.declarations.proofs.Cases.{copy-more, copy-len, copy-last}
+use Rattle.scan.specs.Laws.{copy-len}
+use Rattle.declarations.proofs.Cases.{copy-more, copy-last}
 use Rattle.declarations.proofs.copy.Statement.{statement}
 use Rattle.declarations.proofs.copy.Tie as tie
 

@@ -1,6 +1,7 @@
 -- One word at the start, the run and the last term spelled out, put together (`bare-run`); there is always room for a word (`bare-none`).
 use Prim.Native.Nat.{_≤_}
-use Rattle.mains.proofs.BareCases.{bare-none, bare-run, set-first, front-within}
+use Rattle.mains.proofs.BareCases.{bare-none, bare-run, front-within}
+use Rattle.scan.specs.Laws.{set-first}
 use mathlib.Core.Path.{_∙_}
 use lib.ListN.{length, length-set}
 use native.Mathlib.Omega.{arith}

@@ -2,8 +2,7 @@
 -- less for a part than for what calls it on the same words. Where a part returns, a case of proofs/ says what it answers.
 use mathlib.Core.Path.{sym, _∙_}
 use lib.Seq.{length-take-le}
-use Rattle.scan.specs.Laws.{behind-len, last-len}
-use Rattle.successors.proofs.Ends.{behind-shorter}
+use Rattle.scan.specs.Laws.{behind-len, last-len, behind-fewer}
 use Rattle.successors.proofs.Begun.{behind-none, behind-begun, after-head}
 use Rattle.successors.proofs.Cases.{leaf-case, sequence-done, sequence-goes, guard-case, choice-left, choice-short, choice-right, star-ends, round}
 use Rattle.successors.proofs.Parallels.{parallel-short, parallel-ends, parallel-left, parallel-cut, parallel-right, parallel-both, both-made}
@@ -257,7 +256,7 @@ pub +begin+begin-after+begin-behind+begin-both+begin-choice+begin-chosen+begin-g
     begin-chosen.Post
     (λ c κs. search needs)
     (λ c κs. search needs)
-    (λ c κs. let h = behind-shorter (c .before .before .before .before .before .before .args .s .now) (c .before .before .behind .result .now) 23 (c .before .before .behind .ensures) (c .before .before .before .before .before .before .pre .1 .1) (omega arith) in (omega arith, omega arith))
+    (λ c κs. let h = behind-fewer (c .before .before .before .before .before .before .args .s .now) (c .before .before .behind .result .now) 23 (c .before .before .behind .ensures) (c .before .before .before .before .before .before .pre .1 .1) (omega arith) in (omega arith, omega arith))
     (λ c κs. search needs)
     (λ c κs. let h = behind-len (c .before .before .before .before .before .before .before .before .before .before .args .s .now) (c .before .before .before .before .before .before .behind .result .now) (c .before .before .before .before .before .before .behind .ensures) in (omega (arith, h, last-len _ _ _ (c .last .ensures)), omega (arith, h, c .before .before .before .begin .ensures .bounds .due-bounded)))
     (λ c κs. search needs)
@@ -271,7 +270,7 @@ pub +begin+begin-after+begin-behind+begin-both+begin-choice+begin-chosen+begin-g
     (λ c κs. search needs)
     (λ c κs. omega (arith, behind-len (c .before .before .before .before .args .s .now) (c .behind .result .now) (c .behind .ensures)))
     (λ c κs. search needs)
-    (λ c κs. let h = behind-shorter (c .before .before .before .before .before .before .before .args .s .now) (c .before .before .before .behind .result .now) 26 (c .before .before .before .behind .ensures) (c .before .before .before .before .before .before .before .pre .1 .1) (omega arith) in let k = last-len _ _ _ (c .before .last .ensures) in (omega arith, omega arith))
+    (λ c κs. let h = behind-fewer (c .before .before .before .before .before .before .before .args .s .now) (c .before .before .before .behind .result .now) 26 (c .before .before .before .behind .ensures) (c .before .before .before .before .before .before .before .pre .1 .1) (omega arith) in let k = last-len _ _ _ (c .before .last .ensures) in (omega arith, omega arith))
     (λ c. search needs)
     (λ c. search (guard-case)))
     (λ t. begin-parallel-lts.spec (begin-parallel-with t)
@@ -320,7 +319,7 @@ pub +begin+begin-after+begin-behind+begin-both+begin-choice+begin-chosen+begin-g
     (λ c κs. search needs)
     (λ c κs. search needs)
     (λ c κs. search needs)
-    (λ c κs. let h = behind-shorter (c .before .before .before .before .before .before .before .before .before .before .args .s .now) (c .before .before .before .before .before .before .behind .result .now) 24 (c .before .before .before .before .before .before .behind .ensures) (c .before .before .before .before .before .before .before .before .before .before .pre .1 .1) (omega arith) in (omega arith, (omega arith, omega arith)))
+    (λ c κs. let h = behind-fewer (c .before .before .before .before .before .before .before .before .before .before .args .s .now) (c .before .before .before .before .before .before .behind .result .now) 24 (c .before .before .before .before .before .before .behind .ensures) (c .before .before .before .before .before .before .before .before .before .before .pre .1 .1) (omega arith) in (omega arith, (omega arith, omega arith)))
     (λ c κs. search needs)
     (λ c κs. let h = behind-len (c .before .before .before .before .before .before .before .before .before .before .before .before .before .before .args .s .now) (c .before .before .before .before .before .before .before .before .before .before .behind .result .now) (c .before .before .before .before .before .before .before .before .before .before .behind .ensures) in (omega (arith, h, last-len _ _ _ (c .last .ensures)), omega (arith, h, c .before .before .before .begin-behind .ensures .bounds .due-bounded)))
     (λ c κs. search needs)
@@ -335,10 +334,10 @@ pub +begin+begin-after+begin-behind+begin-both+begin-choice+begin-chosen+begin-g
     (λ c κs. search needs)
     (λ c κs. search needs)
     (λ c κs. search needs)
-    (λ c κs. let h = behind-shorter (c .before .before .before .before .before .before .before .before .args .s .now) (c .before .before .before .before .behind .result .now) 22 (c .before .before .before .before .behind .ensures) (c .before .before .before .before .before .before .before .before .pre .1 .1) (omega arith) in let k = behind-len (c .before .before .before .before .behind .result .now) (c .before .behind2 .result .now) (c .before .behind2 .ensures) in (omega arith, omega arith))
+    (λ c κs. let h = behind-fewer (c .before .before .before .before .before .before .before .before .args .s .now) (c .before .before .before .before .behind .result .now) 22 (c .before .before .before .before .behind .ensures) (c .before .before .before .before .before .before .before .before .pre .1 .1) (omega arith) in let k = behind-len (c .before .before .before .before .behind .result .now) (c .before .behind2 .result .now) (c .before .behind2 .ensures) in (omega arith, omega arith))
     (λ c. search needs)
     (λ c. sequence-done (c .before .before .before .before .before .before .before .before .before .before .before .args .s .now) (c .before .before .before .before .before .before .before .before .before .before .before .args .path .now) (c .before .before .before .before .before .before .before .behind .result .now) (c .before .before .before .before .before .before .before .behind .ensures) _ _ _ _ (c .before .before .before .before .before .before .before .before .before .before .before .pre .1 .1) (sym (c .before .before .before .before .before .before .first .ensures .0) ∙ c .before .before .before .before .before .if1 .taken) (c .before .before .before .before .behind2 .ensures) (c .before .before .begin .ensures))
-    (λ c κs. let h = behind-shorter (c .before .before .before .before .before .before .before .args .s .now) (c .before .before .before .behind .result .now) 22 (c .before .before .before .behind .ensures) (c .before .before .before .before .before .before .before .pre .1 .1) (omega arith) in (omega arith, (omega arith, omega arith)))
+    (λ c κs. let h = behind-fewer (c .before .before .before .before .before .before .before .args .s .now) (c .before .before .before .behind .result .now) 22 (c .before .before .before .behind .ensures) (c .before .before .before .before .before .before .before .pre .1 .1) (omega arith) in (omega arith, (omega arith, omega arith)))
     (λ c κs. omega (arith, c .before .before .begin-after .ensures .bounds .due-bounded))
     (λ c. search needs)
     (λ c. sequence-goes (c .before .before .before .before .before .before .before .before .before .before .before .args .s .now) (c .before .before .before .before .before .before .before .before .before .before .before .args .path .now) (c .before .before .before .before .before .before .before .behind .result .now) (c .before .before .before .before .before .before .before .behind .ensures) _ _ _ _ (c .before .before .before .before .before .before .before .before .before .before .before .pre .1 .1) (λ z. c .before .before .before .before .before .if1 .left (c .before .before .before .before .before .before .first .ensures .0 ∙ z)) (c .before .before .before .begin-after .ensures) (c .with-right .ensures)))

@@ -9,8 +9,8 @@ use borrow.Author.Needs.{needs}
 use borrow.Fn.Kind.{PK}
 use borrow.Fn.Kinds.{In}
 use borrow.Fn.PlainCycle.{Measures, is, falls, and}
-use Rattle.scan.specs.Laws.{part, behind-len, last-len}
-use Rattle.sharing.proofs.BeginningEnds.{behind-fewer, lent-length}
+use Rattle.scan.specs.Laws.{part, behind-len, last-len, behind-fewer}
+use Rattle.sharing.proofs.BeginningEnds.{lent-length}
 use Rattle.sharing.proofs.BeginningCases.{leaf-case, action-case, sequence-done, sequence-full, sequence-goes, guard-case, choice-left, choice-short, choice-right, star-ends, round-full, round}
 use Rattle.sharing.proofs.BeginningParallels.{left-full, left-begun, both-full, both-begun, parallel-ends, parallel-short, parallel-full, parallel-left, parallel-right, parallel-cut, parallel-both}
 use Rattle.sharing.proofs.beginning.begin.Reads as begin

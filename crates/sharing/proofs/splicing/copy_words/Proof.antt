@@ -3,7 +3,8 @@ use Prim.Native.Nat.{_-_, _≤_}
 use mathlib.Core.Path.{_≡_, refl}
 use lib.ListN.{length}
 use lib.Seq.{paste, paste-zero}
-use Rattle.sharing.proofs.SplicingCases.{copy-more, copy-len, copy-last}
+use Rattle.scan.specs.Laws.{copy-len}
+use Rattle.sharing.proofs.SplicingCases.{copy-more, copy-last}
 use borrow.Author.Needs.{needs}
 use native.Mathlib.Omega.{arith}
 use Rattle.sharing.proofs.splicing.copy_words.Statement.{statement}
