@@ -9,7 +9,7 @@ use lib.ListN.{length, drop, drop-of-length-le, getD}
 use lib.Seq.{drop-cons}
 use borrow.Author.Tests.{not-true, not-false, eq-eqb, ne-eqb}
 use Rattle.eb3.specs.Refusal
-use Rattle.eb3.specs.Limits.{edition-1}
+use Rattle.eb3.specs.Editions.{edition-1}
 use Rattle.eb3.specs.Blocks.{stream}
 use Rattle.eb3.specs.Laws.Reading.{pick-true, pick-false}
 use Rattle.eb3.specs.RuleReading.{read-rules}

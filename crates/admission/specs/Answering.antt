@@ -1,7 +1,7 @@
 -- What the engine answers, in the specification's words: document 01's number or values for each case of an answer.
 use mathlib.Core.List.{List}
 use Prim.Native.Nat.{ℕ}
-use Rattle.eb3.specs.Limits.{edition-1}
+use Rattle.eb3.specs.Editions.{edition-1}
 use Rattle.eb3.specs.RuleReading.{read-rules}
 use Rattle.eb3.specs.Answers.{Answer, refused, answered, Sizes}
 use Rattle.eb3.specs.Laws.Judging.{whole-of}

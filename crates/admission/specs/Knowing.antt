@@ -6,7 +6,6 @@ use Prim.Native.Nat.{ℕ, _+_, _*_, _≤_}
 use native.Mathlib.Omega.{arith}
 use native.Mathlib.Nat.{mul-le-mul}
 use lib.ListN.{length, drop}
-use Rattle.eb3.specs.Limits.{edition-1}
 use Rattle.eb3.specs.RuleSets.{RuleSet}
 use Rattle.eb3.specs.RuleReading.{read-rules}
 use Rattle.eb3.specs.Blocks.{stream, open-blocks}
@@ -15,7 +14,7 @@ use Rattle.eb3.specs.WellFormedness.{Form, WellFormed}
 use Rattle.eb3.specs.Answers.{refused, answered, and-then}
 use Rattle.eb3.specs.Operations.{admit, sizes-needed}
 use Rattle.eb3.specs.Laws.Judging.{whole-of, admit-by-parts}
-use Rattle.eb3.specs.Laws.Admission.{admitted as admitted-form}
+use Rattle.eb3.specs.Laws.Admission.{admitted as admitted-form, opened-1}
 use Rattle.weights.specs.declared.Limits.{Limits}
 use Rattle.declarations.specs.Directory.{Directory, row-width}
 use Rattle.admission.specs.declared.Admitted.{Admitted}
@@ -26,12 +25,12 @@ use Rattle.admission.specs.AdmissionLaws.{admission-refused, admission-a
 
 -- The file's blocks were opened.
 abbrev pub Opens : List ℕ → Type 0
-Opens rules = open-blocks edition-1 rules ≡ answered (drop 2 (stream rules))
+Opens rules = open-blocks rules ≡ answered (opened-1 rules)
 
 pub record Known (rules T D : List ℕ) (l : Limits) : Type 0 where
   pub rule-set : RuleSet
-  pub admitted-as : admission edition-1 rules ≡ answered rule-set
-  pub well : WellFormed edition-1 rule-set
+  pub admitted-as : admission rules ≡ answered rule-set
+  pub well : WellFormed rule-set
   pub sizes : l ≡ limits (sizes-needed rule-set)
   pub directory : Directory (drop 2 (stream rules)) T D rule-set
 
@@ -42,15 +41,15 @@ rows-few a b h k = let p : 3 + a ≤ 67 = omega arith in omega (arith, mul-le-mu
 module _ (rules words D : List ℕ) (n : ℕ) (r : Admitted) (words′ T D′ : List ℕ) (o : Opens rules) (f : FileAdmitted rules words D n r words′ T D′) where
   answer-is : r ≡ admitted (admit rules)
   unfolding and-then
-  answer-is = f .answer ∙ sym (ap admitted (admit-by-parts rules ∙ ap (λ a. and-then a (λ ws. whole-of (read-rules edition-1 ws))) o))
+  answer-is = f .answer ∙ sym (ap admitted (admit-by-parts rules ∙ ap (λ a. and-then a (λ o. whole-of (read-rules (o .edition) (o .words)))) o))
 
-  pub known-refused : (k : ℕ) → r ≡ Admitted·refused k → admission edition-1 rules ≡ refused k
+  pub known-refused : (k : ℕ) → r ≡ Admitted·refused k → admission rules ≡ refused k
   known-refused k e = admission-refused rules k (sym e ∙ answer-is)
 
   pub known : (l : Limits) → r ≡ Admitted·sizes l → length D ≡ 1072 → Known rules T D′ l
   known l e room =
       let a = admission-answered rules l (sym e ∙ answer-is) in
-      let w : WellFormed edition-1 (a .0) = admitted-form edition-1 (omega arith) (omega arith) rules (a .0) (a .1) .0 in
+      let w : WellFormed (a .0) = admitted-form rules (a .0) (a .1) .good in
       let u = admission-taken rules (a .0) (a .1) in
       record {
         rule-set = a .0;

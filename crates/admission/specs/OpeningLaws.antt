@@ -11,10 +11,8 @@ use lib.Seq.{drop-append-le, take-at}
 use borrow.Author.Tests.{eq-eqb, le-leb}
 use Rattle.eb3.specs.Generic.Booleans.{T-fst, T-snd}
 use Rattle.eb3.specs.Refusal
-use Rattle.eb3.specs.Limits.{edition-1}
-use Rattle.eb3.specs.Blocks.{block-count, stream, whole-blocks, blocks-right, edition-right, open-blocks}
-use Rattle.eb3.specs.Laws.Admission.{stream-length}
-use Rattle.eb3.specs.Laws.Answers.{pick-answered, answered-injective}
+use Rattle.eb3.specs.Blocks.{block-count, stream, whole-blocks, Opened as Blocks·Opened, open-blocks}
+use Rattle.eb3.specs.Laws.Admission.{stream-length, opened as opened-as, opened-1, opened-is-1}
 use Rattle.eb3.specs.Answers.{Answer, refused, answered, and-then}
 use Rattle.eb3.specs.RuleReading.{read-rules}
 use Rattle.eb3.specs.Operations.{admit}
@@ -36,8 +34,8 @@ module _ (s : List ℕ) (n : ℕ) (e : length s ≡ 512 * n) (some : 1 ≤ n) (f
   stream-long : length (stream s) ≡ 254 * n
   stream-long =
       let a : length s % 512 ≡ 0 = omega arith in let b : 1 ≤ block-count s = omega arith in let c : block-count s ≤ 64 = omega arith in
-      let w : whole-blocks edition-1 s ≡ true = rw (eq-eqb _ _ a, le-leb _ _ b, le-leb _ _ c) in
-      stream-length edition-1 s (subst T (sym w) tt) ∙ ap (λ m. 254 * m) counted
+      let w : whole-blocks s ≡ true = rw (eq-eqb _ _ a, le-leb _ _ b, le-leb _ _ c) in
+      stream-length s (subst T (sym w) tt) ∙ ap (λ m. 254 * m) counted
 
   module _ (ws ws₀ : List ℕ) (j : ws ≡ stream s ++ drop (254 * n) ws₀) where
     -- Its words but the first two, lent.
@@ -50,37 +48,32 @@ module _ (s : List ℕ) (n : ℕ) (e : length s ≡ 512 * n) (some : 1 ≤ n) (f
 
 -- ── blocks ──
 
-unopened : (s : List ℕ) (a : Answer (List ℕ)) (k : ℕ) → Opened·refused k ≡ opening s a → a ≡ refused k
+unopened : (s : List ℕ) (a : Answer Blocks·Opened) (k : ℕ) → Opened·refused k ≡ opening s a → a ≡ refused k
 unfolding opening
 unopened s (refused j) k e = let z : j ≡ k = cc in ap refused z
 unopened s (answered x) k e = absurd (let z : _≡_ {A = ℕ} 0 1 = cc in omega arith)
 
-opened : (s : List ℕ) (a : Answer (List ℕ)) (n : ℕ) → Blocks n ≡ opening s a → (n ≡ block-count s) × (x : List ℕ) × (a ≡ answered x)
+opened : (s : List ℕ) (a : Answer Blocks·Opened) (n : ℕ) → Blocks n ≡ opening s a → (n ≡ block-count s) × (x : Blocks·Opened) × (a ≡ answered x)
 unfolding opening
 opened s (refused j) n e = absurd (let z : _≡_ {A = ℕ} 0 1 = cc in omega arith)
 opened s (answered x) n e = (cc, x, refl)
 
-whole-is : (s x : List ℕ) → open-blocks edition-1 s ≡ answered x → T (whole-blocks edition-1 s) × (x ≡ drop 2 (stream s))
-unfolding open-blocks
-whole-is s x e =
-    let p = pick-answered (whole-blocks edition-1 s) _ Refusal.length x e in
-    let q = pick-answered (blocks-right 0 (block-count s) s) _ Refusal.block x (p .1) in
-    let r = pick-answered (edition-right edition-1 s) _ Refusal.edition x (q .1) in
-    (p .0, sym (answered-injective (drop 2 (stream s)) x (r .1)))
+whole-is : (s : List ℕ) (x : Blocks·Opened) → open-blocks s ≡ answered x → T (whole-blocks s) × (x ≡ opened-1 s)
+whole-is s x e = (opened-as s x e .whole, opened-is-1 s x e)
 
-module _ (s : List ℕ) (p : Opened) (e : p ≡ opening s (open-blocks edition-1 s)) where
+module _ (s : List ℕ) (p : Opened) (e : p ≡ opening s (open-blocks s)) where
   pub admit-refused : (k : ℕ) → p ≡ Opened·refused k → Admitted·refused k ≡ admitted (admit s)
   unfolding admitted and-then
-  admit-refused k f = sym (ap admitted (admit-by-parts s ∙ ap (λ a. and-then a (λ words. whole-of (read-rules edition-1 words))) (unopened s _ k (sym f ∙ e))))
+  admit-refused k f = sym (ap admitted (admit-by-parts s ∙ ap (λ a. and-then a (λ o. whole-of (read-rules (o .edition) (o .words)))) (unopened s _ k (sym f ∙ e))))
 
-  pub open-refused : (k : ℕ) → p ≡ Opened·refused k → open-blocks edition-1 s ≡ refused k
+  pub open-refused : (k : ℕ) → p ≡ Opened·refused k → open-blocks s ≡ refused k
   open-refused k f = unopened s _ k (sym f ∙ e)
 
   module _ (n : ℕ) (f : p ≡ Blocks n) where
     pub admit-blocks : (length s ≡ 512 * n) × (1 ≤ n) × (n ≤ 64)
     admit-blocks =
         let o = opened s _ n (sym f ∙ e) in
-        let t : T (whole-blocks edition-1 s) = whole-is s (o .1) (o .2) .0 in
+        let t : T (whole-blocks s) = whole-is s (o .1) (o .2) .0 in
         let u = T-snd (eqb (length s % 512) 0) _ t in
         let c : n ≡ length s / 512 = o .0 in
         let a : length s % 512 ≡ 0 = eqb→eq (length s % 512) 0 (T-fst (eqb (length s % 512) 0) _ t) in
@@ -95,5 +88,5 @@ module _ (s : List ℕ) (p : Opened) (e : p ≡ opening s (open-blocks edition-1
     unfolding and-then
     admit-read r g =
         let o = opened s _ n (sym f ∙ e) in
-        g ∙ sym (ap admitted (admit-by-parts s ∙ (ap (λ a. and-then a (λ words. whole-of (read-rules edition-1 words))) (o .2)
-        ∙ ap (λ x. whole-of (read-rules edition-1 x)) (whole-is s (o .1) (o .2) .1))))
+        g ∙ sym (ap admitted (admit-by-parts s ∙ (ap (λ a. and-then a (λ o. whole-of (read-rules (o .edition) (o .words)))) (o .2)
+        ∙ ap (λ (x : Blocks·Opened). whole-of (read-rules (x .edition) (x .words))) (whole-is s (o .1) (o .2) .1))))

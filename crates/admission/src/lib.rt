@@ -5,7 +5,6 @@ ghost use mathlib.Core.Bool.{Bool};
 ghost use mathlib.Core.List.{List, [], _∷_, _++_};
 ghost use Prim.Native.Nat.{ℕ, _+_, _*_, _≤_, _<_};
 ghost use lib.ListN.{length, take, drop};
-ghost use Rattle.eb3.specs.Limits.{edition-1};
 ghost use Rattle.eb3.specs.RuleReading.{read-rules};
 ghost use Rattle.eb3.specs.Blocks.{stream};
 ghost use Rattle.eb3.specs.Admission.{all-zero};

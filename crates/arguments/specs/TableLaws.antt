@@ -54,7 +54,7 @@ from-zero-at n f j d h = from-at 0 n f j d h ∙ ap f (let e : 0 + j ≡ j = ome
 -- ── what the tables declare ──
 
 module _ (T : List ℕ) where
-  pub width-declared : declared T .width ≡ 1
+  pub width-declared : declared T .edition .width ≡ 1
   unfolding declared
   width-declared = refl
 
@@ -132,9 +132,9 @@ mask-read k n t Δ u e =
 constant-ends : (R : RuleSet) (d : ℕ) → Ends (constant-of-domain R d)
 unfolding constant-of-domain
 constant-ends R d t =
-    then-fine (λ v u. pick (leb v (R .top)) (pick (ltb v (domain-size R d)) (taken (constant-argument v) u) (refused Refusal.kind)) (refused Refusal.form))
-    (λ v u. pick-fine u (leb v (R .top)) _ _ (pick-fine u (ltb v (domain-size R d)) (taken (constant-argument v) u) _ (tail-here u) tt) tt)
-    t (number-in (R .width) t) (number-in-ends (R .width) t)
+    then-fine (λ v u. pick (leb v (R .edition .top)) (pick (ltb v (domain-size R d)) (taken (constant-argument v) u) (refused Refusal.kind)) (refused Refusal.form))
+    (λ v u. pick-fine u (leb v (R .edition .top)) _ _ (pick-fine u (ltb v (domain-size R d)) (taken (constant-argument v) u) _ (tail-here u) tt) tt)
+    t (number-in (R .edition .width) t) (number-in-ends (R .edition .width) t)
 
 variable-ends : (Γ : List ℕ) (d : ℕ) → Ends (variable-of-domain Γ d)
 unfolding variable-of-domain
@@ -168,5 +168,5 @@ fit-length R Γ (d ∷ ds) (r ∷ rs) h = ap suc (fit-length R Γ ds rs (h .1))
 
 pub arguments-count : (R : RuleSet) (Γ ds t : List ℕ) (rs : List Argument) (u : List ℕ) → arguments-of R Γ ds t ≡ taken rs u → length rs ≡ length ds
 arguments-count R Γ ds t rs u e =
-    let h : (t ≡ concat-map (argument-words (R .width)) rs ++ u) × arguments-fit R Γ ds rs = subst (λ r. Sound (concat-map (argument-words (R .width))) (arguments-fit R Γ ds) t r) e (arguments-sound R Γ ds t) in
+    let h : (t ≡ concat-map (argument-words (R .edition .width)) rs ++ u) × arguments-fit R Γ ds rs = subst (λ r. Sound (concat-map (argument-words (R .edition .width))) (arguments-fit R Γ ds) t r) e (arguments-sound R Γ ds t) in
     fit-length R Γ ds rs (h .1)

@@ -9,6 +9,7 @@ use lib.Dec.{eqb, ltb, leb}
 use lib.ListN.{length, take, drop, getD, replicate}
 use Rattle.eb3.specs.Expressions.{Undefined}
 use Rattle.eb3.specs.Refusal
+use Rattle.eb3.specs.Editions.{edition-1}
 use Rattle.eb3.specs.RuleSets.{Argument, constant-argument, variable-argument, rule-internal, Function, Process, RuleSet, domain-size}
 use Rattle.eb3.specs.Reading.{refused, taken, Reader, pick, then, by-number, number-in}
 use Rattle.eb3.specs.Measures.{sat, Measure, nothing}
@@ -37,8 +38,7 @@ process-row T p = record { parameters = row T (process-place p); term = rule-int
 
 unfoldable pub declared : List ℕ → RuleSet
 declared T = record {
-  top = 65534;
-  width = 1;
+  edition = edition-1;
   domains = from 0 (getD T 0 0) (λ d. getD T (1 + d) 0);
   labels = from 0 (getD T 17 0) (λ l. row T (label-place l));
   functions = replicate (getD T 210 0) some-function;
@@ -54,7 +54,7 @@ callee T p = pick (ltb p (getD T 211 0)) (measure-row T p) (nothing (sat 65536))
 
 -- What stands behind an argument's code 1 and 2: as `argument-of` reads it.
 unfoldable pub constant-of-domain : RuleSet → ℕ → Reader Argument
-constant-of-domain R d t = then (number-in (R .width) t) λ v u. pick (leb v (R .top)) (pick (ltb v (domain-size R d)) (taken (constant-argument v) u) (refused Refusal.kind)) (refused Refusal.form)
+constant-of-domain R d t = then (number-in (R .edition .width) t) λ v u. pick (leb v (R .edition .top)) (pick (ltb v (domain-size R d)) (taken (constant-argument v) u) (refused Refusal.kind)) (refused Refusal.form)
 
 unfoldable pub variable-of-domain : List ℕ → ℕ → Reader Argument
 variable-of-domain Γ d t = by-number Refusal.reference (length Γ) (λ i u. pick (eqb (getD Γ i 0) d) (taken (variable-argument i) u) (refused Refusal.kind)) t

@@ -6,7 +6,7 @@ use Prim.Native.Nat.{ℕ, _+_, _*_}
 use lib.Dec.{eqb}
 use lib.ListN.{getD}
 use Rattle.eb3.specs.Answers.{Answer, refused, answered}
-use Rattle.eb3.specs.Blocks.{Sums, block-count}
+use Rattle.eb3.specs.Blocks.{Sums, block-count, Opened as Blocks·Opened}
 use Rattle.blocks.specs.declared.Opened.{Opened}
 use Rattle.blocks.specs.declared.Opened.the-variants.{Blocks, Refused}
 use Rattle.blocks.specs.declared.Pair.{Pair}
@@ -19,6 +19,6 @@ abbrev pub edition-test : List ℕ → ℕ → Bool
 edition-test s n = eqb (getD s 4 0 + 256 * getD s 5 0) 1 && eqb (getD s 6 0 + 256 * getD s 7 0) n
 
 -- An opened file by its number of blocks, a refused one by the refusal's number.
-unfoldable pub opening : List ℕ → Answer (List ℕ) → Opened
+unfoldable pub opening : List ℕ → Answer Blocks·Opened → Opened
 opening rules (refused k) = Refused k
-opening rules (answered words) = Blocks (block-count rules)
+opening rules (answered o) = Blocks (block-count rules)

@@ -5,7 +5,6 @@ ghost use mathlib.Core.Bool.{Bool};
 ghost use mathlib.Core.List.{List, [], _∷_, _++_};
 ghost use Prim.Native.Nat.{ℕ, _+_, _*_, _/_, _%_, _≤_, _<_};
 ghost use lib.ListN.{length, take, drop, getD};
-ghost use Rattle.eb3.specs.Limits.{edition-1};
 ghost use Rattle.eb3.specs.Bytes.{words-in};
 ghost use Rattle.eb3.specs.Blocks.{Sums, sums, block-right, blocks-right, contents, stream, open-blocks};
 ghost use Rattle.eb3.specs.Laws.Blocks.{plain-sums};
@@ -155,7 +154,7 @@ fn check_edition(rules: &[u8], n: u64) -> bool
 
 // A file of 1 to 64 whole blocks, each with its number and sums, of this edition.
 pub fn open(rules: &[u8]) -> Opened
-    ensures { λ r. ⌜ r ≡ opening (now (rules .entry)) (open-blocks edition-1 (now (rules .entry))) ⌝ }
+    ensures { λ r. ⌜ r ≡ opening (now (rules .entry)) (open-blocks (now (rules .entry))) ⌝ }
 {
     if rules.len() % 512 != 0 {
         return Opened::Refused(1);

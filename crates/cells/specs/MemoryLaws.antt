@@ -14,7 +14,6 @@ use Rattle.eb3.specs.Laws.RuleSets.{getD-map}
 use Rattle.eb3.specs.Bytes.{words-in, word-count, written}
 use Rattle.eb3.specs.Laws.Bytes.{words-counted, written-words}
 use Rattle.eb3.specs.Laws.Spelling.{Small}
-use Rattle.eb3.specs.Limits.{edition-1}
 use Rattle.eb3.specs.Memory.{memory-words, cells-in}
 use Rattle.expressions.specs.Stores.{stored, now-place}
 use Rattle.expressions.specs.ValueLaws.{word-of-value, any-default}
@@ -38,22 +37,22 @@ unfolding decode
 decoded-at-most [] = tt
 decoded-at-most (w ∷ ws) = (bounded-at-most 65534 w, decoded-at-most ws)
 
-pub given-at-most : (c : ℕ) (B : List ℕ) → ValuesAtMost 65534 (cells-in edition-1 c B)
+pub given-at-most : (c : ℕ) (B : List ℕ) → ValuesAtMost 65534 (cells-in 65534 c B)
 unfolding cells-in
 given-at-most c B = decoded-at-most (take c (words-in B))
 
-pub given-counted : (c : ℕ) (B : List ℕ) → c ≤ word-count B → length (cells-in edition-1 c B) ≡ c
+pub given-counted : (c : ℕ) (B : List ℕ) → c ≤ word-count B → length (cells-in 65534 c B) ≡ c
 unfolding cells-in
 given-counted c B h = length-map (take c (words-in B)) (decode 65534) ∙ length-take-le c (words-in B) (omega (arith, words-counted B))
 
-given-cell : (c : ℕ) (B : List ℕ) → c ≤ word-count B → (k : ℕ) → k < c → getD (cells-in edition-1 c B) k undefined ≡ decode 65534 (getD (words-in B) k 0)
+given-cell : (c : ℕ) (B : List ℕ) → c ≤ word-count B → (k : ℕ) → k < c → getD (cells-in 65534 c B) k undefined ≡ decode 65534 (getD (words-in B) k 0)
 unfolding cells-in
 given-cell c B h k l =
     getD-map (decode 65534) (take c (words-in B)) k 0 undefined (omega (arith, length-take-le c (words-in B) (omega (arith, words-counted B))))
     ∙ ap (decode 65534) (getD-take c (words-in B) k 0 l)
 
 -- Loaded from a memory of at least c cells, into a store with room for them.
-pub loaded-holds : (B M M′ : List ℕ) (at c : ℕ) → ((k : ℕ) → getD (words-in B) k 0 < 65536) → c ≤ word-count B → at + c ≤ length M → Loaded B M M′ at c → Holds M′ at (cells-in edition-1 c B)
+pub loaded-holds : (B M M′ : List ℕ) (at c : ℕ) → ((k : ℕ) → getD (words-in B) k 0 < 65536) → c ≤ word-count B → at + c ≤ length M → Loaded B M M′ at c → Holds M′ at (cells-in 65534 c B)
 loaded-holds B M M′ at c small enough room loaded k h =
     let l : k < c = omega (arith, given-counted c B enough) in
     loaded .there k l (omega arith) ∙ sym (word-of-value (getD (words-in B) k 0) (small k)) ∙ ap (encode 65535) (sym (given-cell c B enough k l))
@@ -84,7 +83,7 @@ module _ (B M M′ : List ℕ) (n : ℕ) where
 
 -- ── cells written ──
 
-pub held-words : (M : List ℕ) (cells : List Value) (c : ℕ) → length cells ≡ c → now-place + c ≤ length M → Holds M now-place cells → take c (drop now-place M) ≡ memory-words edition-1 cells
+pub held-words : (M : List ℕ) (cells : List Value) (c : ℕ) → length cells ≡ c → now-place + c ≤ length M → Holds M now-place cells → take c (drop now-place M) ≡ memory-words cells
 unfolding memory-words
 held-words M cells c counted room holds = ext-getD 0 (take c (drop 36 M)) (map (encode 65535) cells) (len ∙ sym (length-map cells (encode 65535) ∙ counted)) each
   where

@@ -8,12 +8,12 @@ use Rattle.eb3.specs.Expressions.{Data, Undefined}
 use Rattle.eb3.specs.Attributes.{Attributes, domain, number-of-functions}
 use Rattle.eb3.specs.Scopes.{start-scope, label-scope, guard-scope}
 use Rattle.eb3.specs.Cells.{cell-count, offset, total-cells}
-use Rattle.eb3.specs.Laws.CellCounts.{one-arity, cells-below as cells-at-most}
-use Rattle.eb3.specs.Limits.{edition-1}
+use Rattle.eb3.specs.Laws.CellCounts.{one-parameter-count, one-arity, cells-below as cells-at-most}
 use Rattle.eb3.specs.RuleSets.{Function, RuleSet, domain-size, sizes-of, no-rule, function-rule, attributes}
 use Rattle.eb3.specs.Laws.RuleSets.{functions-counted, domain-is}
 use Rattle.eb3.specs.Spelling.{data-words}
 use Rattle.eb3.specs.WellFormedness.{domains-defined, Form}
+use Rattle.eb3.specs.Laws.Editions.{top-is-65534}
 use Rattle.declarations.specs.Directory.{Stands, Standing, FunctionRow, FunctionRows, row-width, Directory}
 use Rattle.declarations.specs.Entering.{cells-of, all-cells}
 use Rattle.expressions.specs.Stores.{stored, row-place}
@@ -63,7 +63,7 @@ pub record OneDomain (ns : List ℕ) : Type 0 where
   pub some-cell : 1 ≤ cell-count ns
   pub few-cells : cell-count ns ≤ 64
 
-module _ (R : RuleSet) (form : Form edition-1 R) where
+module _ (R : RuleSet) (form : Form R) where
   abbrev A : Attributes
   A = attributes R
 
@@ -77,7 +77,7 @@ module _ (R : RuleSet) (form : Form edition-1 R) where
   one-domain (d ∷ e ∷ ds) h k = absurd (let z : ⊥ = omega (arith, h .1) in z)
 
   pub domain-of : (f : ℕ) → f < length (R .functions) → OneDomain (domain A f)
-  domain-of f h = subst OneDomain (sym (domain-is R f h)) (one-domain (function-rule R f .parameters) (form .function-forms f h .parameter-count) (form .function-forms f h .parameters))
+  domain-of f h = subst OneDomain (sym (domain-is R f h)) (one-domain (function-rule R f .parameters) (one-parameter-count R form f h) (form .function-forms f h .parameters))
 
   -- ── cells ──
 
@@ -100,13 +100,13 @@ module _ (R : RuleSet) (form : Form edition-1 R) where
   -- ── scopes ──
 
   pub plain-start : (f : ℕ) → Plain (start-scope A f)
-  plain-start f = record { largest = form .top-is; one-parameter = fun-ext (one-arity R form) }
+  plain-start f = record { largest = top-is-65534 form; one-parameter = fun-ext (one-arity R form) }
 
   pub plain-label : (f k : ℕ) → Plain (label-scope A f k)
-  plain-label f k = record { largest = form .top-is; one-parameter = fun-ext (one-arity R form) }
+  plain-label f k = record { largest = top-is-65534 form; one-parameter = fun-ext (one-arity R form) }
 
   pub plain-guard : (k : ℕ) → Plain (guard-scope A k)
-  plain-guard k = record { largest = form .top-is; one-parameter = fun-ext (one-arity R form) }
+  plain-guard k = record { largest = top-is-65534 form; one-parameter = fun-ext (one-arity R form) }
 
   -- ── rows ──
 

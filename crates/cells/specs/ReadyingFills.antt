@@ -17,12 +17,12 @@ use Rattle.eb3.specs.Scopes.{data-in-scope, start-scope, label-scope}
 use Rattle.eb3.specs.Cells.{total-cells, cell-at}
 use Rattle.eb3.specs.Laws.Cells.{ValuesAtMost}
 use Rattle.eb3.specs.Laws.CellCounts.{one-arity}
-use Rattle.eb3.specs.Limits.{edition-1}
 use Rattle.eb3.specs.RuleSets.{RuleSet, label, function-rule, attributes}
 use Rattle.eb3.specs.Laws.RuleSets.{getD-map, functions-counted, function-is}
 use Rattle.eb3.specs.Laws.Elements.{within-small, arguments-counted, arguments-two}
 use Rattle.eb3.specs.Spelling.{data-words}
 use Rattle.eb3.specs.WellFormedness.{well-formed-action, Form}
+use Rattle.eb3.specs.Laws.Editions.{top-is-65534}
 use Rattle.declarations.specs.Directory.{Stands, row-width, Directory}
 use Rattle.expressions.specs.Stores.{stored, now-place, before-place, variable-in}
 use Rattle.cells.specs.Layout.{Laid, Holds}
@@ -31,7 +31,7 @@ use Rattle.cells.specs.Preparing.{Prepared}
 use Rattle.cells.specs.Reads.{reads-cells}
 use Rattle.cells.specs.Readying.{standing-at, plain-start, plain-label, directory-row, rows-laid, rows-small}
 
-module _ (R : RuleSet) (form : Form edition-1 R) where
+module _ (R : RuleSet) (form : Form R) where
   abbrev A : Attributes
   A = attributes R
 
@@ -68,7 +68,7 @@ module _ (R : RuleSet) (form : Form edition-1 R) where
         → Filling A none no-reading t D M′ w 2 (length (R .functions))
     start-filling M M′ p room = record {
       functions = sym (functions-counted R);
-      largest = form .top-is;
+      largest = top-is-65534 form;
       laid = rows-laid R form t T D d M M′ p;
       small = rows-small R form t T D d M M′ p;
       room = room;
@@ -105,7 +105,7 @@ module _ (R : RuleSet) (form : Form edition-1 R) where
           → Filling A (some a) (cell-at A cells) t D M w (3 + a .label) (length (R .functions))
       renew-filling small room apart given = record {
         functions = sym (functions-counted R);
-        largest = form .top-is;
+        largest = top-is-65534 form;
         laid = laid;
         small = small;
         room = room;

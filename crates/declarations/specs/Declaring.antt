@@ -22,8 +22,8 @@ pub record Tables (T : List ℕ) (domains : List ℕ) (labels : List (List ℕ))
 
 -- All that a process behind those of R is read by, and its processes' measures.
 pub record Declares (T : List ℕ) (R : RuleSet) : Type 0 where
-  pub same-top : R .top ≡ 65534
-  pub same-width : R .width ≡ 1
+  pub same-top : R .edition .top ≡ 65534
+  pub same-width : R .edition .width ≡ 1
   pub tables : Tables T (R .domains) (R .labels) (R .functions)
   pub same-processes : map (λ (P : Process). P .parameters) (declared T .processes) ≡ map (λ (P : Process). P .parameters) (R .processes)
   pub same-measures : callee T ≡ row-of (sat 65536) R (length (R .processes))

@@ -11,7 +11,7 @@ use native.Mathlib.Decide.{decLt, ℕ-discrete}
 use lib.ListN.{length, take, drop, getD, set, length-set, length-append, length-map, List·getD-append}
 use lib.Seq.{paste, length-paste, getD-set-same, getD-set-other, ext-getD, take-append-seam, getD-append-seam}
 use lib.Dec.{eqb, eqb→eq, eqb-refl}
-use Rattle.eb3.specs.Limits.{edition-1}
+use Rattle.eb3.specs.Editions.{edition-1}
 use Rattle.eb3.specs.Generic.Booleans.{cond-true, cond-false}
 use Rattle.eb3.specs.Generic.Lists.{concat-map}
 use Rattle.eb3.specs.Generic.AllLists.{All, all-at}
@@ -34,7 +34,7 @@ use Rattle.declarations.specs.Regions.{paste-before, paste-inside, row-i
 -- ── domains ──
 
 -- What was read stands in front: their count, and they.
-domains-in-front : (t ds u : List ℕ) → read-domains edition-1 t ≡ taken ds u → t ≡ length ds ∷ (ds ++ u)
+domains-in-front : (t ds u : List ℕ) → read-domains t ≡ taken ds u → t ≡ length ds ∷ (ds ++ u)
 domains-in-front t ds u e = sound .0 ∙ ap (λ l. length ds ∷ (l ++ u)) (words ds)
   where
     Sizes : List ℕ → Type 0
@@ -47,17 +47,17 @@ domains-in-front t ds u e = sound .0 ∙ ap (λ l. length ds ∷ (l ++ u)) (word
     words [] = refl
     words (x ∷ l) = ap (λ r. x ∷ r) (words l)
 
-domains-copied : (T t ds u : List ℕ) → read-domains edition-1 t ≡ taken ds u → paste T 0 t (getD t 0 0 + 1) ≡ length ds ∷ (ds ++ drop (suc (length ds)) T)
+domains-copied : (T t ds u : List ℕ) → read-domains t ≡ taken ds u → paste T 0 t (getD t 0 0 + 1) ≡ length ds ∷ (ds ++ drop (suc (length ds)) T)
 domains-copied T t ds u e =
     ap (λ s. paste T 0 s (getD s 0 0 + 1)) (domains-in-front t ds u e)
     ∙ ap (λ n. take n (length ds ∷ (ds ++ u)) ++ drop (0 + n) T) (let z : length ds + 1 ≡ suc (length ds) = omega arith in z)
     ∙ ap (λ n. (length ds ∷ take (length ds) (ds ++ u)) ++ drop n T) (let z : 0 + suc (length ds) ≡ suc (length ds) = omega arith in z)
     ∙ ap (λ l. length ds ∷ (l ++ drop (suc (length ds)) T)) (take-append-seam ds u)
 
-pub domains-counted : (T t ds u : List ℕ) → read-domains edition-1 t ≡ taken ds u → 17 ≤ length T → getD (paste T 0 t (getD t 0 0 + 1)) 0 0 ≡ length ds
+pub domains-counted : (T t ds u : List ℕ) → read-domains t ≡ taken ds u → 17 ≤ length T → getD (paste T 0 t (getD t 0 0 + 1)) 0 0 ≡ length ds
 domains-counted T t ds u e room = ap (λ l. getD l 0 0) (domains-copied T t ds u e)
 
-pub domains-entered : (T t ds u : List ℕ) → read-domains edition-1 t ≡ taken ds u → 17 ≤ length T → declared (paste T 0 t (getD t 0 0 + 1)) .domains ≡ ds
+pub domains-entered : (T t ds u : List ℕ) → read-domains t ≡ taken ds u → 17 ≤ length T → declared (paste T 0 t (getD t 0 0 + 1)) .domains ≡ ds
 domains-entered T t ds u e room = ap (λ l. declared l .domains) (domains-copied T t ds u e) ∙ ext-getD 0 (declared W .domains) ds (domains-length W)
     (λ d b. let c : d < length ds = omega (arith, domains-length W) in
     domain-at W d c ∙ ap (λ n. getD W n 0) (let z : 1 + d ≡ suc d = omega arith in z) ∙ List·getD-append ds (drop (suc (length ds)) T) 0 d c)

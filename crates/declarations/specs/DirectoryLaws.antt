@@ -9,7 +9,6 @@ use Rattle.eb3.specs.Expressions.{Data}
 use Rattle.eb3.specs.Scopes.{Scope, data-in-scope}
 use Rattle.eb3.specs.RuleSets.{Function, Process, RuleSet}
 use Rattle.eb3.specs.Generic.Lists.{concat-map}
-use Rattle.eb3.specs.Limits.{edition-1}
 use Rattle.eb3.specs.Refusal
 use Rattle.eb3.specs.Spelling.{data-words}
 use Rattle.eb3.specs.RuleSpelling.{one-word, counted-words, rule-words}
@@ -124,16 +123,16 @@ rows-more t T p (Q ∷ Ps) P r h =
     (r .0, rows-more t T (suc p) Ps P (r .1) (subst (λ n. Stands t (getD T (process-place n + 8) 0) (rule-words 1 (P .term))) e h))
 
 -- Where a process was read, its term stands behind its parameters.
-pub term-stands : (R : RuleSet) (hi : ℕ) (whole t : List ℕ) (P : Process) (u : List ℕ) → R .width ≡ 1 → Tail t whole → read-process edition-1 R hi t ≡ taken P u
+pub term-stands : (R : RuleSet) (hi : ℕ) (whole t : List ℕ) (P : Process) (u : List ℕ) → R .edition .width ≡ 1 → Tail t whole → read-process R hi t ≡ taken P u
     → Stands whole (length t - (getD t 0 0 + 1)) (rule-words 1 (P .term))
 unfolding read-process
 term-stands R hi whole t P u w tl e =
-    let h = then-took (counted 0 hi (number-of Refusal.reference (length (R .domains))) t) (λ ds v. giving (λ E. record { parameters = ds; term = E }) (read-rule-term edition-1 R ds v)) P u e in
-    let k = giving-taken (λ E. record { parameters = h .0; term = E }) (read-rule-term edition-1 R (h .0) (h .1)) P u (h .3) in
+    let h = then-took (counted 0 hi (number-of Refusal.reference (length (R .domains))) t) (λ ds v. giving (λ E. record { parameters = ds; term = E }) (read-rule-term R ds v)) P u e in
+    let k = giving-taken (λ E. record { parameters = h .0; term = E }) (read-rule-term R (h .0) (h .1)) P u (h .3) in
     let s : (t ≡ counted-words one-word (h .0) ++ h .1) × _ = subst (Sound (counted-words one-word) _ t) (h .2) (counted-sound one-word (λ d. d < length (R .domains)) (number-of Refusal.reference (length (R .domains))) (number-sound Refusal.reference (length (R .domains))) 0 hi t) in
     let v : Tail (h .1) t = subst (Fine t) (h .2) (counted-ends 0 hi (number-of Refusal.reference (length (R .domains))) (number-ends Refusal.reference (length (R .domains))) t) in
     let n : length (h .1) ≡ length t - (getD t 0 0 + 1) = behind-parameters t (h .0) (h .1) (s .0) in
-    let st : Stands whole (length (h .1)) (rule-words (R .width) (k .0)) = stands-read (rule-words (R .width)) _ (read-rule-term edition-1 R (h .0)) (rule-term-sound edition-1 R (h .0)) whole (h .1) (k .0) u (tail-on (h .1) t whole tl v) (k .1) in
+    let st : Stands whole (length (h .1)) (rule-words (R .edition .width) (k .0)) = stands-read (rule-words (R .edition .width)) _ (read-rule-term R (h .0)) (rule-term-sound R (h .0)) whole (h .1) (k .0) u (tail-on (h .1) t whole tl v) (k .1) in
     subst (λ (Q : Process). Stands whole (length t - (getD t 0 0 + 1)) (rule-words 1 (Q .term))) (sym (k .2)) (subst (λ m. Stands whole m (rule-words 1 (k .0))) n (subst (λ c. Stands whole (length (h .1)) (rule-words c (k .0))) w st))
   where
     words-length : (ds : List ℕ) → length (concat-map one-word ds) ≡ length ds

@@ -4,7 +4,7 @@ use Prim.Native.Nat.{ℕ}
 use mathlib.Core.Path.{_≡_}
 use mathlib.Core.List.{List}
 use lib.ListN.{length}
-use Rattle.eb3.specs.Limits.{Limits}
+use Rattle.eb3.specs.Editions.{Edition}
 use Rattle.eb3.specs.Reading.{both, number-of, repeat, for-each, series}
 use Rattle.eb3.specs.ExpressionReading.{read-data}
 use Rattle.eb3.specs.RuleReading.{count-for, at-start-scope, at-label-scope, function-from, read-function}
@@ -12,7 +12,7 @@ use Rattle.scan.specs.Laws.{Ends, giving-fine, both-ends, number-ends}
 use Rattle.scan.specs.RowLaws.{repeat-ends, for-each-ends, series-ends}
 use Rattle.grammar.specs.Laws.{data-ends}
 
-module _ (L : Limits) (d : ℕ) (labels : List (List ℕ)) (counts : List ℕ) where
+module _ (L : Edition) (d : ℕ) (labels : List (List ℕ)) (counts : List ℕ) where
   pub function-ends : (i : ℕ) → Ends (read-function L d labels counts i)
   unfolding read-function
   function-ends i t =

@@ -4,7 +4,7 @@ use mathlib.Core.Path.{_≡_}
 use mathlib.Core.List.{List, _∷_}
 use Prim.Native.Nat.{ℕ, _+_, _*_, _≤_, _<_}
 use lib.ListN.{length, getD, replicate}
-use Rattle.eb3.specs.Limits.{edition-1}
+use Rattle.eb3.specs.Editions.{edition-1}
 use Rattle.eb3.specs.Expressions.{Data}
 use Rattle.eb3.specs.RuleSets.{Function}
 use Rattle.eb3.specs.Reading.{Read, taken, Reader, both, for-each, series}

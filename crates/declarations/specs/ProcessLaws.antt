@@ -9,7 +9,6 @@ use lib.Seq.{take-at, getD-set-other}
 use Rattle.eb3.specs.Refusal
 use Rattle.eb3.specs.Generic.AllLists.{All}
 use Rattle.eb3.specs.Generic.Lists.{concat-map}
-use Rattle.eb3.specs.Limits.{edition-1}
 use Rattle.eb3.specs.RuleSets.{RuleTerm, Function, Process, RuleSet}
 use Rattle.eb3.specs.Measures.{sat, Measure, measure-term, row-of}
 use Rattle.eb3.specs.RuleSpelling.{one-word, counted-words}
@@ -27,10 +26,10 @@ module _ (T : List ℕ) (R : RuleSet) (d : Declares T R) where
   alike = declared-alike T R d
 
   -- A process is read by the tables as behind R,
-  pub process-alike : (hi : ℕ) (t : List ℕ) → read-process edition-1 (declared T) hi t ≡ read-process edition-1 R hi t
+  pub process-alike : (hi : ℕ) (t : List ℕ) → read-process (declared T) hi t ≡ read-process R hi t
   unfolding read-process
   process-alike hi t = λ i. then (counted 0 hi (number-of Refusal.reference (length (alike .same-domains i))) t)
-      (λ ds u. giving (λ E. record { parameters = ds; term = E }) (read-alike (declared T) R alike edition-1 ds u i))
+      (λ ds u. giving (λ E. record { parameters = ds; term = E }) (read-alike (declared T) R alike ds u i))
 
   -- and measured so.
   pub term-alike : (E : RuleTerm) → measure-term (sat 65536) (declared T) (callee T) E ≡ measure-term (sat 65536) R (row-of (sat 65536) R (length (R .processes))) E
@@ -66,7 +65,7 @@ abbrev parameters-in : Read Process → List ℕ
 parameters-in (refused k) = []
 parameters-in (taken P v) = P .parameters
 
-pub process-front : (R : RuleSet) (hi : ℕ) (t : List ℕ) (P : Process) (u : List ℕ) → read-process edition-1 R hi t ≡ taken P u → Front hi t P
+pub process-front : (R : RuleSet) (hi : ℕ) (t : List ℕ) (P : Process) (u : List ℕ) → read-process R hi t ≡ taken P u → Front hi t P
 unfolding read-process then giving
 process-front R hi t P u e = go (counted 0 hi (number-of Refusal.reference (length (R .domains))) t)
     (counted-sound one-word (λ n. n < length (R .domains)) (number-of Refusal.reference (length (R .domains))) (number-sound Refusal.reference (length (R .domains))) 0 hi t) e
@@ -78,9 +77,9 @@ process-front R hi t P u e = go (counted 0 hi (number-of Refusal.reference (leng
         front-by hi t v P (s ∙ ap (λ l. counted-words one-word l ++ v) q) (omega (arith, ap length q))
 
     go : (r : Read (List ℕ)) → Sound (counted-words one-word) (λ xs. ((0 ≤ length xs) × (length xs ≤ hi)) × All (λ n. n < length (R .domains)) xs) t r
-        → then r (λ ds v. giving (λ E. record { parameters = ds; term = E }) (read-rule-term edition-1 R ds v)) ≡ taken P u → Front hi t P
+        → then r (λ ds v. giving (λ E. record { parameters = ds; term = E }) (read-rule-term R ds v)) ≡ taken P u → Front hi t P
     go (refused k) s f = absurd (subst IsTaken (sym f) tt)
-    go (taken ds v) s f = inner ds v (read-rule-term edition-1 R ds v) (s .0) (s .1 .0 .1) f
+    go (taken ds v) s f = inner ds v (read-rule-term R ds v) (s .0) (s .1 .0 .1) f
 
 -- Tables within their bounds.
 pub record Bounded (T : List ℕ) : Type 0 where

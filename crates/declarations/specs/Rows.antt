@@ -13,7 +13,6 @@ use lib.Dec.{leb, ltb}
 use borrow.Author.Tests.{leb-true}
 use Rattle.scan.specs.declared.Checked.{Checked}
 use Rattle.scan.specs.declared.Checked.the-variants.{Left, Refused}
-use Rattle.eb3.specs.Limits.{edition-1}
 use Rattle.eb3.specs.Reading.{Read, refused, taken, Reader, pick, giving, then, both, number-of, count-of, repeat, counted}
 use Rattle.eb3.specs.RuleReading.{read-domains}
 use Rattle.scan.specs.Checking.{checked, last-of}
@@ -116,5 +115,5 @@ pub numbers-row : (lo hi k d m : ℕ) (t : List ℕ) (p : Checked) → p ≡ che
 numbers-row lo hi k d = row-read lo hi (number-of k d) (one-number k d) (number-ends k d)
 
 -- The sizes of all domains.
-pub domains-row : (m : ℕ) (t : List ℕ) (p : Checked) → p ≡ checked (read-domains edition-1 t) → p ≡ Left m → RowAt 16 t (read-domains edition-1 t) m
+pub domains-row : (m : ℕ) (t : List ℕ) (p : Checked) → p ≡ checked (read-domains t) → p ≡ Left m → RowAt 16 t (read-domains t) m
 domains-row = row-read 1 16 (count-of 1 64) (one-count 1 64) (count-ends 1 64)

@@ -5,7 +5,7 @@ use native.Mathlib.Omega.{arith}
 use native.Mathlib.Decide.{decLt}
 use mathlib.Core.Path.{_≡_, sym}
 use lib.ListN.{getD, replicate, length-replicate, getD-replicate, List·getD-eq-default}
-use Rattle.eb3.specs.Limits.{edition-1}
+use Rattle.eb3.specs.Editions.{edition-1}
 use Rattle.eb3.specs.Scopes.{Scope}
 use Rattle.eb3.specs.RuleReading.{at-start-scope, at-label-scope}
 

@@ -10,7 +10,7 @@ use Rattle.eb3.specs.Generic.AllLists.{All, all-map}
 use Rattle.eb3.specs.Generic.Lists.{concat-map}
 use Rattle.eb3.specs.Attributes.{Attributes, AttributeFunction, function, domain, number-of-functions}
 use Rattle.eb3.specs.Cells.{cell-count, offset, total-cells}
-use Rattle.eb3.specs.Limits.{edition-1}
+use Rattle.eb3.specs.Editions.{edition-1}
 use Rattle.eb3.specs.RuleSets.{Function, Process, RuleSet, attribute-function, attributes}
 use Rattle.eb3.specs.RuleSpelling.{one-word, counted-words}
 use Rattle.eb3.specs.Reading.{Read, refused, taken, Reader, giving, then, both, count-of, repeat, counted, number-of, for-each, series}
@@ -30,7 +30,7 @@ labels-read n D t u ls e =
     (p .1 .0, all-map (λ xs. ((0 ≤ length xs) × (length xs ≤ 2)) × All (λ d. d < D) xs) (λ l. length l ≤ 2) (λ l h. h .0 .1) ls (p .1 .1))
 
 -- Domains: at most 16, behind their count.
-pub domains-read : (t ds u : List ℕ) → read-domains edition-1 t ≡ taken ds u → (length ds ≤ 16) × (getD t 0 0 ≡ length ds) × (getD t 0 0 + 1 ≤ length t)
+pub domains-read : (t ds u : List ℕ) → read-domains t ≡ taken ds u → (length ds ≤ 16) × (getD t 0 0 ≡ length ds) × (getD t 0 0 + 1 ≤ length t)
 domains-read t ds u e =
     let s = counted-sound one-word (λ n. (1 ≤ n) × (n ≤ 64)) (count-of 1 64) (count-sound 1 64) 1 16 t in
     let p = subst (Sound (counted-words one-word) (λ xs. ((1 ≤ length xs) × (length xs ≤ 16)) × All (λ n. (1 ≤ n) × (n ≤ 64)) xs) t) e s in
@@ -120,4 +120,4 @@ cells-along top R [] = refl
 cells-along top R (F ∷ Fs) = offset-next top (attribute-function R F) (map (attribute-function R) Fs) (length (map (attribute-function R) Fs)) ∙ ap (λ n. cell-count (attribute-function R F .sizes) + n) (cells-along top R Fs)
 
 pub cells-total : (R : RuleSet) → total-cells (attributes R) ≡ all-cells (R .domains) (R .functions)
-cells-total R = cells-along (R .top) R (R .functions)
+cells-total R = cells-along (R .edition .top) R (R .functions)

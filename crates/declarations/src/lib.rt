@@ -6,7 +6,6 @@ ghost use mathlib.Core.List.{List, [], _∷_, _++_};
 ghost use Prim.Native.Nat.{ℕ, _+_, _-_, _*_, _%_, _≤_, _<_};
 ghost use lib.ListN.{drop, take, getD, set, length};
 ghost use lib.Seq.{paste};
-ghost use Rattle.eb3.specs.Limits.{edition-1};
 ghost use Rattle.eb3.specs.Reading.{number-of, count-of, repeat, counted};
 ghost use Rattle.eb3.specs.RuleReading.{read-domains};
 ghost use Rattle.scan.specs.Checking.{checked, last-of};
@@ -74,7 +73,7 @@ fn sizes(t: &[u16], n: usize) -> Checked
 }
 
 pub fn check_domains(t: &[u16]) -> Checked
-    ensures { λ r. ⌜ r ≡ checked (read-domains edition-1 (now (t .entry))) ⌝ }
+    ensures { λ r. ⌜ r ≡ checked (read-domains (now (t .entry))) ⌝ }
 {
     match count(t, 1, 16) {
         Checked::Left(m) => sizes(last(t, m), first(t)),

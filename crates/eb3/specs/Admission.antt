@@ -4,9 +4,9 @@ use mathlib.Core.List.{List, [], _∷_}
 use Prim.Native.Nat.{ℕ}
 use lib.Dec.{eqb, leb, ltb}
 use lib.ListN.{length}
+use Rattle.eb3.specs.Limits
 use Rattle.eb3.specs.Refusal
 use Rattle.eb3.specs.Sizes.{reach, breadth}
-use Rattle.eb3.specs.Limits.{Limits}
 use Rattle.eb3.specs.RuleSets.{RuleSet}
 use Rattle.eb3.specs.Unfolding.{unfold-main}
 use Rattle.eb3.specs.Reading.{Read, pick}
@@ -27,11 +27,11 @@ ended (Read.refused k) = refused k
 ended (Read.taken x rest) = pick (ends-right rest) (answered x) (refused Refusal.form)
 
 -- Main's reach, then its breadth.
-unfoldable pub within-limits : Limits → RuleSet → Answer RuleSet
-within-limits L R =
-    pick (leb (reach (R .width) (unfold-main R)) (L .reach))
-    (pick (leb (breadth (unfold-main R)) (L .breadth)) (answered R) (refused Refusal.breadth))
+unfoldable pub within-limits : RuleSet → Answer RuleSet
+within-limits R =
+    pick (leb (reach (R .edition .width) (unfold-main R)) Limits.reach)
+    (pick (leb (breadth (unfold-main R)) Limits.breadth) (answered R) (refused Refusal.breadth))
     (refused Refusal.size)
 
-unfoldable pub admission : Limits → List ℕ → Answer RuleSet
-admission L rules = and-then (and-then (open-blocks L rules) λ words. ended (read-rules L words)) (within-limits L)
+unfoldable pub admission : List ℕ → Answer RuleSet
+admission rules = and-then (and-then (open-blocks rules) λ o. ended (read-rules (o .edition) (o .words))) within-limits

@@ -15,7 +15,7 @@ use Rattle.eb3.specs.Derivations.{DataState}
 use Rattle.eb3.specs.Attributes.{Trace, domain, attribute-value, value-at}
 use Rattle.eb3.specs.Semantics.{Situation, situation, system}
 use Rattle.eb3.specs.TransitionSystems.{Transition}
-use Rattle.eb3.specs.Limits.{edition-1}
+use Rattle.eb3.specs.Editions.{edition-1}
 use Rattle.eb3.specs.RuleSets.{RuleSet, function-rule, main-process, attributes}
 use Rattle.eb3.specs.Unfolding.{unfold-main}
 use Rattle.eb3.specs.SourceTerms.{s-call, SourceDerivation, SourceEarlier, unfold-source}
@@ -33,21 +33,23 @@ concluded-source {R} x = record { action = x .action; target = situation (unfold
 pub record Admitted (rules : List ℕ) (R : RuleSet) : Type 1 where
   -- It is what document 01 asks of a rule set, and the stream spells it and nothing else: zeros follow, fewer than a block has words, so that its last
   -- used word lies in the last block.
-  pub well-formed : WellFormed edition-1 R
-  pub spelled : stream rules ≡ stream-words edition-1 (block-count rules) R ++ replicate (content-words * block-count rules - length (stream-words edition-1 (block-count rules) R)) 0
-  pub in-last-block : (content-words * (block-count rules - 1) < length (stream-words edition-1 (block-count rules) R)) × (length (stream-words edition-1 (block-count rules) R) ≤ content-words * block-count rules)
+  pub well-formed : WellFormed R
+  -- Its edition is document 01's: what is said below by the edition's numbers is said by 65,534 and by constants of one word.
+  pub of-edition-1 : R .edition ≡ edition-1
+  pub spelled : stream rules ≡ stream-words (block-count rules) R ++ replicate (content-words * block-count rules - length (stream-words (block-count rules) R)) 0
+  pub in-last-block : (content-words * (block-count rules - 1) < length (stream-words (block-count rules) R)) × (length (stream-words (block-count rules) R) ≤ content-words * block-count rules)
   -- Main's unfolding is a running term; at every state its listed moves are the derivations of the call of main, rule S_M-11 included.
-  pub starts : Running edition-1 R (unfold-main R)
+  pub starts : Running R (unfold-main R)
   pub main-derived : (S : DataState) (M : S .State)
       → Enumeration (SourceDerivation R S M (s-call (main-process R) [])) SourceEarlier concluded-source (system S .transitions (situation (unfold-main R) M))
   -- Its size, reach and breadth are found without unfolding, each number cut off at 65,536.
-  pub measured : measure-main (sat 65536) R ≡ measure-of (R .width) (unfold-main R)
+  pub measured : measure-main (sat 65536) R ≡ measure-of (R .edition .width) (unfold-main R)
   -- A function's value over a trace: its empty-trace expression, or its expression for the last label.
   pub value-empty : (f : ℕ) → f < length (R .functions) → (xs : List ℕ)
-      → attribute-value (attributes R) [] f xs ≡ evaluate-data (function-rule R f .at-start) (environment (R .top) xs (value-at (attributes R) []) no-reading)
+      → attribute-value (attributes R) [] f xs ≡ evaluate-data (function-rule R f .at-start) (environment (R .edition .top) xs (value-at (attributes R) []) no-reading)
   pub value-last : (f : ℕ) → f < length (R .functions) → (xs : List ℕ) (a : VisibleAction) (H : Trace)
-      → attribute-value (attributes R) (a ∷ H) f xs ≡ evaluate-data (getD (function-rule R f .at-label) (a .label) Undefined) (environment (R .top) (xs ++ a .arguments) (value-at (attributes R) (a ∷ H)) (value-at (attributes R) H))
-  pub value-bounded : (f : ℕ) → f < length (R .functions) → (H : Trace) → well-formed-trace R H → (xs : List ℕ) → Within (domain (attributes R) f) xs → AtMost 65534 (attribute-value (attributes R) H f xs)
+      → attribute-value (attributes R) (a ∷ H) f xs ≡ evaluate-data (getD (function-rule R f .at-label) (a .label) Undefined) (environment (R .edition .top) (xs ++ a .arguments) (value-at (attributes R) (a ∷ H)) (value-at (attributes R) H))
+  pub value-bounded : (f : ℕ) → f < length (R .functions) → (H : Trace) → well-formed-trace R H → (xs : List ℕ) → Within (domain (attributes R) f) xs → AtMost (R .edition .top) (attribute-value (attributes R) H f xs)
   -- A given term is accepted exactly if it spells a running term within the limits, an event exactly if it spells a leaf; and they are read as that.
-  pub term-accepted : (ws : List ℕ) (E : Term) → (given-term edition-1 R ws ≡ some E) ↔ ((ws ≡ words (R .width) E) × Running edition-1 R E)
-  pub event-accepted : (ws : List ℕ) (ρ : Action) → (given-event R ws ≡ some ρ) ↔ ((ws ≡ words (R .width) (term-of-action ρ)) × well-formed-action R ρ)
+  pub term-accepted : (ws : List ℕ) (E : Term) → (given-term R ws ≡ some E) ↔ ((ws ≡ words (R .edition .width) E) × Running R E)
+  pub event-accepted : (ws : List ℕ) (ρ : Action) → (given-event R ws ≡ some ρ) ↔ ((ws ≡ words (R .edition .width) (term-of-action ρ)) × well-formed-action R ρ)

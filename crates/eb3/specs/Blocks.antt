@@ -4,11 +4,12 @@ use mathlib.Core.List.{List, [], _∷_, _++_}
 use Prim.Native.Nat.{ℕ, zero, suc, _+_, _*_, _/_, _%_}
 use lib.Dec.{eqb, leb}
 use lib.ListN.{length, take, drop, getD}
+use Rattle.eb3.specs.Limits
 use Rattle.eb3.specs.Refusal
-use Rattle.eb3.specs.Limits.{Limits}
+use Rattle.eb3.specs.Editions.{Edition, edition-of}
 use Rattle.eb3.specs.Reading.{pick}
 use Rattle.eb3.specs.Bytes.{words-in}
-use Rattle.eb3.specs.Answers.{Answer, refused, answered}
+use Rattle.eb3.specs.Answers.{Answer, refused, answered, or-refused, and-then}
 
 -- Blocks of 512 bytes, of which 4 to 511 are content: 254 words.
 abbrev pub block-bytes : ℕ
@@ -63,17 +64,23 @@ abbrev pub stream : List ℕ → List ℕ
 stream s = words-in (contents (block-count s) s)
 
 -- The three tests, in order.
-abbrev pub whole-blocks : Limits → List ℕ → Bool
-whole-blocks L s = eqb (length s % block-bytes) 0 && (leb 1 (block-count s) && leb (block-count s) (L .blocks))
+abbrev pub whole-blocks : List ℕ → Bool
+whole-blocks s = eqb (length s % block-bytes) 0 && (leb 1 (block-count s) && leb (block-count s) Limits.blocks)
 
-abbrev pub edition-right : Limits → List ℕ → Bool
-edition-right L s = eqb (getD (stream s) 0 0) (L .edition) && eqb (getD (stream s) 1 0) (block-count s)
+-- The edition that word 0 says, where it is defined and word 1 is the block count.
+unfoldable pub edition-in : List ℕ → Answer Edition
+edition-in s = pick (eqb (getD (stream s) 1 0) (block-count s)) (or-refused Refusal.edition (edition-of (getD (stream s) 0 0))) (refused Refusal.edition)
 
--- The stream behind its first two words, or a refusal.
-unfoldable pub open-blocks : Limits → List ℕ → Answer (List ℕ)
-open-blocks L s =
-    pick (whole-blocks L s)
+-- An opened file: its edition, and the stream after its first two words.
+pub record Opened : Type 0 where
+  pub edition : Edition
+  pub words : List ℕ
+
+-- The file opened, or a refusal.
+unfoldable pub open-blocks : List ℕ → Answer Opened
+open-blocks s =
+    pick (whole-blocks s)
     (pick (blocks-right 0 (block-count s) s)
-    (pick (edition-right L s) (answered (drop 2 (stream s))) (refused Refusal.edition))
+    (and-then (edition-in s) λ L. answered (record { edition = L; words = drop 2 (stream s) }))
     (refused Refusal.block))
     (refused Refusal.length)

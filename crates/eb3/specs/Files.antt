@@ -3,7 +3,6 @@
 use mathlib.Core.List.{List, [], _∷_, _++_}
 use Prim.Native.Nat.{ℕ, zero, suc, _+_, _-_, _*_, _/_}
 use lib.ListN.{length, take, drop, replicate}
-use Rattle.eb3.specs.Limits.{Limits}
 use Rattle.eb3.specs.RuleSets.{RuleSet}
 use Rattle.eb3.specs.RuleSpelling.{rules-words, stream-words}
 use Rattle.eb3.specs.Bytes.{bytes-of}
@@ -28,5 +27,5 @@ words-used R = 2 + length (rules-words R)
 abbrev pub blocks-needed : RuleSet → ℕ
 blocks-needed R = (words-used R + (content-words - 1)) / content-words
 
-unfoldable pub file-of : Limits → RuleSet → List ℕ
-file-of L R = blocks-from 0 (blocks-needed R) (bytes-of (stream-words L (blocks-needed R) R ++ replicate (content-words * blocks-needed R - words-used R) 0))
+unfoldable pub file-of : RuleSet → List ℕ
+file-of R = blocks-from 0 (blocks-needed R) (bytes-of (stream-words (blocks-needed R) R ++ replicate (content-words * blocks-needed R - words-used R) 0))

@@ -18,7 +18,7 @@ use Rattle.eb3.specs.TransitionSystems.{took-visible, refused, step, run
 use Rattle.eb3.specs.Semantics.{Sem-M, system}
 use Rattle.eb3.specs.Machines.{machine, memory-start, memory-run}
 use Rattle.eb3.specs.Sizes.{cond-size, arguments-size, size, reach, breadth, zero-mask, parallel-breadth}
-use Rattle.eb3.specs.Limits.{edition-1}
+use Rattle.eb3.specs.Editions.{edition-1, edition-of}
 use Rattle.eb3.specs.RuleSets.{variable-argument, rule-perform, rule-sequence, rule-choice, rule-star, rule-guard, parallel-over, Process, RuleSet, domain-size, label, process, attributes}
 use Rattle.eb3.specs.Unfolding.{argument-value, instantiate-cond, right-nest, unfold-term, unfold-below, unfold-main}
 use Rattle.eb3.specs.Measures.{whole, sat, measure-term, table, measure-main}
@@ -39,8 +39,7 @@ all-keys = record {
 
 abbrev pub cabinet-of : ℕ → RuleSet
 cabinet-of keys = record {
-  top = 65534;
-  width = 1;
+  edition = edition-1;
   domains = keys ∷ [];
   labels = (0 ∷ []) ∷ (0 ∷ []) ∷ [];
   functions = record { parameters = 0 ∷ []; at-start = Constant 0; at-label = out-or 1 ∷ out-or 0 ∷ [] } ∷ [];
@@ -97,8 +96,7 @@ session = record { cells-0 = refl; moves-0 = refl; cells-1 = refl; moves-1 = ref
 -- Copies of P11's choice as rule sets: saturated numbers decide as the true ones do.
 abbrev pub copies : ℕ → RuleSet
 copies n = record {
-  top = 65534;
-  width = 1;
+  edition = edition-1;
   domains = n ∷ [];
   labels = [] ∷ [] ∷ [];
   functions = [];
@@ -120,7 +118,7 @@ at-two P p q zero h = p
 at-two P p q (suc zero) h = q
 at-two P p q (suc (suc d)) h = let z : ⊥ = omega arith in absurd z
 
-out-fits : FunctionFits edition-1 cabinet 0
+out-fits : FunctionFits cabinet 0
 unfolding function
 out-fits = record {
   parameter-count = (omega arith, omega arith);
@@ -132,21 +130,20 @@ out-fits = record {
       ((omega arith, omega arith), omega arith, (omega arith, (0, refl, omega arith, refl)));
 }
 
-pub cabinet-well-formed : WellFormed edition-1 cabinet
-unfolding function unfold-main unfold-below unfold-term right-nest argument-value instantiate-cond size reach breadth parallel-breadth zero-mask cond-size arguments-size
+pub cabinet-well-formed : WellFormed cabinet
+unfolding edition-of function unfold-main unfold-below unfold-term right-nest argument-value instantiate-cond size reach breadth parallel-breadth zero-mask cond-size arguments-size
 cabinet-well-formed = record {
   form = record {
-    top-is = refl;
-    width-is = refl;
+    defined = refl;
     domain-count = (omega arith, omega arith);
     domain-sizes = at-one (λ d. (1 ≤ domain-size cabinet d) × (domain-size cabinet d ≤ 64)) (omega arith, omega arith);
     label-count = (omega arith, omega arith);
     label-forms = at-two (λ l. (length (label cabinet l) ≤ 2) × domains-defined cabinet (label cabinet l)) (omega arith, (omega arith, tt)) (omega arith, (omega arith, tt));
     function-count = omega arith;
-    function-forms = at-one (λ f. FunctionFits edition-1 cabinet f) out-fits;
+    function-forms = at-one (λ f. FunctionFits cabinet f) out-fits;
     process-count = (omega arith, omega arith);
     process-heads = at-one (λ p. (length (process cabinet p .parameters) ≤ 4) × domains-defined cabinet (process cabinet p .parameters)) (omega arith, tt);
-    process-terms = at-one (λ p. allowed edition-1 cabinet p (process cabinet p .parameters) (process cabinet p .term)) (
+    process-terms = at-one (λ p. allowed cabinet p (process cabinet p .parameters) (process cabinet p .term)) (
       omega arith,
       omega arith,
       (refl, (omega arith, (omega arith, (omega arith, (omega arith, tt))))),
@@ -158,5 +155,5 @@ cabinet-well-formed = record {
   breadth-limit = omega arith;
 }
 
-pub cabinet-runs : Running edition-1 cabinet (unfold-main cabinet)
-cabinet-runs = main-running edition-1 cabinet (omega arith) cabinet-well-formed
+pub cabinet-runs : Running cabinet (unfold-main cabinet)
+cabinet-runs = main-running cabinet cabinet-well-formed

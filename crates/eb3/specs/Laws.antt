@@ -1,7 +1,8 @@
 -- The proofs. Demands 1 to 3 are in DemandOne and Order, DemandTwo and DemandThree; what holds of every admitted rule set in Admitted; that every well-formed
 -- rule set that fits has a file which is admitted as it, in Files.
 
--- Values, terms, moves; the listed moves are the derivations, in order (Derivations, Semantics).
+-- What every edition has. Values, terms, moves; the listed moves are the derivations, in order (Derivations, Semantics).
+pub mod Editions
 pub mod Values
 pub mod Terms
 pub mod Masks
@@ -35,6 +36,7 @@ pub mod ReadingCombined
 pub mod ExpressionReading
 pub mod TermReading
 pub mod RuleTermReading
+pub mod ParameterCounts
 pub mod RuleReading
 pub mod RuleReadingComplete
 pub mod Refusals

@@ -6,9 +6,10 @@
 
 -- Generic: tests, lists, positions, enumerations.
 pub mod Generic
--- The refusals by their words; an edition's numbers in one place.
+-- The refusals by their words and numbers; the limits; the editions.
 pub mod Refusal
 pub mod Limits
+pub mod Editions
 -- "Values and conditions": values, expressions in one environment, where each may stand.
 pub mod Values
 pub mod Expressions

@@ -1,44 +1,37 @@
--- The numbers of an edition in one place (document 01, "Values and conditions", "Blocks and the rule stream", "Unfolding, size and breadth").
+-- The limits, alike in every edition (document 01, "Blocks and the rule stream", "Unfolding, size and breadth").
 use Prim.Native.Nat.{ℕ}
 
-pub record Limits : Type 0 where
-  -- The stream's first word.
-  pub edition : ℕ
-  -- The largest number, the word that stands for undefined in a cell, and the words of a constant.
-  pub top : ℕ
-  pub undefined-word : ℕ
-  pub width : ℕ
-  -- What main's unfolding and a given term may have.
-  pub reach : ℕ
-  pub breadth : ℕ
-  -- What the rule stream may count.
-  pub blocks : ℕ
-  pub domains : ℕ
-  pub domain-size : ℕ
-  pub labels : ℕ
-  pub label-parameters : ℕ
-  pub functions : ℕ
-  pub function-parameters : ℕ
-  pub processes : ℕ
-  pub process-parameters : ℕ
-  pub variables : ℕ
+-- Refusals 7 and 8 of main's unfolding, and 10 of a given term: the largest reach and breadth.
+abbrev pub reach : ℕ
+reach = 8192
 
-abbrev pub edition-1 : Limits
-edition-1 = record {
-  edition = 1;
-  top = 65534;
-  undefined-word = 65535;
-  width = 1;
-  reach = 8192;
-  breadth = 65535;
-  blocks = 64;
-  domains = 16;
-  domain-size = 64;
-  labels = 64;
-  label-parameters = 2;
-  functions = 16;
-  function-parameters = 1;
-  processes = 32;
-  process-parameters = 4;
-  variables = 8;
-}
+abbrev pub breadth : ℕ
+breadth = 65535
+
+-- Refusals 1 and 4: what a file and its stream may count.
+abbrev pub blocks : ℕ
+blocks = 64
+
+abbrev pub domains : ℕ
+domains = 16
+
+abbrev pub domain-size : ℕ
+domain-size = 64
+
+abbrev pub labels : ℕ
+labels = 64
+
+abbrev pub label-parameters : ℕ
+label-parameters = 2
+
+abbrev pub functions : ℕ
+functions = 16
+
+abbrev pub processes : ℕ
+processes = 32
+
+abbrev pub process-parameters : ℕ
+process-parameters = 4
+
+abbrev pub variables : ℕ
+variables = 8

@@ -16,7 +16,6 @@ use Rattle.eb3.specs.Cells.{total-cells, initial-cells, all-values}
 use Rattle.eb3.specs.Semantics.{Sem-M}
 use Rattle.eb3.specs.Machines.{history-run}
 use Rattle.eb3.specs.Sizes.{size, reach, breadth}
-use Rattle.eb3.specs.Limits.{Limits, edition-1}
 use Rattle.eb3.specs.RuleSets.{RuleSet, attributes}
 use Rattle.eb3.specs.Unfolding.{unfold-main}
 use Rattle.eb3.specs.Spelling.{words}
@@ -24,7 +23,7 @@ use Rattle.eb3.specs.Reading.{pick}
 use Rattle.eb3.specs.TermReading.{given-term, given-event}
 use Rattle.eb3.specs.Bytes.{words-in, word-count, written}
 use Rattle.eb3.specs.Memory.{cell-room, memory-words, cells-in}
-use Rattle.eb3.specs.Answers.{Answer, refused, answered, and-then, Sizes, Moved, Ran, Written, unwritten}
+use Rattle.eb3.specs.Answers.{Answer, refused, answered, or-refused, and-then, Sizes, Moved, Ran, Written, unwritten}
 use Rattle.eb3.specs.Admission.{admission}
 
 -- What an admitted rule set needs: C cells, and main's G words.
@@ -32,10 +31,10 @@ abbrev pub cells-needed : RuleSet → ℕ
 cells-needed R = total-cells (attributes R)
 
 abbrev pub main-reach : RuleSet → ℕ
-main-reach R = reach (R .width) (unfold-main R)
+main-reach R = reach (R .edition .width) (unfold-main R)
 
 abbrev pub sizes-needed : RuleSet → Sizes
-sizes-needed R = record { cells = cells-needed R; reach = main-reach R; breadth = breadth (unfold-main R); size = size (R .width) (unfold-main R) }
+sizes-needed R = record { cells = cells-needed R; reach = main-reach R; breadth = breadth (unfold-main R); size = size (R .edition .width) (unfold-main R) }
 
 abbrev pub term-fits : ℕ → List ℕ → Bool
 term-fits reach buffer = leb reach (word-count buffer)
@@ -43,26 +42,22 @@ term-fits reach buffer = leb reach (word-count buffer)
 abbrev pub memory-fits : RuleSet → List ℕ → Bool
 memory-fits R memory = leb (cells-needed R) (cell-room memory)
 
-abbrev pub or-refused : {X : Type 0} → ℕ → Option X → Answer X
-or-refused k none = refused k
-or-refused k (some x) = answered x
-
 -- Refusals 10 and 11: a term and an event are whole words.
 abbrev pub even : List ℕ → Bool
 even s = eqb (length s % 2) 0
 
-abbrev pub term-in : Limits → RuleSet → List ℕ → Answer Term
-term-in L R term = pick (even term) (or-refused Refusal.term (given-term L R (words-in term))) (refused Refusal.term)
+abbrev pub term-in : RuleSet → List ℕ → Answer Term
+term-in R term = pick (even term) (or-refused Refusal.term (given-term R (words-in term))) (refused Refusal.term)
 
 abbrev pub event-in : RuleSet → List ℕ → Answer Action
 event-in R event = pick (even event) (or-refused Refusal.stranger (given-event R (words-in event))) (refused Refusal.stranger)
 
 -- The moves of a term at the cells of a memory.
-abbrev pub cells-given : Limits → RuleSet → List ℕ → List Value
-cells-given L R memory = cells-in L (cells-needed R) memory
+abbrev pub cells-given : RuleSet → List ℕ → List Value
+cells-given R memory = cells-in (R .edition .top) (cells-needed R) memory
 
-abbrev pub listed : Limits → RuleSet → Term → List ℕ → List Move
-listed L R E memory = moves (Sem-M (attributes R) .satisfies (cells-given L R memory)) E
+abbrev pub listed : RuleSet → Term → List ℕ → List Move
+listed R E memory = moves (Sem-M (attributes R) .satisfies (cells-given R memory)) E
 
 abbrev pub numbered : List Move → Option ℕ → Option Move
 numbered xs none = none
@@ -77,95 +72,75 @@ abbrev pub writing : {X Y : Type 0} → List ℕ → List ℕ → Answer X → (
 writing term memory (refused k) f = unwritten term memory k
 writing term memory (answered x) f = f x
 
-module _ (L : Limits) where
-  unfoldable pub admit-in : List ℕ → Answer Sizes
-  admit-in rules = and-then (admission L rules) λ R. answered (sizes-needed R)
+unfoldable pub admit : List ℕ → Answer Sizes
+admit rules = and-then (admission rules) λ R. answered (sizes-needed R)
 
-  -- Start.
-  abbrev pub started : List ℕ → List ℕ → RuleSet → Written ℕ
-  started term memory R = record {
-    answer = answered (size (R .width) (unfold-main R));
-    term = written (words (R .width) (unfold-main R)) term;
-    memory = written (memory-words L (initial-cells (attributes R))) memory;
-  }
+-- Start.
+abbrev pub started : List ℕ → List ℕ → RuleSet → Written ℕ
+started term memory R = record {
+  answer = answered (size (R .edition .width) (unfold-main R));
+  term = written (words (R .edition .width) (unfold-main R)) term;
+  memory = written (memory-words (initial-cells (attributes R))) memory;
+}
 
-  unfoldable pub start-in : List ℕ → List ℕ → List ℕ → Written ℕ
-  start-in rules term memory =
-      writing term memory (admission L rules) λ R.
-      pick (term-fits (main-reach R) term && memory-fits R memory) (started term memory R) (unwritten term memory Refusal.space)
+unfoldable pub start : List ℕ → List ℕ → List ℕ → Written ℕ
+start rules term memory =
+    writing term memory (admission rules) λ R.
+    pick (term-fits (main-reach R) term && memory-fits R memory) (started term memory R) (unwritten term memory Refusal.space)
 
-  -- Count.
-  unfoldable pub count-in : List ℕ → List ℕ → List ℕ → Answer ℕ
-  count-in rules term memory =
-      and-then (admission L rules) λ R.
-      and-then (term-in L R term) λ E.
-      pick (memory-fits R memory) (answered (length (listed L R E memory))) (refused Refusal.space)
+-- Count.
+unfoldable pub count : List ℕ → List ℕ → List ℕ → Answer ℕ
+count rules term memory =
+    and-then (admission rules) λ R.
+    and-then (term-in R term) λ E.
+    pick (memory-fits R memory) (answered (length (listed R E memory))) (refused Refusal.space)
 
-  -- What a move writes: its successor, and the memory that its action leaves.
-  abbrev pub moved : RuleSet → List ℕ → List ℕ → List ℕ → Move → Written Moved
-  moved R memory next-term next-memory x = record {
-    answer = answered (record { action = x .action; size = size (R .width) (x .successor) });
-    term = written (words (R .width) (x .successor)) next-term;
-    memory = written (memory-words L (state-after (Sem-M (attributes R)) (cells-given L R memory) (x .action))) next-memory;
-  }
+-- What a move writes: its successor, and the memory that its action leaves.
+abbrev pub moved : RuleSet → List ℕ → List ℕ → List ℕ → Move → Written Moved
+moved R memory next-term next-memory x = record {
+  answer = answered (record { action = x .action; size = size (R .edition .width) (x .successor) });
+  term = written (words (R .edition .width) (x .successor)) next-term;
+  memory = written (memory-words (state-after (Sem-M (attributes R)) (cells-given R memory) (x .action))) next-memory;
+}
 
-  -- Refusal 9, then 12: the move that a choice among the listed ones gives.
-  abbrev pub chosen : RuleSet → Term → List ℕ → List ℕ → List ℕ → (List Move → Option Move) → Written Moved
-  chosen R E memory next-term next-memory choose =
-      pick (term-fits (reach (R .width) E) next-term && (memory-fits R memory && memory-fits R next-memory))
-      (writing next-term next-memory (or-refused Refusal.not-offered (choose (listed L R E memory))) (moved R memory next-term next-memory))
-      (unwritten next-term next-memory Refusal.space)
+-- Refusal 9, then 12: the move that a choice among the listed ones gives.
+abbrev pub chosen : RuleSet → Term → List ℕ → List ℕ → List ℕ → (List Move → Option Move) → Written Moved
+chosen R E memory next-term next-memory choose =
+    pick (term-fits (reach (R .edition .width) E) next-term && (memory-fits R memory && memory-fits R next-memory))
+    (writing next-term next-memory (or-refused Refusal.not-offered (choose (listed R E memory))) (moved R memory next-term next-memory))
+    (unwritten next-term next-memory Refusal.space)
 
-  -- Move k.
-  unfoldable pub move-in : List ℕ → List ℕ → List ℕ → ℕ → List ℕ → List ℕ → Written Moved
-  move-in rules term memory k next-term next-memory =
-      writing next-term next-memory (admission L rules) λ R.
-      writing next-term next-memory (term-in L R term) λ E.
-      chosen R E memory next-term next-memory λ xs. getElem? xs k
+-- Move k.
+unfoldable pub move : List ℕ → List ℕ → List ℕ → ℕ → List ℕ → List ℕ → Written Moved
+move rules term memory k next-term next-memory =
+    writing next-term next-memory (admission rules) λ R.
+    writing next-term next-memory (term-in R term) λ E.
+    chosen R E memory next-term next-memory λ xs. getElem? xs k
 
-  -- Present.
-  unfoldable pub present-in : List ℕ → List ℕ → List ℕ → List ℕ → List ℕ → List ℕ → Written Moved
-  present-in rules term memory event next-term next-memory =
-      writing next-term next-memory (admission L rules) λ R.
-      writing next-term next-memory (term-in L R term) λ E.
-      writing next-term next-memory (event-in R event) λ ρ.
-      chosen R E memory next-term next-memory (at-first ρ)
+-- Present.
+unfoldable pub present : List ℕ → List ℕ → List ℕ → List ℕ → List ℕ → List ℕ → Written Moved
+present rules term memory event next-term next-memory =
+    writing next-term next-memory (admission rules) λ R.
+    writing next-term next-memory (term-in R term) λ E.
+    writing next-term next-memory (event-in R event) λ ρ.
+    chosen R E memory next-term next-memory (at-first ρ)
 
-  -- Run: what the history machine ends with. The last term, zeros up to main's G; every function's values over the whole list.
-  abbrev pub ran : List ℕ → List ℕ → List ℕ → RuleSet → Written Ran
-  ran numbers term memory R =
-      let h = history-run (attributes R) (unfold-main R) (words-in numbers) in
-      record {
-        answer = answered (record { size = size (R .width) (h .state .term); visible = h .visible-count; internal = h .internal-count; refusals = h .refused-count });
-        term = written (words (R .width) (h .state .term) ++ replicate (main-reach R - size (R .width) (h .state .term)) 0) term;
-        memory = written (memory-words L (all-values (attributes R) (h .state .state))) memory;
-      }
+-- Run: what the history machine ends with. The last term, zeros up to main's G; every function's values over the whole list.
+abbrev pub ran : List ℕ → List ℕ → List ℕ → RuleSet → Written Ran
+ran numbers term memory R =
+    let h = history-run (attributes R) (unfold-main R) (words-in numbers) in
+    record {
+      answer = answered (record { size = size (R .edition .width) (h .state .term); visible = h .visible-count; internal = h .internal-count; refusals = h .refused-count });
+      term = written (words (R .edition .width) (h .state .term) ++ replicate (main-reach R - size (R .edition .width) (h .state .term)) 0) term;
+      memory = written (memory-words (all-values (attributes R) (h .state .state))) memory;
+    }
 
-  -- The scratch buffers count by their room only; what they hold afterwards is said by ScratchAfter.
-  unfoldable pub run-in : List ℕ → List ℕ → List ℕ → List ℕ → List ℕ → List ℕ → Written Ran
-  run-in rules numbers term memory spare-term spare-memory =
-      writing term memory (admission L rules) λ R.
-      pick ((term-fits (main-reach R) term && memory-fits R memory) && (term-fits (main-reach R) spare-term && memory-fits R spare-memory))
-      (ran numbers term memory R) (unwritten term memory Refusal.space)
-
--- The operations of document 01, at its one edition.
-abbrev pub admit : List ℕ → Answer Sizes
-admit = admit-in edition-1
-
-abbrev pub start : List ℕ → List ℕ → List ℕ → Written ℕ
-start = start-in edition-1
-
-abbrev pub count : List ℕ → List ℕ → List ℕ → Answer ℕ
-count = count-in edition-1
-
-abbrev pub move : List ℕ → List ℕ → List ℕ → ℕ → List ℕ → List ℕ → Written Moved
-move = move-in edition-1
-
-abbrev pub present : List ℕ → List ℕ → List ℕ → List ℕ → List ℕ → List ℕ → Written Moved
-present = present-in edition-1
-
-abbrev pub run : List ℕ → List ℕ → List ℕ → List ℕ → List ℕ → List ℕ → Written Ran
-run = run-in edition-1
+-- The scratch buffers count by their room only; what they hold afterwards is said by ScratchAfter.
+unfoldable pub run : List ℕ → List ℕ → List ℕ → List ℕ → List ℕ → List ℕ → Written Ran
+run rules numbers term memory spare-term spare-memory =
+    writing term memory (admission rules) λ R.
+    pick ((term-fits (main-reach R) term && memory-fits R memory) && (term-fits (main-reach R) spare-term && memory-fits R spare-memory))
+    (ran numbers term memory R) (unwritten term memory Refusal.space)
 
 -- A scratch buffer afterwards: a refusal writes nothing; else its words may be anything, and an odd last byte is kept.
 abbrev pub ScratchAfter : {X : Type 0} → Answer X → List ℕ → List ℕ → Type 0

@@ -1,10 +1,11 @@
 -- A rule set as the words of its stream (document 01, "Blocks and the rule stream", items 1 to 5).
-use mathlib.Core.List.{List, [], _∷_, _++_}
+use mathlib.Core.List.{List, [], _∷_, _++_, map}
 use Prim.Native.Nat.{ℕ}
 use lib.ListN.{length}
 use Rattle.eb3.specs.Generic.Lists.{concat-map}
-use Rattle.eb3.specs.Limits.{Limits}
+use Rattle.eb3.specs.Editions.{Edition}
 use Rattle.eb3.specs.RuleSets.{Argument, constant-argument, variable-argument, RuleTerm, rule-internal, rule-perform, rule-sequence, rule-choice, rule-star, rule-parallel, rule-guard, choice-over, parallel-over, call, Function, Process, RuleSet}
+use Rattle.eb3.specs.Reading.{pick}
 use Rattle.eb3.specs.Spelling.{number-words, data-words, cond-words}
 
 -- One number in one word; and a count with as many entries behind it.
@@ -39,14 +40,24 @@ module _ (width : ℕ) where
   unfoldable pub process-words : Process → List ℕ
   process-words P = counted-words one-word (P .parameters) ++ rule-words (P .term)
 
+abbrev pub parameter-count : Function → ℕ
+parameter-count F = length (F .parameters)
+
+abbrev pub counts-words : Edition → List ℕ → List ℕ
+counts-words L counts = pick (L .counts-written) counts []
+
+-- The functions after their count; between the two, where the edition writes them (edition 1 does not), all their parameter counts.
+unfoldable pub functions-words : Edition → List Function → List ℕ
+functions-words L Fs = length Fs ∷ (counts-words L (map parameter-count Fs) ++ concat-map (function-words (L .width)) Fs)
+
 -- Domains, labels, functions, processes.
 unfoldable pub rules-words : RuleSet → List ℕ
 rules-words R =
     counted-words one-word (R .domains)
     ++ (counted-words (counted-words one-word) (R .labels)
-    ++ (counted-words (function-words (R .width)) (R .functions)
-    ++ counted-words (process-words (R .width)) (R .processes)))
+    ++ (functions-words (R .edition) (R .functions)
+    ++ counted-words (process-words (R .edition .width)) (R .processes)))
 
 -- The stream of a file of n blocks, up to its last used word.
-unfoldable pub stream-words : Limits → ℕ → RuleSet → List ℕ
-stream-words L n R = L .edition ∷ n ∷ rules-words R
+unfoldable pub stream-words : ℕ → RuleSet → List ℕ
+stream-words n R = R .edition .number ∷ n ∷ rules-words R

@@ -6,11 +6,11 @@ use mathlib.Core.Option.{Option, none, some}
 use Prim.Native.Nat.{ℕ, zero, suc, _-_, _^_, min}
 use lib.Dec.{eqb, ltb, leb}
 use lib.ListN.{length}
+use Rattle.eb3.specs.Limits
 use Rattle.eb3.specs.Refusal
 use Rattle.eb3.specs.Terms.{Term, Done, Internal, Perform, Sequence, Choice, Star, Parallel, Guard, Mask, Action, internal, visible}
 use Rattle.eb3.specs.Scopes.{guard-scope}
 use Rattle.eb3.specs.Sizes.{reach, breadth}
-use Rattle.eb3.specs.Limits.{Limits}
 use Rattle.eb3.specs.RuleSets.{RuleSet, sizes-of, label, attributes}
 use Rattle.eb3.specs.Reading.{Read, refused, taken, Reader, pick, giving, then, both, number-of, by-number, number-in}
 use Rattle.eb3.specs.ExpressionReading.{read-cond}
@@ -50,7 +50,7 @@ term-kind c =
 
 module _ (R : RuleSet) where
   unfoldable pub action-of : Reader Term
-  action-of t = by-number Refusal.reference (length (R .labels)) (λ l u. giving (perform l) (elements-of (R .width) (sizes-of R (label R l)) u)) t
+  action-of t = by-number Refusal.reference (length (R .labels)) (λ l u. giving (perform l) (elements-of (R .edition .width) (sizes-of R (label R l)) u)) t
 
   abbrev pub term-by : Reader Term → TermKind → Reader Term
   term-by e TermKind.internal-step t = taken Internal t
@@ -58,7 +58,7 @@ module _ (R : RuleSet) where
   term-by e (TermKind.pair k) t = giving (λ p. k (p .0) (p .1)) (both e e t)
   term-by e TermKind.star t = giving Star (e t)
   term-by e TermKind.parallel t = giving (λ p. Parallel (p .0) (p .1 .0) (p .1 .1)) (both (mask-of 4 (length (R .labels))) (both e e) t)
-  term-by e TermKind.guard t = giving (λ p. Guard (p .0) (p .1)) (both (read-cond (R .width) (guard-scope (attributes R) 0)) e t)
+  term-by e TermKind.guard t = giving (λ p. Guard (p .0) (p .1)) (both (read-cond (R .edition .width) (guard-scope (attributes R) 0)) e t)
   term-by e TermKind.done t = taken Done t
   term-by e TermKind.wrong t = refused Refusal.form
 
@@ -74,13 +74,13 @@ module _ (R : RuleSet) where
   read-term s = terms (length s) s
 
 -- Exactly one term, within 7's and 8's limits.
-abbrev pub term-alone : Limits → ℕ → Read Term → Option Term
-term-alone L width (refused k) = none
-term-alone L width (taken E []) = pick (leb (reach width E) (L .reach) && leb (breadth E) (L .breadth)) (some E) none
-term-alone L width (taken E (w ∷ ws)) = none
+abbrev pub term-alone : ℕ → Read Term → Option Term
+term-alone width (refused k) = none
+term-alone width (taken E []) = pick (leb (reach width E) Limits.reach && leb (breadth E) Limits.breadth) (some E) none
+term-alone width (taken E (w ∷ ws)) = none
 
-unfoldable pub given-term : Limits → RuleSet → List ℕ → Option Term
-given-term L R ws = term-alone L (R .width) (read-term R ws)
+unfoldable pub given-term : RuleSet → List ℕ → Option Term
+given-term R ws = term-alone (R .edition .width) (read-term R ws)
 
 -- Exactly one running leaf, 20 or 21.
 abbrev pub term-of-action : Action → Term

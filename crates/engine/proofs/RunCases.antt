@@ -4,7 +4,6 @@ use mathlib.Core.List.{List}
 use Prim.Native.Nat.{ℕ, _≤_, _<_}
 use native.Mathlib.Omega.{arith}
 use lib.ListN.{drop}
-use Rattle.eb3.specs.Limits.{edition-1}
 use Rattle.eb3.specs.RuleReading.{read-rules}
 use Rattle.eb3.specs.Blocks.{stream, open-blocks}
 use Rattle.eb3.specs.Bytes.{word-count}
@@ -23,9 +22,9 @@ use Rattle.engine.specs.Running.{RunDone}
 use Rattle.engine.specs.RunLaws.{run-refused, run-short-term, run-short-memory, run-short-spare-term, run-short-spare-memory, run-done}
 
 module _ (rules numbers term memory spare cells : List ℕ) where
-  pub unopened-run : (k : ℕ) → open-blocks edition-1 rules ≡ refused k → RunDone rules numbers term memory spare cells (Refused k) term memory spare
+  pub unopened-run : (k : ℕ) → open-blocks rules ≡ refused k → RunDone rules numbers term memory spare cells (Refused k) term memory spare
   unfolding admission and-then
-  unopened-run k e = run-refused rules numbers term memory spare cells k (ap (λ a. and-then (and-then a λ ws. ended (read-rules edition-1 ws)) (within-limits edition-1)) e)
+  unopened-run k e = run-refused rules numbers term memory spare cells k (ap (λ a. and-then (and-then a λ o. ended (read-rules (o .edition) (o .words))) within-limits) e)
 
   module _ (T D : List ℕ) (l : Limits) (k : Known rules T D l) (g c : ℕ) (eg : g ≡ l .reach) (ec : c ≡ l .cells) where
     reach-is : g ≡ main-reach (k .rule-set)

@@ -4,7 +4,6 @@ use mathlib.Core.List.{List}
 use Prim.Native.Nat.{ℕ, _≤_, _<_}
 use native.Mathlib.Omega.{arith}
 use lib.ListN.{length, drop, getD}
-use Rattle.eb3.specs.Limits.{edition-1}
 use Rattle.eb3.specs.RuleReading.{read-rules}
 use Rattle.eb3.specs.Blocks.{stream, open-blocks}
 use Rattle.eb3.specs.Bytes.{word-count}
@@ -19,6 +18,7 @@ use Rattle.eb3.specs.Laws.Sizes.{size-below-reach}
 use Rattle.eb3.specs.Laws.Spelling.{words-length}
 use Rattle.eb3.specs.Laws.MainRunning.{main-running}
 use Rattle.eb3.specs.Operations.{main-reach, cells-needed}
+use Rattle.eb3.specs.Laws.Editions.{width-is-1}
 use Rattle.weights.specs.declared.Limits.{Limits}
 use Rattle.declarations.specs.Directory.{Directory}
 use Rattle.cells.specs.Readying.{few}
@@ -29,9 +29,9 @@ use Rattle.engine.specs.Memories.{Begun}
 use Rattle.engine.specs.Starting.{StartDone}
 use Rattle.engine.specs.StartLaws.{start-refused, start-short-term, start-short-memory, start-done}
 
-pub unopened-start : (rules term memory : List ℕ) (k : ℕ) → open-blocks edition-1 rules ≡ refused k → StartDone rules term memory (Refused k) term memory
+pub unopened-start : (rules term memory : List ℕ) (k : ℕ) → open-blocks rules ≡ refused k → StartDone rules term memory (Refused k) term memory
 unfolding admission and-then
-unopened-start rules term memory k e = start-refused rules term memory k (ap (λ a. and-then (and-then a λ ws. ended (read-rules edition-1 ws)) (within-limits edition-1)) e)
+unopened-start rules term memory k e = start-refused rules term memory k (ap (λ a. and-then (and-then a λ o. ended (read-rules (o .edition) (o .words))) within-limits) e)
 
 module _ (rules T D : List ℕ) (l : Limits) (k : Known rules T D l) where
   reach-is : l .reach ≡ main-reach (k .rule-set)
@@ -56,11 +56,11 @@ module _ (rules T D : List ℕ) (l : Limits) (k : Known rules T D l) where
         → StartDone rules term memory (Size (l .size)) term′ memory′
     known-done h g t term′ memory′ et b =
         let R = k .rule-set in
-        let w : R .width ≡ 1 = k .well .form .width-is in
-        let run = main-running edition-1 R (omega arith) (k .well) in
-        let n : length (words (R .width) (unfold-main R)) ≡ size (R .width) (unfold-main R) = words-length R (unfold-main R) (run .form) in
-        let s : length (words 1 (unfold-main R)) ≤ word-count term = subst (λ v. length (words v (unfold-main R)) ≤ word-count term) w (omega (arith, n, size-below-reach (R .width) (unfold-main R), ex, reach-is)) in
-        let m : length (words 1 (unfold-main R)) ≤ 65535 = subst (λ v. length (words v (unfold-main R)) ≤ 65535) w (omega (arith, n, size-below-reach (R .width) (unfold-main R), k .well .reach-limit)) in
+        let w : R .edition .width ≡ 1 = width-is-1 (k .well .form) in
+        let run = main-running R (k .well) in
+        let n : length (words (R .edition .width) (unfold-main R)) ≡ size (R .edition .width) (unfold-main R) = words-length R (unfold-main R) (run .form) in
+        let s : length (words 1 (unfold-main R)) ≤ word-count term = subst (λ v. length (words v (unfold-main R)) ≤ word-count term) w (omega (arith, n, size-below-reach (R .edition .width) (unfold-main R), ex, reach-is)) in
+        let m : length (words 1 (unfold-main R)) ≤ 65535 = subst (λ v. length (words v (unfold-main R)) ≤ 65535) w (omega (arith, n, size-below-reach (R .edition .width) (unfold-main R), k .well .reach-limit)) in
         let d = subst (λ u. Directory u T D R) (sym et) (k .directory) in
         let p = b R (k .well .form) d (ec ∙ cells-is) (known-tables c ec .0) m s g in
         start-done rules term memory R (k .admitted-as) (omega (arith, ex, reach-is)) (omega (arith, ec, cells-is)) (l .size) term′ memory′ (ap (λ (y : Limits). y .size) (k .sizes))

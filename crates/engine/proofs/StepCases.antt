@@ -10,7 +10,6 @@ use denote.Enum.Declared.{tagOf}
 use Rattle.eb3.specs.Refusal
 use Rattle.eb3.specs.Generic.PositionsLaws.{beyond-none}
 use Rattle.eb3.specs.Values.{Value}
-use Rattle.eb3.specs.Limits.{edition-1}
 use Rattle.eb3.specs.Terms.{Term, VisibleAction, Action, internal, visible}
 use Rattle.eb3.specs.Scopes.{Scope, guard-scope}
 use Rattle.eb3.specs.Moves.{Move, moves, first-with}
@@ -25,7 +24,9 @@ use Rattle.eb3.specs.WellFormedness.{well-formed-action}
 use Rattle.eb3.specs.Laws.Sizes.{size-below-reach, move-size, moves-below-breadth}
 use Rattle.eb3.specs.Laws.Running.{move-running, move-action}
 use Rattle.eb3.specs.Answers.{answered, Moved as Answer·moved, Written}
-use Rattle.eb3.specs.Operations.{cells-needed, cells-given, or-refused, listed, numbered, writing, moved}
+use Rattle.eb3.specs.Operations.{cells-needed, cells-given, listed, numbered, writing, moved}
+use Rattle.eb3.specs.Answers.{or-refused}
+use Rattle.eb3.specs.Laws.Editions.{width-is-1}
 use Rattle.actions.specs.Codes.{action-code, Small}
 use Rattle.actions.specs.CodesLaws.{visible-positive, few-arguments}
 use Rattle.actions.specs.ActionLaws.{action-small}
@@ -110,19 +111,19 @@ module _ (R : RuleSet) (E : Term) (cells : List Value) (t T D s M : List ℕ) (d
   entry-judged k = ap (λ xs. getElem? xs k) (moves-judged R (d .form) E (d .term .running .form) cells M stored)
 
   short : size 1 E ≤ 8192
-  short = subst (λ w. size w E ≤ 8192) (d .form .width-is) (omega (arith, size-below-reach (R .width) E, d .term .running .reach-limit))
+  short = subst (λ w. size w E ≤ 8192) (width-is-1 (d .form)) (omega (arith, size-below-reach (R .edition .width) E, d .term .running .reach-limit))
 
   -- The successor's words, and the room for them.
   module _ (k : ℕ) (x : Move) (e : getElem? (moves (holding M) E) k ≡ some x) where
     spelled-size : length (words 1 (x .successor)) ≡ size 1 (x .successor)
     spelled-size =
-        fits-length (guard-scope (attributes R) 0) (x .successor) (fits R (d .form) (x .successor) (move-running edition-1 R (holding M) E k x e (d .term .running) .form))
+        fits-length (guard-scope (attributes R) 0) (x .successor) (fits R (d .form) (x .successor) (move-running R (holding M) E k x e (d .term .running) .form))
 
     acted : well-formed-action R (x .action)
-    acted = move-action edition-1 R (holding M) E k x e (d .term .running .form)
+    acted = move-action R (holding M) E k x e (d .term .running .form)
 
     within : reach 1 E ≤ 8192
-    within = subst (λ w. reach w E ≤ 8192) (d .form .width-is) (d .term .running .reach-limit)
+    within = subst (λ w. reach w E ≤ 8192) (width-is-1 (d .form)) (d .term .running .reach-limit)
 
     size-low : length (words 1 (x .successor)) % 4294967296 ≡ size 1 (x .successor)
     size-low = omega (arith, spelled-size, within, move-size 1 (holding M) E k x e)
@@ -201,27 +202,27 @@ step-made t T D s M M′ c k B B′ C C′ r w n a z y taken e ew en l renewed s
 -- ── from a memory ──
 
 module _ (R : RuleSet) (memory B C : List ℕ) where
-  -- What a move writes, with constants of so many words.
+  -- What a move writes, with constants of w words.
   abbrev moved-wide : ℕ → Move → Written Answer·moved
   moved-wide w x = record {
     answer = answered (record { action = x .action; size = size w (x .successor) });
     term = written (words w (x .successor)) B;
-    memory = written (memory-words edition-1 (state-after (Sem-M (attributes R)) (cells-given edition-1 R memory) (x .action))) C;
+    memory = written (memory-words (state-after (Sem-M (attributes R)) (cells-given R memory) (x .action))) C;
   }
 
 -- From the store that was loaded, by the move that was wanted there.
 pub step-loaded : (t T D s M memory : List ℕ) (w n c k x : ℕ) (b : Bool) (B C B′ C′ : List ℕ) (r : Moved) → w ≡ 3 + getD T 17 0 → n ≡ getD T 210 0
-    → ((R : RuleSet) (t T : List ℕ) → Ruled R t T D w n c → c ≤ cell-room memory → Stored R (cells-given edition-1 R memory) M)
+    → ((R : RuleSet) (t T : List ℕ) → Ruled R t T D w n c → c ≤ cell-room memory → Stored R (cells-given R memory) M)
     → ((P : Scope) (E : Term) (choose : List Move → Option Move) → Whole s P E → Chooses b x choose → getElem? (moves (holding M) E) k ≡ choose (moves (holding M) E))
     → SteppedFrom t T D s M c k B C r B′ C′
     → (R : RuleSet) (E : Term) (choose : List Move → Option Move) → Described R E t T D s → c ≡ cells-needed R → c ≤ cell-room memory → reach 1 E ≤ word-count B → c ≤ cell-room C → Chooses b x choose
-    → Done (writing B C (or-refused Refusal.not-offered (choose (listed edition-1 R E memory))) (moved edition-1 R memory B C)) r B′ C′
+    → Done (writing B C (or-refused Refusal.not-offered (choose (listed R E memory))) (moved R memory B C)) r B′ C′
 step-loaded t T D s M memory w n c k x b B C B′ C′ r ew en loaded wanted stepped R E choose d ec enough h g asks =
-    let cells : List Value = cells-given edition-1 R memory in
+    let cells : List Value = cells-given R memory in
     let st : Stored R cells M = loaded R t T (described-ruled R E t T D s d w n c ew en ec) enough in
-    let judged : moves (holding M) E ≡ listed edition-1 R E memory = moves-judged R (d .form) E (d .term .running .form) cells M st in
+    let judged : moves (holding M) E ≡ listed R E memory = moves-judged R (d .form) E (d .term .running .form) cells M st in
     let e : getElem? (moves (holding M) E) k ≡ choose (moves (holding M) E) = wanted (guard-scope (attributes R) 0) E choose (whole R (d .form) E (d .term .running) s (d .term .words-are)) asks in
-    let o : getElem? (listed edition-1 R E memory) k ≡ choose (listed edition-1 R E memory) = subst (λ xs. getElem? xs k ≡ choose xs) judged e in
-    let v : 1 ≡ R .width = sym (d .form .width-is) in
-    subst (λ u. Done (writing B C (or-refused Refusal.not-offered (choose (listed edition-1 R E memory))) (moved-wide R memory B C u)) r B′ C′) v
+    let o : getElem? (listed R E memory) k ≡ choose (listed R E memory) = subst (λ xs. getElem? xs k ≡ choose xs) judged e in
+    let v : 1 ≡ R .edition .width = sym (width-is-1 (d .form)) in
+    subst (λ u. Done (writing B C (or-refused Refusal.not-offered (choose (listed R E memory))) (moved-wide R memory B C u)) r B′ C′) v
     (subst (λ p. Done (writing B C (or-refused Refusal.not-offered p) (moved-from R cells B C)) r B′ C′) o (stepped R E cells d ec st h g))

@@ -9,7 +9,6 @@ use lib.ListN.{length, take, drop, getD}
 use Rattle.eb3.specs.Refusal
 use Rattle.eb3.specs.Terms.{Term}
 use Rattle.eb3.specs.Moves.{Move}
-use Rattle.eb3.specs.Limits.{edition-1}
 use Rattle.eb3.specs.RuleSets.{RuleSet}
 use Rattle.eb3.specs.WellFormedness.{Form}
 use Rattle.eb3.specs.Sizes.{reach}
@@ -17,7 +16,9 @@ use Rattle.eb3.specs.Blocks.{stream}
 use Rattle.eb3.specs.Bytes.{word-count}
 use Rattle.eb3.specs.Memory.{cell-room}
 use Rattle.eb3.specs.Answers.{Written}
-use Rattle.eb3.specs.Operations.{cells-needed, event-in, or-refused, listed, writing, moved}
+use Rattle.eb3.specs.Operations.{cells-needed, event-in, listed, writing, moved}
+use Rattle.eb3.specs.Answers.{or-refused}
+use Rattle.eb3.specs.Laws.Editions.{width-is-1}
 use Rattle.declarations.specs.Declaring.{Declares}
 use Rattle.given.specs.declared.asking.Asked.{Asked}
 use Rattle.given.specs.declared.asking.Asked.the-variants.{Wanted, Stranger}
@@ -38,17 +39,17 @@ module _ (memory next-term next-memory : List ℕ) (b : Bool) (k : ℕ) (event :
   abbrev pub Steps : Moved → List ℕ → List ℕ → Type 0
   Steps r term′ memory′ = (R : RuleSet) (E : Term) → Described R E t T D s → c ≡ cells-needed R → g ≡ reach-in-words E → Done (stepped-from b k event memory next-term next-memory (R, E)) r term′ memory′
 
-  module _ (a : Asked) (asks : (R : RuleSet) → Form edition-1 R → Declares T R → a ≡ asked-as b k (event-in R event)) where
+  module _ (a : Asked) (asks : (R : RuleSet) → Form R → Declares T R → a ≡ asked-as b k (event-in R event)) where
     pub steps-stranger : a ≡ Stranger → Steps (Refused 11) next-term next-memory
     steps-stranger f R E d ec eg =
         stranger-done R E memory next-term next-memory b k event (asked-stranger R (d .form) k event b (sym f ∙ asks R (d .form) (d .directory .declares)))
 
     module _ (x : ℕ) (f : a ≡ Wanted x) where
-      choosing : (R : RuleSet) (form : Form edition-1 R) → Declares T R → Choosing R form k event b x
+      choosing : (R : RuleSet) (form : Form R) → Declares T R → Choosing R form k event b x
       choosing R form d = asked-wanted R form k event b x (sym f ∙ asks R form d)
 
-      in-words : (R : RuleSet) (form : Form edition-1 R) (E : Term) → g ≡ reach-in-words E → g ≡ reach (R .width) E
-      in-words R form E eg = eg ∙ ap (λ w. reach w E) (sym (form .width-is))
+      in-words : (R : RuleSet) (form : Form R) (E : Term) → g ≡ reach-in-words E → g ≡ reach (R .edition .width) E
+      in-words R form E eg = eg ∙ ap (λ w. reach w E) (sym (width-is-1 form))
 
       pub steps-short-term : word-count next-term < g → Steps (Refused 9) next-term next-memory
       steps-short-term h R E d ec eg =
@@ -67,7 +68,7 @@ module _ (memory next-term next-memory : List ℕ) (b : Bool) (k : ℕ) (event :
 
       pub steps-done : g ≤ word-count next-term → c ≤ cell-room memory → c ≤ cell-room next-memory → (r : Moved) (term′ memory′ : List ℕ)
           → ((R : RuleSet) (E : Term) (choose : List Move → Option Move) → Described R E t T D s → c ≡ cells-needed R → c ≤ cell-room memory → reach 1 E ≤ word-count next-term → c ≤ cell-room next-memory → Chooses b x choose
-          → Done (writing next-term next-memory (or-refused Refusal.not-offered (choose (listed edition-1 R E memory))) (moved edition-1 R memory next-term next-memory)) r term′ memory′)
+          → Done (writing next-term next-memory (or-refused Refusal.not-offered (choose (listed R E memory))) (moved R memory next-term next-memory)) r term′ memory′)
           → Steps r term′ memory′
       steps-done h l m r term′ memory′ step R E d ec eg =
           let y = choosing R (d .form) (d .directory .declares) in

@@ -6,7 +6,6 @@ use mathlib.Core.Option.{none}
 use Prim.Native.Nat.{ℕ, _+_, _*_, _/_, _≤_, _<_}
 use native.Mathlib.Omega.{arith}
 use lib.ListN.{length, getD}
-use Rattle.eb3.specs.Limits.{edition-1}
 use Rattle.eb3.specs.Expressions.{no-reading}
 use Rattle.eb3.specs.Attributes.{number-of-functions}
 use Rattle.eb3.specs.Cells.{total-cells, initial-cells, cells-up-to}
@@ -29,7 +28,7 @@ use Rattle.cells.specs.ReadyingFills.{start-filling}
 
 -- A lent memory of enough cells holds those of the start, for a rule set of c cells whose stream, tables and directory these are.
 abbrev pub MemoryStarted : List ℕ → List ℕ → List ℕ → ℕ → ℕ → List ℕ → List ℕ → Type 0
-MemoryStarted t T D room c B B′ = (R : RuleSet) → Form edition-1 R → Directory t T D R → c ≡ cells-needed R → 36 + c ≤ room → c ≤ cell-room B → B′ ≡ written (memory-words edition-1 (initial-cells (attributes R))) B
+MemoryStarted t T D room c B B′ = (R : RuleSet) → Form R → Directory t T D R → c ≡ cells-needed R → 36 + c ≤ room → c ≤ cell-room B → B′ ≡ written (memory-words (initial-cells (attributes R))) B
 
 -- From a store made ready, filled and saved.
 pub memory-started : (t T D M M₁ M₂ B B′ : List ℕ) (w n c : ℕ) → w ≡ 3 + getD T 17 0 → n ≡ getD T 210 0 → length M₁ ≡ length M → length M₂ ≡ length M₁
@@ -54,6 +53,6 @@ memory-started t T D M M₁ M₂ B B′ w n c ew en l₁ l₂ prepared filled sa
 
 -- Lent buffers with enough room hold main's unfolding and the cells of the start.
 abbrev pub Begun : List ℕ → List ℕ → List ℕ → ℕ → List ℕ → List ℕ → List ℕ → List ℕ → Type 0
-Begun t T D c term memory term′ memory′ = (R : RuleSet) → Form edition-1 R → Directory t T D R → c ≡ cells-needed R → c ≤ 1024 → length (words 1 (unfold-main R)) ≤ 65535 → length (words 1 (unfold-main R)) ≤ word-count term
+Begun t T D c term memory term′ memory′ = (R : RuleSet) → Form R → Directory t T D R → c ≡ cells-needed R → c ≤ 1024 → length (words 1 (unfold-main R)) ≤ 65535 → length (words 1 (unfold-main R)) ≤ word-count term
     → c ≤ cell-room memory
-    → (term′ ≡ written (words 1 (unfold-main R)) term) × (memory′ ≡ written (memory-words edition-1 (initial-cells (attributes R))) memory)
+    → (term′ ≡ written (words 1 (unfold-main R)) term) × (memory′ ≡ written (memory-words (initial-cells (attributes R))) memory)

@@ -6,14 +6,13 @@ use Prim.Native.Nat.{ℕ, _≤_, _<_}
 use lib.Dec.{leb}
 use borrow.Author.Tests.{le-leb, lt-leb}
 use Rattle.eb3.specs.Refusal
-use Rattle.eb3.specs.Limits.{edition-1}
 use Rattle.eb3.specs.RuleSets.{RuleSet}
 use Rattle.eb3.specs.Bytes.{word-count}
 use Rattle.eb3.specs.Memory.{cell-room}
 use Rattle.eb3.specs.Reading.{pick}
 use Rattle.eb3.specs.Admission.{admission}
 use Rattle.eb3.specs.Answers.{Answer, refused, answered, Ran as Answer·ran, Written, unwritten}
-use Rattle.eb3.specs.Operations.{cells-needed, main-reach, term-fits, memory-fits, writing, ran, run, run-in, ScratchAfter}
+use Rattle.eb3.specs.Operations.{cells-needed, main-reach, term-fits, memory-fits, writing, ran, run, ScratchAfter}
 use Rattle.mains.specs.Mains.{RanRight}
 use Rattle.mains.specs.declared.Totals.{Totals}
 use Rattle.engine.specs.declared.running.Ran.{Ran}
@@ -34,19 +33,19 @@ module _ (rules numbers term memory spare-term spare-memory : List ℕ) where
   }
 
   abbrev run-from : RuleSet → Written Answer·ran
-  run-from R = pick ((term-fits (main-reach R) term && memory-fits R memory) && (term-fits (main-reach R) spare-term && memory-fits R spare-memory)) (ran edition-1 numbers term memory R) (unwritten term memory Refusal.space)
+  run-from R = pick ((term-fits (main-reach R) term && memory-fits R memory) && (term-fits (main-reach R) spare-term && memory-fits R spare-memory)) (ran numbers term memory R) (unwritten term memory Refusal.space)
 
-  pub run-refused : (k : ℕ) → admission edition-1 rules ≡ refused k → Leaves (Refused k) term memory spare-term
-  unfolding run-in ran-as
+  pub run-refused : (k : ℕ) → admission rules ≡ refused k → Leaves (Refused k) term memory spare-term
+  unfolding run ran-as
   run-refused k e = by-whole (unwritten term memory k) (Refused k) term memory spare-term (ap (λ a. writing term memory a run-from) e) refl refl refl refl
 
-  module _ (R : RuleSet) (e : admission edition-1 rules ≡ answered R) where
+  module _ (R : RuleSet) (e : admission rules ≡ answered R) where
     by-room : (a b c d : Bool) → term-fits (main-reach R) term ≡ a → memory-fits R memory ≡ b → term-fits (main-reach R) spare-term ≡ c → memory-fits R spare-memory ≡ d
-        → run rules numbers term memory spare-term spare-memory ≡ pick ((a && b) && (c && d)) (ran edition-1 numbers term memory R) (unwritten term memory Refusal.space)
-    unfolding run-in
+        → run rules numbers term memory spare-term spare-memory ≡ pick ((a && b) && (c && d)) (ran numbers term memory R) (unwritten term memory Refusal.space)
+    unfolding run
     by-room a b c d p q r s =
         ap (λ x. writing term memory x run-from) e
-        ∙ (λ i. pick ((p i && q i) && (r i && s i)) (ran edition-1 numbers term memory R) (unwritten term memory Refusal.space))
+        ∙ (λ i. pick ((p i && q i) && (r i && s i)) (ran numbers term memory R) (unwritten term memory Refusal.space))
 
     lacking : run rules numbers term memory spare-term spare-memory ≡ unwritten term memory Refusal.space → Leaves (Refused 9) term memory spare-term
     unfolding ran-as
@@ -71,6 +70,6 @@ module _ (rules numbers term memory spare-term spare-memory : List ℕ) where
       pub run-done : main-reach R ≤ word-count spare-term → cells-needed R ≤ cell-room spare-memory → (r : Totals) (term′ memory′ spare′ : List ℕ)
           → RanRight numbers term memory spare-term R r term′ memory′ spare′ → Leaves (Ended r) term′ memory′ spare′
       unfolding ran-as
-      run-done m n r term′ memory′ spare′ d = by-whole (ran edition-1 numbers term memory R) (Ended r) term′ memory′ spare′
+      run-done m n r term′ memory′ spare′ d = by-whole (ran numbers term memory R) (Ended r) term′ memory′ spare′
           (by-room true true true true (le-leb (main-reach R) (word-count term) h) (le-leb (cells-needed R) (cell-room memory) l) (le-leb (main-reach R) (word-count spare-term) m) (le-leb (cells-needed R) (cell-room spare-memory) n))
           (sym (ap ran-as (d .answer))) (d .term-after) (d .memory-after) (d .words-only .same-length, d .words-only .odd-kept)

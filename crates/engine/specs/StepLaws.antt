@@ -12,7 +12,6 @@ use borrow.Author.Tests.{le-leb, lt-leb}
 use Rattle.eb3.specs.Refusal
 use Rattle.eb3.specs.Terms.{Term, Action}
 use Rattle.eb3.specs.Moves.{Move}
-use Rattle.eb3.specs.Limits.{edition-1}
 use Rattle.eb3.specs.RuleSets.{RuleSet}
 use Rattle.eb3.specs.WellFormedness.{Form, well-formed-action}
 use Rattle.eb3.specs.Reading.{pick}
@@ -23,7 +22,9 @@ use Rattle.eb3.specs.Sizes.{reach}
 use Rattle.eb3.specs.Bytes.{words-in, word-count}
 use Rattle.eb3.specs.Memory.{cell-room}
 use Rattle.eb3.specs.Answers.{Answer, refused, answered, and-then, Moved as Answer·moved, Written, unwritten}
-use Rattle.eb3.specs.Operations.{cells-needed, term-fits, memory-fits, or-refused, even, term-in, event-in, listed, at-first, writing, moved, chosen, move, move-in, present, present-in}
+use Rattle.eb3.specs.Operations.{cells-needed, term-fits, memory-fits, even, term-in, event-in, listed, at-first, writing, moved, chosen, move, present}
+use Rattle.eb3.specs.Answers.{or-refused}
+use Rattle.eb3.specs.Laws.Editions.{width-is-1}
 use Rattle.actions.specs.Codes.{action-code, Small}
 use Rattle.actions.specs.ActionLaws.{action-small}
 use Rattle.given.specs.declared.asking.Asked.{Asked}
@@ -45,27 +46,27 @@ module _ (rules term memory : List ℕ) (next-term next-memory : List ℕ) where
   both-known f R (answered E) = refl
 
   from-admitted : (f : RuleSet → Term → Written Answer·moved) (a : Answer RuleSet)
-      → (writing next-term next-memory a λ R. writing next-term next-memory (term-in edition-1 R term) λ E. f R E)
-      ≡ (writing {X = RuleSet × Term} next-term next-memory (and-then a λ R. and-then (term-in edition-1 R term) λ E. answered (R, E)) λ p. f (p .0) (p .1))
+      → (writing next-term next-memory a λ R. writing next-term next-memory (term-in R term) λ E. f R E)
+      ≡ (writing {X = RuleSet × Term} next-term next-memory (and-then a λ R. and-then (term-in R term) λ E. answered (R, E)) λ p. f (p .0) (p .1))
   unfolding and-then
   from-admitted f (refused k) = refl
-  from-admitted f (answered R) = both-known f R (term-in edition-1 R term)
+  from-admitted f (answered R) = both-known f R (term-in R term)
 
   pub move-stepped : (k : ℕ) (event : List ℕ) → move rules term memory k next-term next-memory ≡ stepped rules term memory false k event next-term next-memory
-  unfolding move-in stepped asked-of
-  move-stepped k event = from-admitted (λ R E. chosen edition-1 R E memory next-term next-memory λ xs. getElem? xs k) (admission edition-1 rules)
+  unfolding move stepped asked-of
+  move-stepped k event = from-admitted (λ R E. chosen R E memory next-term next-memory λ xs. getElem? xs k) (admission rules)
 
   event-known : (R : RuleSet) (E : Term) (a : Answer Action)
-      → (writing next-term next-memory a λ ρ. chosen edition-1 R E memory next-term next-memory (at-first ρ))
-      ≡ (writing next-term next-memory (and-then a λ ρ. answered (at-first ρ)) λ choose. chosen edition-1 R E memory next-term next-memory choose)
+      → (writing next-term next-memory a λ ρ. chosen R E memory next-term next-memory (at-first ρ))
+      ≡ (writing next-term next-memory (and-then a λ ρ. answered (at-first ρ)) λ choose. chosen R E memory next-term next-memory choose)
   unfolding and-then
   event-known R E (refused k) = refl
   event-known R E (answered ρ) = refl
 
   pub present-stepped : (k : ℕ) (event : List ℕ) → present rules term memory event next-term next-memory ≡ stepped rules term memory true k event next-term next-memory
-  unfolding present-in stepped asked-of
+  unfolding present stepped asked-of
   present-stepped k event =
-      from-admitted (λ R E. writing next-term next-memory (event-in R event) λ ρ. chosen edition-1 R E memory next-term next-memory (at-first ρ)) (admission edition-1 rules)
+      from-admitted (λ R E. writing next-term next-memory (event-in R event) λ ρ. chosen R E memory next-term next-memory (at-first ρ)) (admission rules)
       ∙ ap (λ (f : RuleSet × Term → Written Answer·moved). writing next-term next-memory (given-in rules term) f)
       (λ i p. event-known (p .0) (p .1) (event-in (p .0) event) i)
 
@@ -93,7 +94,7 @@ stranger-number true none j e = let z : 11 ≡ j = cc in sym z
 stranger-number true (some ρ) j e = absurd (let z : _≡_ {A = ℕ} 0 1 = cc in omega arith)
 stranger-number false o j e = let z : 11 ≡ j = cc in sym z
 
-module _ (R : RuleSet) (form : Form edition-1 R) (k : ℕ) (event : List ℕ) where
+module _ (R : RuleSet) (form : Form R) (k : ℕ) (event : List ℕ) where
   event-so : (ρ : Action) → event-in R event ≡ answered ρ → Small ρ
   event-so ρ e = go (even event) (given-event R (words-in event)) refl e
     where
@@ -101,7 +102,7 @@ module _ (R : RuleSet) (form : Form edition-1 R) (k : ℕ) (event : List ℕ) wh
       go true none q f = absurd (let z : _≡_ {A = ℕ} 0 1 = cc in omega arith)
       go true (some σ) q f =
           let h : σ ≡ ρ = cc in
-          subst Small h (action-small R form σ (given-event-exact R (omega (arith, form .width-is)) (words-in event) σ .0 q .1))
+          subst Small h (action-small R form σ (given-event-exact R (omega (arith, width-is-1 form)) (words-in event) σ .0 q .1))
       go false o q f = absurd (let z : _≡_ {A = ℕ} 0 1 = cc in omega arith)
 
   pub asked-stranger : (b : Bool) → Stranger ≡ asked-as b k (event-in R event) → asked-of b k event R ≡ refused 11
@@ -139,35 +140,35 @@ module _ (R : RuleSet) (E : Term) (memory next-term next-memory : List ℕ) (by-
   pub stranger-done : asked-of by-event k event R ≡ refused 11 → Done given (Refused 11) next-term next-memory
   unfolding moved-as
   stranger-done e =
-      let f : given ≡ unwritten next-term next-memory 11 = ap (λ a. writing next-term next-memory a λ choose. chosen edition-1 R E memory next-term next-memory choose) e in
+      let f : given ≡ unwritten next-term next-memory 11 = ap (λ a. writing next-term next-memory a λ choose. chosen R E memory next-term next-memory choose) e in
       subst (λ w. Done w (Refused 11) next-term next-memory) (sym f) (record { answer = refl; term-after = refl; memory-after = refl })
 
   module _ (choose : List Move → Option Move) (e : asked-of by-event k event R ≡ answered choose) where
     abbrev choice : Written Answer·moved
-    choice = writing next-term next-memory (or-refused Refusal.not-offered (choose (listed edition-1 R E memory))) (moved edition-1 R memory next-term next-memory)
+    choice = writing next-term next-memory (or-refused Refusal.not-offered (choose (listed R E memory))) (moved R memory next-term next-memory)
 
-    by-room : (b c d : Bool) → term-fits (reach (R .width) E) next-term ≡ b → memory-fits R memory ≡ c → memory-fits R next-memory ≡ d → given ≡ pick (b && (c && d)) choice (unwritten next-term next-memory Refusal.space)
+    by-room : (b c d : Bool) → term-fits (reach (R .edition .width) E) next-term ≡ b → memory-fits R memory ≡ c → memory-fits R next-memory ≡ d → given ≡ pick (b && (c && d)) choice (unwritten next-term next-memory Refusal.space)
     by-room b c d p q r =
-        ap (λ a. writing next-term next-memory a λ f. chosen edition-1 R E memory next-term next-memory f) e
+        ap (λ a. writing next-term next-memory a λ f. chosen R E memory next-term next-memory f) e
         ∙ (λ i. pick (p i && (q i && r i)) choice (unwritten next-term next-memory Refusal.space))
 
     lacking : given ≡ unwritten next-term next-memory Refusal.space → Done given (Refused 9) next-term next-memory
     unfolding moved-as
     lacking f = subst (λ w. Done w (Refused 9) next-term next-memory) (sym f) (record { answer = refl; term-after = refl; memory-after = refl })
 
-    pub short-term : word-count next-term < reach (R .width) E → Done given (Refused 9) next-term next-memory
-    short-term h = lacking (by-room false (memory-fits R memory) (memory-fits R next-memory) (lt-leb (reach (R .width) E) (word-count next-term) h) refl refl)
+    pub short-term : word-count next-term < reach (R .edition .width) E → Done given (Refused 9) next-term next-memory
+    short-term h = lacking (by-room false (memory-fits R memory) (memory-fits R next-memory) (lt-leb (reach (R .edition .width) E) (word-count next-term) h) refl refl)
 
-    pub short-memory : reach (R .width) E ≤ word-count next-term → cell-room memory < cells-needed R → Done given (Refused 9) next-term next-memory
+    pub short-memory : reach (R .edition .width) E ≤ word-count next-term → cell-room memory < cells-needed R → Done given (Refused 9) next-term next-memory
     short-memory h l =
-        lacking (by-room true false (memory-fits R next-memory) (le-leb (reach (R .width) E) (word-count next-term) h) (lt-leb (cells-needed R) (cell-room memory) l) refl)
+        lacking (by-room true false (memory-fits R next-memory) (le-leb (reach (R .edition .width) E) (word-count next-term) h) (lt-leb (cells-needed R) (cell-room memory) l) refl)
 
-    pub short-next-memory : reach (R .width) E ≤ word-count next-term → cells-needed R ≤ cell-room memory → cell-room next-memory < cells-needed R → Done given (Refused 9) next-term next-memory
+    pub short-next-memory : reach (R .edition .width) E ≤ word-count next-term → cells-needed R ≤ cell-room memory → cell-room next-memory < cells-needed R → Done given (Refused 9) next-term next-memory
     short-next-memory h l m =
-        lacking (by-room true true false (le-leb (reach (R .width) E) (word-count next-term) h) (le-leb (cells-needed R) (cell-room memory) l) (lt-leb (cells-needed R) (cell-room next-memory) m))
+        lacking (by-room true true false (le-leb (reach (R .edition .width) E) (word-count next-term) h) (le-leb (cells-needed R) (cell-room memory) l) (lt-leb (cells-needed R) (cell-room next-memory) m))
 
-    pub with-room : reach (R .width) E ≤ word-count next-term → cells-needed R ≤ cell-room memory → cells-needed R ≤ cell-room next-memory → (r : Moved) (term′ memory′ : List ℕ)
+    pub with-room : reach (R .edition .width) E ≤ word-count next-term → cells-needed R ≤ cell-room memory → cells-needed R ≤ cell-room next-memory → (r : Moved) (term′ memory′ : List ℕ)
         → Done choice r term′ memory′ → Done given r term′ memory′
     with-room h l m r term′ memory′ d =
         subst (λ w. Done w r term′ memory′)
-        (sym (by-room true true true (le-leb (reach (R .width) E) (word-count next-term) h) (le-leb (cells-needed R) (cell-room memory) l) (le-leb (cells-needed R) (cell-room next-memory) m))) d
+        (sym (by-room true true true (le-leb (reach (R .edition .width) E) (word-count next-term) h) (le-leb (cells-needed R) (cell-room memory) l) (le-leb (cells-needed R) (cell-room next-memory) m))) d

@@ -8,7 +8,6 @@ use lib.ListN.{length, getD}
 use Rattle.eb3.specs.Values.{Value}
 use Rattle.eb3.specs.Terms.{Term, Action, internal, visible}
 use Rattle.eb3.specs.Moves.{Move}
-use Rattle.eb3.specs.Limits.{edition-1}
 use Rattle.eb3.specs.RuleSets.{RuleSet, attributes}
 use Rattle.eb3.specs.Derivations.{state-after}
 use Rattle.eb3.specs.Semantics.{Sem-M}
@@ -50,7 +49,7 @@ reach-in-words E = reach 1 E
 -- Asked of a rule set and a term.
 abbrev pub stepped-from : Bool → ℕ → List ℕ → List ℕ → List ℕ → List ℕ → RuleSet × Term → Written Answer·moved
 stepped-from by-event k event memory next-term next-memory p =
-    writing next-term next-memory (asked-of by-event k event (p .0)) λ choose. chosen edition-1 (p .0) (p .1) memory next-term next-memory choose
+    writing next-term next-memory (asked-of by-event k event (p .0)) λ choose. chosen (p .0) (p .1) memory next-term next-memory choose
 
 unfoldable pub stepped : List ℕ → List ℕ → List ℕ → Bool → ℕ → List ℕ → List ℕ → List ℕ → Written Answer·moved
 stepped rules term memory by-event k event next-term next-memory =
@@ -61,5 +60,5 @@ abbrev pub moved-from : RuleSet → List Value → List ℕ → List ℕ → Mov
 moved-from R cells next-term next-memory x = record {
   answer = answered (record { action = x .action; size = size 1 (x .successor) });
   term = written (words 1 (x .successor)) next-term;
-  memory = written (memory-words edition-1 (state-after (Sem-M (attributes R)) cells (x .action))) next-memory;
+  memory = written (memory-words (state-after (Sem-M (attributes R)) cells (x .action))) next-memory;
 }

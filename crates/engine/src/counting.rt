@@ -3,7 +3,6 @@ ghost use mathlib.Core.Path.{_≡_};
 ghost use Prim.Native.Nat.{ℕ, _*_, _/_, _≤_};
 ghost use mathlib.Core.List.{List};
 ghost use lib.ListN.{length, getD};
-ghost use Rattle.eb3.specs.Limits.{edition-1};
 ghost use Rattle.eb3.specs.Terms.{Term};
 ghost use Rattle.eb3.specs.RuleSets.{RuleSet};
 ghost use Rattle.eb3.specs.Memory.{cell-room};
@@ -31,7 +30,7 @@ pub enum Counted {
 // The moves of the term s at the cells of a memory that has enough.
 fn count_at(s: &[u16], tb: &[u32], dir: &[u32], c: usize, memory: &[u8]) -> u32
     requires { ⌜ (length (now s) ≤ 65535) × (c ≤ 1024) × (getD (now tb) 17 0 ≤ 64) × (getD (now tb) 210 0 ≤ 16) ⌝ }
-    ensures { λ r. ⌜ ((R : RuleSet) (E : Term) (t : List ℕ) → Described R E t (now (tb .entry)) (now (dir .entry)) (now (s .entry)) → c ≡ cells-needed R → c ≤ cell-room (now (memory .entry)) → r ≡ length (listed edition-1 R E (now (memory .entry)))) ⌝ }
+    ensures { λ r. ⌜ ((R : RuleSet) (E : Term) (t : List ℕ) → Described R E t (now (tb .entry)) (now (dir .entry)) (now (s .entry)) → c ≡ cells-needed R → c ≤ cell-room (now (memory .entry)) → r ≡ length (listed R E (now (memory .entry)))) ⌝ }
 {
     let mut m = [0u16; 2084];
     load_store(

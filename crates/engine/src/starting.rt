@@ -4,7 +4,6 @@ ghost use mathlib.Core.Path.{_≡_};
 ghost use mathlib.Core.List.{List, [], _∷_, _++_};
 ghost use Prim.Native.Nat.{ℕ, _+_, _*_, _≤_, _<_};
 ghost use lib.ListN.{length, getD};
-ghost use Rattle.eb3.specs.Limits.{edition-1};
 ghost use Rattle.engine.specs.Memories.{MemoryStarted, Begun};
 ghost use Rattle.admission.specs.Knowing.{Opens};
 ghost use Rattle.engine.specs.Starting.{StartDone};

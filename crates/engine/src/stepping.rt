@@ -8,7 +8,6 @@ ghost use Prim.Native.Nat.{ℕ, _*_, _/_, _%_, _≤_};
 ghost use lib.ListN.{length, getD, getElem?};
 ghost use Rattle.eb3.specs.Refusal;
 ghost use Rattle.eb3.specs.Values.{Value};
-ghost use Rattle.eb3.specs.Limits.{edition-1};
 ghost use Rattle.eb3.specs.Terms.{Term, Action};
 ghost use Rattle.eb3.specs.Moves.{Move, moves};
 ghost use Rattle.eb3.specs.RuleSets.{RuleSet, attributes};
@@ -17,7 +16,8 @@ ghost use Rattle.eb3.specs.Scopes.{Scope};
 ghost use Rattle.eb3.specs.Sizes.{reach};
 ghost use Rattle.eb3.specs.Bytes.{word-count};
 ghost use Rattle.eb3.specs.Memory.{cell-room};
-ghost use Rattle.eb3.specs.Operations.{cells-needed, or-refused, listed, writing, moved, move, present};
+ghost use Rattle.eb3.specs.Operations.{cells-needed, listed, writing, moved, move, present};
+ghost use Rattle.eb3.specs.Answers.{or-refused};
 ghost use Rattle.actions.specs.Codes.{action-code, Small};
 ghost use Rattle.listing.specs.Listing.{holding};
 ghost use Rattle.steps.specs.Counting.{Whole};
@@ -147,7 +147,7 @@ fn step_at(
     next_memory: &mut [u8],
 ) -> Moved
     requires { ⌜ (length (now t) ≤ 65535) × (length (now s) ≤ 65535) × (c ≤ 1024) × (getD (now tb) 17 0 ≤ 64) × (getD (now tb) 210 0 ≤ 16) ⌝ }
-    ensures { λ r. ⌜ ((R : RuleSet) (E : Term) (choose : List Move → Option Move) → Described R E (now (t .entry)) (now (tb .entry)) (now (dir .entry)) (now (s .entry)) → c ≡ cells-needed R → c ≤ cell-room (now (memory .entry)) → reach 1 E ≤ word-count (now («next_term» .entry)) → c ≤ cell-room (now («next_memory» .entry)) → Chooses «by_event» x choose → Done (writing (now («next_term» .entry)) (now («next_memory» .entry)) (or-refused Refusal.not-offered (choose (listed edition-1 R E (now (memory .entry))))) (moved edition-1 R (now (memory .entry)) (now («next_term» .entry)) (now («next_memory» .entry)))) r (now («next_term» .exit)) (now («next_memory» .exit))) ⌝ }
+    ensures { λ r. ⌜ ((R : RuleSet) (E : Term) (choose : List Move → Option Move) → Described R E (now (t .entry)) (now (tb .entry)) (now (dir .entry)) (now (s .entry)) → c ≡ cells-needed R → c ≤ cell-room (now (memory .entry)) → reach 1 E ≤ word-count (now («next_term» .entry)) → c ≤ cell-room (now («next_memory» .entry)) → Chooses «by_event» x choose → Done (writing (now («next_term» .entry)) (now («next_memory» .entry)) (or-refused Refusal.not-offered (choose (listed R E (now (memory .entry))))) (moved R (now (memory .entry)) (now («next_term» .entry)) (now («next_memory» .entry)))) r (now («next_term» .exit)) (now («next_memory» .exit))) ⌝ }
 {
     let mut m = [0u16; 2084];
     load_store(

@@ -6,12 +6,12 @@ use Prim.Native.Nat.{ℕ}
 use native.Mathlib.Omega.{arith}
 use lib.ListN.{drop, getD}
 use Rattle.eb3.specs.Terms.{Term, Perform, VisibleAction, visible}
-use Rattle.eb3.specs.Limits.{edition-1}
 use Rattle.eb3.specs.RuleSets.{RuleSet}
 use Rattle.eb3.specs.Spelling.{arguments-words, words}
 use Rattle.eb3.specs.WellFormedness.{Form, Running as RunningTerm}
 use Rattle.eb3.specs.TermReading.{given-term, leaf-of, given-event}
 use Rattle.eb3.specs.Laws.TermReading.{given-term-exact}
+use Rattle.eb3.specs.Laws.Editions.{width-is-1}
 use Rattle.arguments.specs.Tables.{declared}
 use Rattle.declarations.specs.Declaring.{Declares}
 use Rattle.declarations.specs.DeclaringLaws.{declared-alike}
@@ -30,15 +30,15 @@ abbrev Runs : Given → Type 0
 Runs (Running r b) = Unit
 Runs Wrong = ⊥
 
-module _ (T s : List ℕ) (R : RuleSet) (form : Form edition-1 R) (d : Declares T R) where
+module _ (T s : List ℕ) (R : RuleSet) (form : Form R) (d : Declares T R) where
   -- The tables read a given term as the rule set does.
-  at-rules : (g : Given) → g ≡ given (given-term edition-1 (declared T) s) → g ≡ given (given-term edition-1 R s)
-  at-rules g e = e ∙ ap given (given-term-alike (declared T) R (declared-alike T R d) edition-1 s)
+  at-rules : (g : Given) → g ≡ given (given-term (declared T) s) → g ≡ given (given-term R s)
+  at-rules g e = e ∙ ap given (given-term-alike (declared T) R (declared-alike T R d) s)
 
   -- No term is no event.
-  none-given : Wrong ≡ given (given-term edition-1 R s) → given-event R s ≡ none
+  none-given : Wrong ≡ given (given-term R s) → given-event R s ≡ none
   unfolding given event-of
-  none-given e = event-is-leaf R form s ∙ go (given-term edition-1 R s) e
+  none-given e = event-is-leaf R form s ∙ go (given-term R s) e
     where
       go : (o : Option Term) → Wrong ≡ given o → event-of o ≡ none
       go none f = refl
@@ -47,18 +47,18 @@ module _ (T s : List ℕ) (R : RuleSet) (form : Form edition-1 R) (d : Declares 
   -- A term that the words spell, and the event that it is.
   record Spelt (E : Term) : Type 0 where
     pub spelled : s ≡ words 1 E
-    pub running : RunningTerm edition-1 R E
+    pub running : RunningTerm R E
     pub event : given-event R s ≡ leaf-of E
 
-  some-given : (r b : ℕ) → Running r b ≡ given (given-term edition-1 R s) → (E : Term) × Spelt E
+  some-given : (r b : ℕ) → Running r b ≡ given (given-term R s) → (E : Term) × Spelt E
   unfolding given event-of
-  some-given r b e = go (given-term edition-1 R s) refl
+  some-given r b e = go (given-term R s) refl
     where
-      go : (o : Option Term) → given-term edition-1 R s ≡ o → (E : Term) × Spelt E
+      go : (o : Option Term) → given-term R s ≡ o → (E : Term) × Spelt E
       go none f = absurd (subst Runs (e ∙ ap given f) tt)
       go (some E) f =
-          let x : (s ≡ words (R .width) E) × RunningTerm edition-1 R E = given-term-exact edition-1 R (positive R form s) s E .0 f in
-          (E, record { spelled = x .0 ∙ ap (λ w. words w E) (form .width-is); running = x .1; event = event-is-leaf R form s ∙ ap event-of f })
+          let x : (s ≡ words (R .edition .width) E) × RunningTerm R E = given-term-exact R (positive R form s) s E .0 f in
+          (E, record { spelled = x .0 ∙ ap (λ w. words w E) (width-is-1 form); running = x .1; event = event-is-leaf R form s ∙ ap event-of f })
 
   module _ (E : Term) (t : Spelt E) where
     internal-event : getD s 0 0 ≡ 20 → Event·action 0 ≡ event-as (given-event R s)
@@ -88,23 +88,23 @@ module _ (T s : List ℕ) (R : RuleSet) (form : Form edition-1 R) (d : Declares 
 
 -- ── the ways of returning ──
 
-module _ (T s : List ℕ) (g : Given) (e : g ≡ given (given-term edition-1 (declared T) s)) where
-  pub given-none : g ≡ Wrong → (R : RuleSet) → Form edition-1 R → Declares T R → Stranger ≡ event-as (given-event R s)
+module _ (T s : List ℕ) (g : Given) (e : g ≡ given (given-term (declared T) s)) where
+  pub given-none : g ≡ Wrong → (R : RuleSet) → Form R → Declares T R → Stranger ≡ event-as (given-event R s)
   unfolding event-as
   given-none f R form d = sym (ap event-as (none-given T s R form d (sym f ∙ at-rules T s R form d g e)))
 
   module _ (r b : ℕ) (f : g ≡ Running r b) (w : ℕ) (h : w ≡ getD s 0 0) where
-    term-given : (R : RuleSet) (form : Form edition-1 R) (d : Declares T R) → (E : Term) × Spelt T s R form d E
+    term-given : (R : RuleSet) (form : Form R) (d : Declares T R) → (E : Term) × Spelt T s R form d E
     term-given R form d = some-given T s R form d r b (sym f ∙ at-rules T s R form d g e)
 
-    pub given-internal : w ≡ 20 → (R : RuleSet) → Form edition-1 R → Declares T R → Event·action 0 ≡ event-as (given-event R s)
+    pub given-internal : w ≡ 20 → (R : RuleSet) → Form R → Declares T R → Event·action 0 ≡ event-as (given-event R s)
     given-internal k R form d = let x : (E : Term) × Spelt T s R form d E = term-given R form d in internal-event T s R form d (x .0) (x .1) (sym h ∙ k)
 
-    pub given-other : (Unit {0} × (w ≡ 20 → ⊥)) × (w ≡ 21 → ⊥) → (R : RuleSet) → Form edition-1 R → Declares T R → Stranger ≡ event-as (given-event R s)
+    pub given-other : (Unit {0} × (w ≡ 20 → ⊥)) × (w ≡ 21 → ⊥) → (R : RuleSet) → Form R → Declares T R → Stranger ≡ event-as (given-event R s)
     given-other k R form d = let x : (E : Term) × Spelt T s R form d E = term-given R form d in other-event T s R form d (x .0) (x .1) (λ z. k .0 .1 (h ∙ z)) (λ z. k .1 (h ∙ z))
 
     pub given-action : w ≡ 21 → (t : List ℕ) → t ≡ drop 1 s → (code : ℕ) → ((a : VisibleAction) (rest : List ℕ) → ActionAt t a rest → code ≡ action-code (visible a))
-        → (R : RuleSet) → Form edition-1 R → Declares T R → Event·action code ≡ event-as (given-event R s)
+        → (R : RuleSet) → Form R → Declares T R → Event·action code ≡ event-as (given-event R s)
     given-action k t i code c R form d =
         let x : (E : Term) × Spelt T s R form d E = term-given R form d in
         action-event T s R form d (x .0) (x .1) (sym h ∙ k) code (λ a rest z. c a rest (subst (λ u. ActionAt u a rest) (sym i) z))

@@ -8,7 +8,6 @@ use native.Mathlib.Omega.{arith}
 use lib.Dec.{leb}
 use lib.ListN.{getD}
 use Rattle.eb3.specs.Terms.{Term, Done, Internal, Perform, Sequence, Choice, Star, Parallel, Guard, VisibleAction, Action, internal}
-use Rattle.eb3.specs.Limits.{edition-1}
 use Rattle.eb3.specs.RuleSets.{RuleSet}
 use Rattle.eb3.specs.Sizes.{reach, breadth}
 use Rattle.eb3.specs.Spelling.{words}
@@ -16,6 +15,7 @@ use Rattle.eb3.specs.WellFormedness.{Form}
 use Rattle.eb3.specs.Reading.{Read, refused, taken, pick}
 use Rattle.eb3.specs.TermReading.{read-term, term-alone, given-term, term-of-action, leaf-of, leaf-alone, given-event}
 use Rattle.eb3.specs.Laws.TermReading.{given-term-exact, given-event-exact}
+use Rattle.eb3.specs.Laws.Editions.{width-is-1}
 use Rattle.events.proofs.Small.{leaf-running}
 
 -- ── events and given terms ──
@@ -28,28 +28,28 @@ picked : (b : Bool) (E F : Term) → pick b (some F) none ≡ some E → F ≡ E
 picked true E F e = Option·some-injective F E e
 picked false E F e = absurd (Option·none-ne-some E e)
 
-alone-leaf : (w : ℕ) (r : Read Term) (E : Term) → term-alone edition-1 w r ≡ some E → leaf-alone r ≡ leaf-of E
+alone-leaf : (w : ℕ) (r : Read Term) (E : Term) → term-alone w r ≡ some E → leaf-alone r ≡ leaf-of E
 alone-leaf w (refused k) E e = absurd (Option·none-ne-some E e)
 alone-leaf w (taken F []) E e = ap leaf-of (picked (leb (reach w F) 8192 && leb (breadth F) 65535) E F e)
 alone-leaf w (taken F (x ∷ t)) E e = absurd (Option·none-ne-some E e)
 
-module _ (R : RuleSet) (form : Form edition-1 R) (s : List ℕ) where
-  pub positive : 1 ≤ R .width
-  positive = omega (arith, form .width-is)
+module _ (R : RuleSet) (form : Form R) (s : List ℕ) where
+  pub positive : 1 ≤ R .edition .width
+  positive = omega (arith, width-is-1 form)
 
-  leaf-read : (E : Term) → given-term edition-1 R s ≡ some E → given-event R s ≡ leaf-of E
+  leaf-read : (E : Term) → given-term R s ≡ some E → given-event R s ≡ leaf-of E
   unfolding given-term given-event
-  leaf-read E e = alone-leaf (R .width) (read-term R s) E e
+  leaf-read E e = alone-leaf (R .edition .width) (read-term R s) E e
 
-  pub event-is-leaf : given-event R s ≡ event-of (given-term edition-1 R s)
+  pub event-is-leaf : given-event R s ≡ event-of (given-term R s)
   unfolding event-of
-  event-is-leaf = go (given-term edition-1 R s) (given-event R s) refl refl
+  event-is-leaf = go (given-term R s) (given-event R s) refl refl
     where
-      go : (o : Option Term) (p : Option Action) → given-term edition-1 R s ≡ o → given-event R s ≡ p → p ≡ event-of o
+      go : (o : Option Term) (p : Option Action) → given-term R s ≡ o → given-event R s ≡ p → p ≡ event-of o
       go none none e f = refl
       go none (some ρ) e f =
           let x = given-event-exact R positive s ρ .0 f in
-          absurd (Option·none-ne-some (term-of-action ρ) (sym e ∙ given-term-exact edition-1 R positive s (term-of-action ρ) .1 (x .0, leaf-running R form ρ (x .1))))
+          absurd (Option·none-ne-some (term-of-action ρ) (sym e ∙ given-term-exact R positive s (term-of-action ρ) .1 (x .0, leaf-running R form ρ (x .1))))
       go (some E) p e f = sym f ∙ leaf-read E e
 
 -- ── the first word ──

@@ -1,6 +1,5 @@
 // An event given to Present: one running leaf of the rule set, whose action's number is told (document 01, "Operations"; refusal 11).
 ghost use mathlib.Core.Path.{_≡_};
-ghost use Rattle.eb3.specs.Limits.{edition-1};
 ghost use Rattle.eb3.specs.RuleSets.{RuleSet};
 ghost use Rattle.eb3.specs.WellFormedness.{Form};
 ghost use Rattle.eb3.specs.TermReading.{given-event};
@@ -20,7 +19,7 @@ pub enum Event {
 
 // A running term that begins with the code of a leaf is that leaf.
 pub fn given_event(s: &[u16], tb: &[u32]) -> Event
-    ensures { λ r. ⌜ ((R : RuleSet) → Form edition-1 R → Declares (now (tb .entry)) R → r ≡ event-as (given-event R (now (s .entry)))) ⌝ }
+    ensures { λ r. ⌜ ((R : RuleSet) → Form R → Declares (now (tb .entry)) R → r ≡ event-as (given-event R (now (s .entry)))) ⌝ }
 {
     match given_term(s, tb) {
         Given::Running(reach, breadth) => match first(s) {

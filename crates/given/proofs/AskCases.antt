@@ -9,7 +9,6 @@ use lib.ListN.{length, take}
 use borrow.Author.Tests.{eq-eqb, ne-eqb}
 use Rattle.eb3.specs.Refusal
 use Rattle.eb3.specs.Terms.{Action, Perform, internal, visible}
-use Rattle.eb3.specs.Limits.{edition-1}
 use Rattle.eb3.specs.Sizes.{arguments-size, size}
 use Rattle.eb3.specs.Laws.Sizes.{arguments-double}
 use Rattle.eb3.specs.Laws.Elements.{arguments-two}
@@ -23,7 +22,9 @@ use Rattle.eb3.specs.WellFormedness.{Form, well-formed-action}
 use Rattle.eb3.specs.TermReading.{term-of-action, given-event}
 use Rattle.eb3.specs.Laws.TermReading.{given-event-exact}
 use Rattle.eb3.specs.Answers.{refused}
-use Rattle.eb3.specs.Operations.{or-refused, even, event-in}
+use Rattle.eb3.specs.Operations.{even, event-in}
+use Rattle.eb3.specs.Answers.{or-refused}
+use Rattle.eb3.specs.Laws.Editions.{width-is-1}
 use Rattle.declarations.specs.Declaring.{Declares}
 use Rattle.cells.specs.Preparing.{Loaded}
 use Rattle.cells.specs.MemoryLaws.{loaded-words}
@@ -37,14 +38,14 @@ use Rattle.given.specs.Asking.{asked-as}
 
 -- ── an event is short ──
 
-module _ (R : RuleSet) (form : Form edition-1 R) where
+module _ (R : RuleSet) (form : Form R) where
   -- A code, a label, and two arguments at most.
-  leaf-short : (ρ : Action) → well-formed-action R ρ → length (words (R .width) (term-of-action ρ)) ≤ 6
+  leaf-short : (ρ : Action) → well-formed-action R ρ → length (words (R .edition .width) (term-of-action ρ)) ≤ 6
   unfolding size words
   leaf-short internal h = omega arith
   leaf-short (visible a) h =
       let n : ℕ = length (a .arguments) in
-      let e : arguments-size (R .width) n ≡ 2 * n = ap (λ w. arguments-size w n) (form .width-is) ∙ arguments-double n in
+      let e : arguments-size (R .edition .width) n ≡ 2 * n = ap (λ w. arguments-size w n) (width-is-1 form) ∙ arguments-double n in
       omega (arith, words-length R (Perform a) h, e, arguments-two R form a h)
 
   long-stranger : (s : List ℕ) → 6 < length s → given-event R s ≡ none
@@ -53,7 +54,7 @@ module _ (R : RuleSet) (form : Form edition-1 R) where
       go : (o : Option Action) → given-event R s ≡ o → given-event R s ≡ none
       go none e = e
       go (some ρ) e =
-          let p = given-event-exact R (omega (arith, form .width-is)) s ρ .0 e in
+          let p = given-event-exact R (omega (arith, width-is-1 form)) s ρ .0 e in
           absurd (let z : ⊥ = omega (arith, ap length (p .0), leaf-short ρ (p .1)) in z)
 
 -- ── what the reading says ──
@@ -97,7 +98,7 @@ module _ (event : List ℕ) (R : RuleSet) (k : ℕ) where
 module _ (T event : List ℕ) where
   -- What is asked for by the event, at each rule set that the tables declare.
   abbrev EventAsked : Asked → Type 0
-  EventAsked r = (R : RuleSet) → Form edition-1 R → Declares T R → (k : ℕ) → r ≡ asked-as true k (event-in R event)
+  EventAsked r = (R : RuleSet) → Form R → Declares T R → (k : ℕ) → r ≡ asked-as true k (event-in R event)
 
   pub asked-odd : (length event % 2 ≡ 0 → ⊥) → EventAsked Stranger
   asked-odd h R form d k = odd-stranger event R k h
@@ -106,8 +107,8 @@ module _ (T event : List ℕ) where
   asked-long h R form d k = none-asked event R k (long-stranger R form (words-in event) (omega (arith, words-counted event)))
 
   -- The words loaded into an array with room for them, and what was told of its front.
-  module _ (M M′ s : List ℕ) (room : word-count event ≤ length M) (l : Loaded event M M′ 0 (word-count event)) (es : s ≡ take (word-count event) M′) (g : Event) (told : (R : RuleSet) → Form edition-1 R → Declares T R → g ≡ event-as (given-event R s)) where
-    told-event : (R : RuleSet) → Form edition-1 R → Declares T R → g ≡ event-as (given-event R (words-in event))
+  module _ (M M′ s : List ℕ) (room : word-count event ≤ length M) (l : Loaded event M M′ 0 (word-count event)) (es : s ≡ take (word-count event) M′) (g : Event) (told : (R : RuleSet) → Form R → Declares T R → g ≡ event-as (given-event R s)) where
+    told-event : (R : RuleSet) → Form R → Declares T R → g ≡ event-as (given-event R (words-in event))
     told-event R form d = told R form d ∙ ap (λ u. event-as (given-event R u)) (es ∙ loaded-words event M M′ (word-count event) refl room l)
 
     pub asked-stranger : g ≡ Event·stranger → EventAsked Stranger
@@ -118,10 +119,10 @@ module _ (T event : List ℕ) where
 
   -- By a number, or by an event.
   module _ (b : Bool) (k : ℕ) where
-    pub asked-by-event : (r : Asked) → b ≡ true → EventAsked r → (R : RuleSet) → Form edition-1 R → Declares T R → r ≡ asked-as b k (event-in R event)
+    pub asked-by-event : (r : Asked) → b ≡ true → EventAsked r → (R : RuleSet) → Form R → Declares T R → r ≡ asked-as b k (event-in R event)
     asked-by-event r e h R form d = h R form d k ∙ ap (λ x. asked-as x k (event-in R event)) (sym e)
 
-    pub asked-by-number : b ≡ false → (R : RuleSet) → Form edition-1 R → Declares T R → Wanted k ≡ asked-as b k (event-in R event)
+    pub asked-by-number : b ≡ false → (R : RuleSet) → Form R → Declares T R → Wanted k ≡ asked-as b k (event-in R event)
     unfolding asked-as
     asked-by-number e R form d = sym (ap (λ x. asked-as x k (event-in R event)) e)
 

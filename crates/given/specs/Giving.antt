@@ -5,7 +5,6 @@ use mathlib.Core.List.{List, _++_}
 use Prim.Native.Nat.{ℕ, _*_}
 use lib.ListN.{length, take, drop}
 use Rattle.eb3.specs.Terms.{Term}
-use Rattle.eb3.specs.Limits.{edition-1}
 use Rattle.eb3.specs.Sizes.{reach}
 use Rattle.eb3.specs.Spelling.{words}
 use Rattle.eb3.specs.Bytes.{word-count}
@@ -30,17 +29,17 @@ checked-as c (answered E) = Given·term c (reach 1 E)
 -- s is a running term of R.
 pub record Spelled (R : RuleSet) (E : Term) (s : List ℕ) : Type 0 where
   pub words-are : s ≡ words 1 E
-  pub running : Running edition-1 R E
+  pub running : Running R E
 
 -- Of a lent array of words that is ws afterwards.
 pub record TermChecked (R : RuleSet) (c : ℕ) (term ws : List ℕ) (r : Given) : Type 0 where
-  pub answer : r ≡ checked-as c (term-in edition-1 R term)
-  pub spelled : (E : Term) → term-in edition-1 R term ≡ answered E → Spelled R E (take (word-count term) ws)
+  pub answer : r ≡ checked-as c (term-in R term)
+  pub spelled : (E : Term) → term-in R term ≡ answered E → Spelled R E (take (word-count term) ws)
 
 -- ── rule set and term ──
 
 abbrev pub given-in : List ℕ → List ℕ → Answer (RuleSet × Term)
-given-in rules term = and-then (admission edition-1 rules) λ R. and-then (term-in edition-1 R term) λ E. answered (R, E)
+given-in rules term = and-then (admission rules) λ R. and-then (term-in R term) λ E. answered (R, E)
 
 unfoldable pub given-as : Answer (RuleSet × Term) → Given
 given-as (refused k) = Refused k
@@ -48,7 +47,7 @@ given-as (answered p) = Given·term (cells-needed (p .0)) (reach 1 (p .1))
 
 -- What is known of both: the stream, the tables and the directory, and the term's words.
 pub record Described (R : RuleSet) (E : Term) (t T D s : List ℕ) : Type 0 where
-  pub form : Form edition-1 R
+  pub form : Form R
   pub directory : Directory t T D R
   pub term : Spelled R E s
 

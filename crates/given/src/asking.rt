@@ -2,7 +2,6 @@
 ghost use mathlib.Core.Path.{_≡_};
 ghost use mathlib.Core.Bool.{true};
 ghost use Prim.Native.Nat.{ℕ};
-ghost use Rattle.eb3.specs.Limits.{edition-1};
 ghost use Rattle.eb3.specs.RuleSets.{RuleSet};
 ghost use Rattle.eb3.specs.WellFormedness.{Form};
 ghost use Rattle.eb3.specs.Operations.{event-in};
@@ -22,7 +21,7 @@ pub enum Asked {
 
 // An event has at most six words: a code, a label, and two for each of two arguments.
 fn read_event(tb: &[u32], event: &[u8]) -> Asked
-    ensures { λ r. ⌜ ((R : RuleSet) → Form edition-1 R → Declares (now (tb .entry)) R → (k : ℕ) → r ≡ asked-as true k (event-in R (now (event .entry)))) ⌝ }
+    ensures { λ r. ⌜ ((R : RuleSet) → Form R → Declares (now (tb .entry)) R → (k : ℕ) → r ≡ asked-as true k (event-in R (now (event .entry)))) ⌝ }
 {
     if event.len() % 2 != 0 {
         return Asked::Stranger;
@@ -40,7 +39,7 @@ fn read_event(tb: &[u32], event: &[u8]) -> Asked
 }
 
 pub fn ask(tb: &[u32], by_event: bool, k: usize, event: &[u8]) -> Asked
-    ensures { λ r. ⌜ ((R : RuleSet) → Form edition-1 R → Declares (now (tb .entry)) R → r ≡ asked-as «by_event» k (event-in R (now (event .entry)))) ⌝ }
+    ensures { λ r. ⌜ ((R : RuleSet) → Form R → Declares (now (tb .entry)) R → r ≡ asked-as «by_event» k (event-in R (now (event .entry)))) ⌝ }
 {
     if by_event {
         return read_event(tb, event);

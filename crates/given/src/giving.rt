@@ -3,7 +3,6 @@
 ghost use mathlib.Core.Path.{_≡_};
 ghost use Prim.Native.Nat.{ℕ, _*_, _/_, _≤_};
 ghost use lib.ListN.{length};
-ghost use Rattle.eb3.specs.Limits.{edition-1};
 ghost use Rattle.eb3.specs.RuleSets.{RuleSet};
 ghost use Rattle.eb3.specs.WellFormedness.{Form};
 ghost use Rattle.declarations.specs.Declaring.{Declares};
@@ -24,7 +23,7 @@ pub enum Given {
 // The term's words in a lent array, which has room for a term within the limit.
 fn check_term(tb: &[u32], c: usize, term: &[u8], ws: &mut [u16]) -> Given
     requires { ⌜ (length (now term) / 2 ≤ 8192 → length (now term) / 2 ≤ length (now ws)) ⌝ }
-    ensures { λ r. ⌜ (length (now (ws .exit)) ≡ length (now (ws .entry))) × ((R : RuleSet) → Form edition-1 R → Declares (now (tb .entry)) R → TermChecked R c (now (term .entry)) (now (ws .exit)) r) ⌝ }
+    ensures { λ r. ⌜ (length (now (ws .exit)) ≡ length (now (ws .entry))) × ((R : RuleSet) → Form R → Declares (now (tb .entry)) R → TermChecked R c (now (term .entry)) (now (ws .exit)) r) ⌝ }
 {
     if term.len() % 2 != 0 {
         return Given::Refused(10);

@@ -10,7 +10,6 @@ use lib.ListN.{length, take, drop, getD, length-take}
 use lib.Seq.{take-at}
 use Rattle.eb3.specs.Scopes.{Scope, guard-scope}
 use Rattle.eb3.specs.Terms.{Term, Done, Internal, Perform, Sequence, Choice, Star, Parallel, Guard, done?}
-use Rattle.eb3.specs.Limits.{edition-1}
 use Rattle.eb3.specs.RuleSets.{RuleSet, attributes}
 use Rattle.eb3.specs.Laws.Sizes.{size-pos}
 use Rattle.eb3.specs.Unfolding.{unfold-main}
@@ -59,7 +58,7 @@ module _ (u : List ℕ) (P : Scope) where
   alone (Guard C E) e p = (Part (length u) (Guard C E), (refl, p), refl, ap (λ x. x ∷ []) (sym (by-word 26 (ap (λ v. getD v 0 0) e))))
 
 -- Any running term without masks is held in one word over its own words.
-held-alone : (R : RuleSet) → Form edition-1 R → (E : Term) → Running edition-1 R E → Unmasked E → (u d : List ℕ) → u ≡ words 1 E → (word : ℕ) → word ≡ whole-word u → take 1 d ≡ word ∷ [] → SharedOver u R E 1 d
+held-alone : (R : RuleSet) → Form R → (E : Term) → Running R E → Unmasked E → (u d : List ℕ) → u ≡ words 1 E → (word : ℕ) → word ≡ whole-word u → take 1 d ≡ word ∷ [] → SharedOver u R E 1 d
 held-alone R form E running unmasked u d e word is-word first =
     let P = guard-scope (attributes R) 0 in
     let all = last-all (length u) u (omega arith) in

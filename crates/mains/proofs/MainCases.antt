@@ -11,7 +11,6 @@ use lib.ListN.{length, take, drop, getD, replicate, length-append, length-replic
 use lib.Seq.{length-take-le, getD-take, getD-append-add, ext-getD}
 use Rattle.eb3.specs.Terms.{Term}
 use Rattle.eb3.specs.Cells.{initial-cells, all-values}
-use Rattle.eb3.specs.Limits.{edition-1}
 use Rattle.eb3.specs.RuleSets.{RuleSet, attributes}
 use Rattle.eb3.specs.Sizes.{size, reach}
 use Rattle.eb3.specs.Laws.Sizes.{size-below-reach, run-reach}
@@ -29,6 +28,7 @@ use Rattle.eb3.specs.Laws.Machines.{machines-agree}
 use Rattle.eb3.specs.WellFormedness.{WellFormed, Running}
 use Rattle.eb3.specs.Answers.{answered, Ran}
 use Rattle.eb3.specs.Operations.{cells-needed, main-reach}
+use Rattle.eb3.specs.Laws.Editions.{width-is-1}
 use Rattle.expressions.specs.Stores.{stored, now-place}
 use Rattle.writing.specs.Wrote.{Wrote}
 use Rattle.cells.specs.Preparing.{Loaded, Saved}
@@ -95,7 +95,7 @@ finished ws ws₁ size reach {f} {M} {c} {term} {memory} {term′} {memory′} s
 
 -- ── main and its run ──
 
-module _ (R : RuleSet) (well : WellFormed edition-1 R) where
+module _ (R : RuleSet) (well : WellFormed R) where
   abbrev main : Term
   main = unfold-main R
 
@@ -105,14 +105,14 @@ module _ (R : RuleSet) (well : WellFormed edition-1 R) where
   abbrev pub start : Situation (Sem-M (attributes R))
   start = situation main (initial-cells (attributes R))
 
-  one : R .width ≡ 1
-  one = well .form .width-is
+  one : R .edition .width ≡ 1
+  one = width-is-1 (well .form)
 
-  pub spelled-length : (E : Term) → Running edition-1 R E → length (words 1 E) ≡ size 1 E
+  pub spelled-length : (E : Term) → Running R E → length (words 1 E) ≡ size 1 E
   spelled-length E h = subst (λ v. length (words v E) ≡ size v E) one (words-length R E (h .form))
 
-  pub main-there : Running edition-1 R main
-  main-there = main-running edition-1 R (omega arith) well
+  pub main-there : Running R main
+  main-there = main-running R well
 
   main-small : Small (words 1 main)
   main-small = subst (λ v. Small (words v main)) one (spelling-small R (well .form) main (main-there .form))
@@ -132,7 +132,7 @@ module _ (R : RuleSet) (well : WellFormed edition-1 R) where
   }
 
   -- No term of the run has more words than main reaches.
-  pub run-fits : (ks : List ℕ) → Running edition-1 R (memory-run (attributes R) main ks .state .term) → length (words 1 (memory-run (attributes R) main ks .state .term)) ≤ main-reach R
+  pub run-fits : (ks : List ℕ) → Running R (memory-run (attributes R) main ks .state .term) → length (words 1 (memory-run (attributes R) main ks .state .term)) ≤ main-reach R
   unfolding memory-run
   run-fits ks h =
       let E : Term = memory-run (attributes R) main ks .state .term in
@@ -147,28 +147,28 @@ module _ (R : RuleSet) (well : WellFormed edition-1 R) where
     agree : Agreement (attributes R) main ks (memory-run (attributes R) main ks) last
     agree = machines-agree (attributes R) main ks
 
-    last-running : Running edition-1 R (last .state .term)
-    last-running = subst (Running edition-1 R) (agree .same-term) (ended .after .running)
+    last-running : Running R (last .state .term)
+    last-running = subst (Running R) (agree .same-term) (ended .after .running)
 
-    last-size : n ≡ size (R .width) (last .state .term)
+    last-size : n ≡ size (R .edition .width) (last .state .term)
     last-size = spelled .size-is ∙ ap (λ E. length (words 1 E)) (agree .same-term) ∙ spelled-length (last .state .term) last-running ∙ ap (λ v. size v (last .state .term)) (sym one)
 
-    last-words : take n xs ≡ words (R .width) (last .state .term)
+    last-words : take n xs ≡ words (R .edition .width) (last .state .term)
     last-words = spelled .spelled ∙ ap (words 1) (agree .same-term) ∙ ap (λ v. words v (last .state .term)) (sym one)
 
     last-fits : n ≤ main-reach R
     last-fits = omega (arith, spelled .size-is, run-fits ks (ended .after .running))
 
-    last-cells : now-place + cells-needed R ≤ length M → take (cells-needed R) (drop now-place M) ≡ memory-words edition-1 (all-values (attributes R) (last .state .state))
+    last-cells : now-place + cells-needed R ≤ length M → take (cells-needed R) (drop now-place M) ≡ memory-words (all-values (attributes R) (last .state .state))
     last-cells room =
         held-words M (memory-run (attributes R) main ks .state .state) (cells-needed R) (ended .after .stored .counted) room (ended .after .stored .holds)
-        ∙ ap (memory-words edition-1) (agree .cells-are-values)
+        ∙ ap memory-words (agree .cells-are-values)
 
     last-told : (low : ℕ) → low ≡ n % 4294967296
-        → _≡_ {A = Ran} (record { size = size (R .width) (last .state .term); visible = last .visible-count; internal = last .internal-count; refusals = last .refused-count })
+        → _≡_ {A = Ran} (record { size = size (R .edition .width) (last .state .term); visible = last .visible-count; internal = last .internal-count; refusals = last .refused-count })
         (record { size = low; visible = tally .visible; internal = tally .internal; refusals = tally .refused })
     last-told low e =
-        let s : size (R .width) (last .state .term) ≡ low = omega (arith, e, last-size, last-fits, well .reach-limit) in
+        let s : size (R .edition .width) (last .state .term) ≡ low = omega (arith, e, last-size, last-fits, well .reach-limit) in
         let v : last .visible-count ≡ tally .visible = sym (ended .visible-is ∙ agree .same-visible) in
         let i : last .internal-count ≡ tally .internal = sym (ended .internal-is ∙ agree .same-internal) in
         let f : last .refused-count ≡ tally .refused = sym (ended .refused-is ∙ agree .same-refused) in
@@ -229,7 +229,7 @@ pub record Begun (t T D : List ℕ) (w functions c n : ℕ) (ws ws₁ M spare sp
   pub started : CellsStarted t D M w functions c
 
 module _ {t T D : List ℕ} {w functions c n : ℕ} {ws ws₁ M spare spare₁ : List ℕ} (begun : Begun t T D w functions c n ws ws₁ M spare spare₁) {reach : ℕ}
-    (R : RuleSet) (well : WellFormed edition-1 R) (d : Directory t T D R) (ec : c ≡ cells-needed R) (er : reach ≡ main-reach R) where
+    (R : RuleSet) (well : WellFormed R) (d : Directory t T D R) (ec : c ≡ cells-needed R) (er : reach ≡ main-reach R) where
   main-unfolded : reach ≤ word-count spare → (n ≡ length (words 1 (unfold-main R))) × (spare₁ ≡ written (words 1 (unfold-main R)) spare)
   main-unfolded room = begun .unfolded R (record { form = well .form; declares = d .declares; processes = d .processes }) (omega (arith, main-size R well, well .reach-limit)) (omega (arith, main-size R well, er))
 

@@ -3,7 +3,6 @@ use mathlib.Core.Path.{_≡_}
 use mathlib.Core.List.{List, _++_}
 use Prim.Native.Nat.{ℕ, _+_, _-_, _≤_}
 use lib.ListN.{length, take, drop, replicate}
-use Rattle.eb3.specs.Limits.{edition-1}
 use Rattle.eb3.specs.RuleSets.{RuleSet}
 use Rattle.eb3.specs.WellFormedness.{WellFormed}
 use Rattle.eb3.specs.Bytes.{word-count, written}
@@ -21,15 +20,15 @@ told r = record { size = r .size; visible = r .visible; internal = r .internal; 
 
 -- What the run leaves in buffers with room; in the spare one successors are built.
 pub record RanRight (numbers term memory spare : List ℕ) (R : RuleSet) (r : Totals) (term′ memory′ spare′ : List ℕ) : Type 0 where
-  pub answer : ran edition-1 numbers term memory R .answer ≡ answered (told r)
-  pub term-after : term′ ≡ ran edition-1 numbers term memory R .term
-  pub memory-after : memory′ ≡ ran edition-1 numbers term memory R .memory
+  pub answer : ran numbers term memory R .answer ≡ answered (told r)
+  pub term-after : term′ ≡ ran numbers term memory R .term
+  pub memory-after : memory′ ≡ ran numbers term memory R .memory
   pub words-only : WordsOnly spare spare′
 
 -- Of the stream t, the tables T, the directory D, c cells and main's reach; there is room for so many words.
 abbrev pub RunsMain : (numbers t T D : List ℕ) (c reach room : ℕ) (term memory spare : List ℕ) (r : Totals) (term′ memory′ spare′ : List ℕ) → Type 0
 RunsMain numbers t T D c reach room term memory spare r term′ memory′ spare′ =
-    (R : RuleSet) → WellFormed edition-1 R → Directory t T D R → c ≡ cells-needed R → reach ≡ main-reach R → reach ≤ room → reach ≤ word-count term → c ≤ cell-room memory → reach ≤ word-count spare
+    (R : RuleSet) → WellFormed R → Directory t T D R → c ≡ cells-needed R → reach ≡ main-reach R → reach ≤ room → reach ≤ word-count term → c ≤ cell-room memory → reach ≤ word-count spare
     → RanRight numbers term memory spare R r term′ memory′ spare′
 
 -- ── the end of it ──

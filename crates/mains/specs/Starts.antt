@@ -3,7 +3,6 @@
 use mathlib.Core.Path.{_≡_}
 use mathlib.Core.List.{List}
 use Prim.Native.Nat.{ℕ, _≤_}
-use Rattle.eb3.specs.Limits.{edition-1}
 use Rattle.eb3.specs.Cells.{initial-cells}
 use Rattle.eb3.specs.RuleSets.{RuleSet, attributes}
 use Rattle.eb3.specs.WellFormedness.{WellFormed}
@@ -21,7 +20,7 @@ use Rattle.mains.specs.declared.Totals.{Totals}
 
 -- The store M holds the cells of the start, and the lent buffers have room for main's reach and for the cells.
 pub record AtStart (R : RuleSet) (t T D : List ℕ) (w functions c reach : ℕ) (M term memory : List ℕ) : Type 0 where
-  pub well : WellFormed edition-1 R
+  pub well : WellFormed R
   pub ruled : Ruled R t T D w functions c
   pub reach-is : reach ≡ main-reach R
   pub stored : Stored R (initial-cells (attributes R)) M

@@ -5,7 +5,6 @@ use mathlib.Core.Path.{_≡_, refl, sym, ap, _∙_, subst}
 use mathlib.Core.Bool.{Bool, true, false}
 use mathlib.Core.List.{List, [], _∷_, _++_}
 use lib.ListN.{length, getD, length-append}
-use Rattle.eb3.specs.Limits.{edition-1}
 use Rattle.eb3.specs.Expressions.{Cond}
 use Rattle.eb3.specs.Spelling.{cond-words}
 use Rattle.eb3.specs.Scopes.{Scope, guard-scope, cond-in-scope}
@@ -49,7 +48,7 @@ condition-in T Γ t b p i e = e ∙ (λ j. checked (read-cond 1 (record { top = 
 
 module _ (T Γ : List ℕ) where
   abbrev conditions : Reader Cond
-  conditions = read-cond (declared T .width) (guard-scope (attributes (declared T)) (length Γ))
+  conditions = read-cond (declared T .edition .width) (guard-scope (attributes (declared T)) (length Γ))
 
   module _ (t : List ℕ) (p : Checked) (e : p ≡ checked (read-cond 1 (guard-scope (attributes (declared T)) (length Γ)) t)) where
     abbrev guards : Read RuleTerm
@@ -67,14 +66,14 @@ module _ (T Γ : List ℕ) where
 
     module _ (n : ℕ) (r : List ℕ) (q : Weighed) (h : p ≡ Left n) (l : r ≡ last-of n t) (f : q ≡ answer T (terms T Γ r)) where
       got-condition : Taken t n (conditions t)
-      got-condition = checked-taken t n (conditions t) (cond-ends (declared T .width) (guard-scope (attributes (declared T)) (length Γ)) t) (sym h ∙ as-declared)
+      got-condition = checked-taken t n (conditions t) (cond-ends (declared T .edition .width) (guard-scope (attributes (declared T)) (length Γ)) t) (sym h ∙ as-declared)
 
       pub guard-out : (k : ℕ) → q ≡ Refused k → Refused k ≡ answer T guards
       guard-out k o =
           let g = got-condition in
           refused-in (declared T) (callee T) _ k (giving-refused _ _ k (both-second conditions (terms T Γ) t (g .value) (g .rest) k (g .read) (behind-got (terms T Γ) t r n _ g l ∙ no-term T Γ r k q f o)))
 
-      size-taken : (c : ℕ) → c ≡ length t - n → c ≡ guard-size (declared T .width) (got-condition .value)
+      size-taken : (c : ℕ) → c ≡ length t - n → c ≡ guard-size (declared T .edition .width) (got-condition .value)
       unfolding declared
       size-taken c d = d ∙ ap (λ m. length t - m) (got-condition .left) ∙ words-taken (guard-scope (attributes (declared T)) (length Γ)) t (got-condition .value) (got-condition .rest) (got-condition .read)
 
@@ -107,23 +106,23 @@ module _ (T Γ t : List ℕ) (b : ℕ) (p : Checked) (i : b ≡ getD T 0 0) (e :
   as-domains : p ≡ checked (number-of 5 (length (declared T .domains)) t)
   as-domains = e ∙ ap (λ n. checked (number-of 5 n t)) (i ∙ sym (domains-length T))
 
-  pub quantified-none : (w : Bool) (k : ℕ) → p ≡ Not k → Refused k ≡ answer T (rule-by (declared T) (read-rule-term edition-1 (declared T)) Γ (quantifier w) t)
+  pub quantified-none : (w : Bool) (k : ℕ) → p ≡ Not k → Refused k ≡ answer T (rule-by (declared T) (read-rule-term (declared T)) Γ (quantifier w) t)
   unfolding choice-over-of parallel-over-of
   quantified-none true k h = refused-in (declared T) (callee T) _ k (by-number-refused 5 (length (declared T .domains)) _ t k (sym h ∙ as-domains))
   quantified-none false k h = refused-in (declared T) (callee T) _ k (by-number-refused 5 (length (declared T .domains)) _ t k (sym h ∙ as-domains))
 
   -- Δ are the variables of the term, d the domain's number, c its size
   module _ (n : ℕ) (r Δ : List ℕ) (q : Weighed) (h : p ≡ Left n) (l : r ≡ last-of n t) (g : Δ ≡ Γ ++ (getD t 0 0 ∷ [])) where
-    choice-there : choice-over-of (declared T) (read-rule-term edition-1 (declared T)) Γ t ≡ giving (choice-over (getD t 0 0)) (terms T Δ r)
+    choice-there : choice-over-of (declared T) (read-rule-term (declared T)) Γ t ≡ giving (choice-over (getD t 0 0)) (terms T Δ r)
     unfolding choice-over-of
     choice-there = by-number-taken 5 (length (declared T .domains)) _ t n (sym h ∙ as-domains) ∙ (λ j. giving (choice-over (getD t 0 0)) (terms T (sym g j) (sym l j)))
 
-    parallel-there : parallel-over-of (declared T) (read-rule-term edition-1 (declared T)) Γ t ≡ giving (λ s. parallel-over (getD t 0 0) (s .0) (s .1)) (both (rule-mask-of (declared T)) (terms T Δ) r)
+    parallel-there : parallel-over-of (declared T) (read-rule-term (declared T)) Γ t ≡ giving (λ s. parallel-over (getD t 0 0) (s .0) (s .1)) (both (rule-mask-of (declared T)) (terms T Δ) r)
     unfolding parallel-over-of
     parallel-there = by-number-taken 5 (length (declared T .domains)) _ t n (sym h ∙ as-domains) ∙ (λ j. giving (λ s. parallel-over (getD t 0 0) (s .0) (s .1)) (both (rule-mask-of (declared T)) (terms T (sym g j)) (sym l j)))
 
     pub quantified-in : (w : Bool) (d c : ℕ) → d ≡ getD t 0 0 → c ≡ domain-size (declared T) d → q ≡ weighed-copies (declared T) (callee T) w c (both (mask-if w (declared T)) (terms T Δ) r)
-        → q ≡ answer T (rule-by (declared T) (read-rule-term edition-1 (declared T)) Γ (quantifier w) t)
+        → q ≡ answer T (rule-by (declared T) (read-rule-term (declared T)) Γ (quantifier w) t)
     unfolding mask-if both then
     quantified-in true d c u v f = f ∙ all-parallel T c (getD t 0 0) _ (v ∙ ap (domain-size (declared T)) u) ∙ ap (answer T) (sym parallel-there)
     quantified-in false d c u v f = f ∙ all-choice T c (getD t 0 0) (terms T Δ r) (v ∙ ap (domain-size (declared T)) u) ∙ ap (answer T) (sym choice-there)

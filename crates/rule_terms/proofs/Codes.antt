@@ -4,7 +4,6 @@ use mathlib.Core.Path.{_≡_, refl, sym, ap, _∙_}
 use mathlib.Core.List.{List}
 use lib.ListN.{length, drop, getD}
 use borrow.Author.Tests.{ne-eqb, lt-ltb, le-ltb}
-use Rattle.eb3.specs.Limits.{edition-1}
 use Rattle.eb3.specs.RuleSets.{RuleTerm, rule-internal, rule-sequence, rule-choice}
 use Rattle.eb3.specs.Measures.{sat, leaf, measure-term}
 use Rattle.eb3.specs.Reading.{Read}
@@ -29,21 +28,21 @@ term-none T Γ s h = rw (nil-form s h)
 abbrev Other : ℕ → Type 0
 Other w = (((((((((Unit {0} × (w ≡ 20 → ⊥)) × (w ≡ 21 → ⊥)) × (w ≡ 22 → ⊥)) × (w ≡ 23 → ⊥)) × (w ≡ 25 → ⊥)) × (w ≡ 26 → ⊥)) × (w ≡ 27 → ⊥)) × (w ≡ 28 → ⊥)) × (w ≡ 29 → ⊥))
 
-other-kind : (Γ : List ℕ) (w : ℕ) → (w ≡ 24 → ⊥) → Other w → rule-kind edition-1 Γ w ≡ RuleKind.wrong
+other-kind : (Γ : List ℕ) (w : ℕ) → (w ≡ 24 → ⊥) → Other w → rule-kind Γ w ≡ RuleKind.wrong
 other-kind Γ w n h = simp (ne-eqb w 20 (h .0 .0 .0 .0 .0 .0 .0 .0 .1), ne-eqb w 21 (h .0 .0 .0 .0 .0 .0 .0 .1), ne-eqb w 22 (h .0 .0 .0 .0 .0 .0 .1), ne-eqb w 23 (h .0 .0 .0 .0 .0 .1), ne-eqb w 24 n, ne-eqb w 25 (h .0 .0 .0 .0 .1), ne-eqb w 26 (h .0 .0 .0 .1), ne-eqb w 27 (h .0 .0 .1), ne-eqb w 28 (h .0 .1), ne-eqb w 29 (h .1))
 
 -- s is the words, t those behind the first
 module _ (T Γ s t : List ℕ) (h : length s ≡ 0 → ⊥) (q : t ≡ drop 1 s) where
   abbrev by : RuleKind → Read RuleTerm
-  by k = rule-by (declared T) (read-rule-term edition-1 (declared T)) Γ k t
+  by k = rule-by (declared T) (read-rule-term (declared T)) Γ k t
 
-  by-kind : (k : RuleKind) (p : Weighed) → rule-kind edition-1 Γ (getD s 0 0) ≡ k → p ≡ answer T (by k) → p ≡ answer T (terms T Γ s)
-  by-kind k p e f = f ∙ ap (λ u. answer T (rule-by (declared T) (read-rule-term edition-1 (declared T)) Γ k u)) q ∙ sym (ap (answer T) (term-case edition-1 (declared T) Γ s k h e))
+  by-kind : (k : RuleKind) (p : Weighed) → rule-kind Γ (getD s 0 0) ≡ k → p ≡ answer T (by k) → p ≡ answer T (terms T Γ s)
+  by-kind k p e f = f ∙ ap (λ u. answer T (rule-by (declared T) (read-rule-term (declared T)) Γ k u)) q ∙ sym (ap (answer T) (term-case (declared T) Γ s k h e))
 
-  by-code : (c : ℕ) (p : Weighed) → getD s 0 0 ≡ c → p ≡ answer T (by (rule-kind edition-1 Γ c)) → p ≡ answer T (terms T Γ s)
-  by-code c p e f = by-kind (rule-kind edition-1 Γ c) p (ap (rule-kind edition-1 Γ) e) f
+  by-code : (c : ℕ) (p : Weighed) → getD s 0 0 ≡ c → p ≡ answer T (by (rule-kind Γ c)) → p ≡ answer T (terms T Γ s)
+  by-code c p e f = by-kind (rule-kind Γ c) p (ap (rule-kind Γ) e) f
 
-  by-wrong : rule-kind edition-1 Γ (getD s 0 0) ≡ RuleKind.wrong → Refused 4 ≡ answer T (terms T Γ s)
+  by-wrong : rule-kind Γ (getD s 0 0) ≡ RuleKind.wrong → Refused 4 ≡ answer T (terms T Γ s)
   unfolding weighed
   by-wrong e = by-kind RuleKind.wrong _ e refl
 
@@ -68,19 +67,19 @@ module _ (T Γ s t : List ℕ) (h : length s ≡ 0 → ⊥) (q : t ≡ drop 1 s)
     term-guard e f = by-code 26 p e f
 
     pub term-over : getD s 0 0 ≡ 27 → length Γ < 8 → p ≡ answer T (by RuleKind.choice-quantifier) → p ≡ answer T (terms T Γ s)
-    term-over e l f = by-kind RuleKind.choice-quantifier p (ap (rule-kind edition-1 Γ) e ∙ rw (lt-ltb (length Γ) 8 l)) f
+    term-over e l f = by-kind RuleKind.choice-quantifier p (ap (rule-kind Γ) e ∙ rw (lt-ltb (length Γ) 8 l)) f
 
     pub term-many : getD s 0 0 ≡ 28 → length Γ < 8 → p ≡ answer T (by RuleKind.parallel-quantifier) → p ≡ answer T (terms T Γ s)
-    term-many e l f = by-kind RuleKind.parallel-quantifier p (ap (rule-kind edition-1 Γ) e ∙ rw (lt-ltb (length Γ) 8 l)) f
+    term-many e l f = by-kind RuleKind.parallel-quantifier p (ap (rule-kind Γ) e ∙ rw (lt-ltb (length Γ) 8 l)) f
 
     pub term-call : getD s 0 0 ≡ 29 → p ≡ answer T (by RuleKind.process-call) → p ≡ answer T (terms T Γ s)
     term-call e f = by-code 29 p e f
 
   pub term-over-full : getD s 0 0 ≡ 27 → 8 ≤ length Γ → Refused 4 ≡ answer T (terms T Γ s)
-  term-over-full e l = by-wrong (ap (rule-kind edition-1 Γ) e ∙ rw (le-ltb (length Γ) 8 l))
+  term-over-full e l = by-wrong (ap (rule-kind Γ) e ∙ rw (le-ltb (length Γ) 8 l))
 
   pub term-many-full : getD s 0 0 ≡ 28 → 8 ≤ length Γ → Refused 4 ≡ answer T (terms T Γ s)
-  term-many-full e l = by-wrong (ap (rule-kind edition-1 Γ) e ∙ rw (le-ltb (length Γ) 8 l))
+  term-many-full e l = by-wrong (ap (rule-kind Γ) e ∙ rw (le-ltb (length Γ) 8 l))
 
   pub term-other : (getD s 0 0 ≡ 24 → ⊥) → Other (getD s 0 0) → Refused 4 ≡ answer T (terms T Γ s)
   term-other n o = by-wrong (other-kind Γ (getD s 0 0) n o)

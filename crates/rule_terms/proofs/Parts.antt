@@ -4,7 +4,6 @@ use mathlib.Core.Path.{_≡_, refl, sym, ap, _∙_}
 use mathlib.Core.Bool.{Bool, true, false}
 use mathlib.Core.List.{List}
 use lib.ListN.{length, take, getD}
-use Rattle.eb3.specs.Limits.{edition-1}
 use Rattle.eb3.specs.Sizes.{zero-mask}
 use Rattle.eb3.specs.RuleSets.{RuleTerm, RuleSet, rule-sequence, rule-choice, rule-parallel}
 use Rattle.eb3.specs.Unfolding.{right-nest}
@@ -29,7 +28,7 @@ use Rattle.rule_terms.specs.WeighedLaws.{weighed-out, weighed-got, weigh
 
 -- The terms read under a table, and the answer of a check of them.
 abbrev pub terms : List ℕ → List ℕ → Reader RuleTerm
-terms T Γ = read-rule-term edition-1 (declared T) Γ
+terms T Γ = read-rule-term (declared T) Γ
 
 abbrev pub answer : List ℕ → Read RuleTerm → Weighed
 answer T r = weighed (declared T) (callee T) r
@@ -37,7 +36,7 @@ answer T r = weighed (declared T) (callee T) r
 -- What the answers of callees say of the readings.
 pub got-term : (T Γ t : List ℕ) (n : ℕ) (v : Weight) (p : Weighed) → p ≡ answer T (terms T Γ t) → p ≡ Found n v
     → (g : Taken t n (terms T Γ t)) × (measure v ≡ measure-term (sat cap) (declared T) (callee T) (g .value))
-got-term T Γ t n v p e h = weighed-got (declared T) (callee T) t n v (terms T Γ t) (term-ends edition-1 (declared T) Γ t) (sym h ∙ e)
+got-term T Γ t n v p e h = weighed-got (declared T) (callee T) t n v (terms T Γ t) (term-ends (declared T) Γ t) (sym h ∙ e)
 
 pub no-term : (T Γ t : List ℕ) (k : ℕ) (p : Weighed) → p ≡ answer T (terms T Γ t) → p ≡ Refused k → terms T Γ t ≡ refused k
 no-term T Γ t k p e h = weighed-out (declared T) (callee T) (terms T Γ t) k (sym h ∙ e)

@@ -6,7 +6,6 @@ use mathlib.Core.Path.{_≡_, refl, sym, ap, _∙_}
 use mathlib.Core.List.{List, _∷_}
 use lib.ListN.{length, drop, getD, length-drop, drop-of-length-le}
 use lib.Seq.{drop-cons}
-use Rattle.eb3.specs.Limits.{edition-1}
 use Rattle.eb3.specs.RuleSets.{RuleTerm, rule-star, RuleSet}
 use Rattle.eb3.specs.Measures.{sat, Measure, star-of, measure-term}
 use Rattle.eb3.specs.Reading.{Read, refused, taken, giving}
@@ -32,14 +31,14 @@ pub no-star : (s : List ℕ) → Stars s 0
 unfolding starred
 no-star s = record { within = omega arith; reads = λ R Γ. refl }
 
-one-star : (R : RuleSet) (Γ : List ℕ) (w : ℕ) (t : List ℕ) → w ≡ 24 → read-rule-term edition-1 R Γ (w ∷ t) ≡ giving rule-star (read-rule-term edition-1 R Γ t)
-one-star R Γ w t e = term-case edition-1 R Γ (w ∷ t) RuleKind.star (λ z. omega arith) (ap (rule-kind edition-1 Γ) e)
+one-star : (R : RuleSet) (Γ : List ℕ) (w : ℕ) (t : List ℕ) → w ≡ 24 → read-rule-term R Γ (w ∷ t) ≡ giving rule-star (read-rule-term R Γ t)
+one-star R Γ w t e = term-case R Γ (w ∷ t) RuleKind.star (λ z. omega arith) (ap (rule-kind Γ) e)
 
 pub next-star : (s : List ℕ) (i : ℕ) → Stars s i → i < length s → getD s i 0 ≡ 24 → Stars s (i + 1)
 next-star s i c l e = record {
   within = omega arith;
-  reads = λ R Γ. c .reads R Γ ∙ ap (λ u. starred i (read-rule-term edition-1 R Γ u)) (drop-cons s i 0 l) ∙ ap (starred i) (one-star R Γ (getD s i 0) (drop (suc i) s) e) ∙ one-inside i _
-      ∙ ap (λ k. starred k (read-rule-term edition-1 R Γ (drop k s))) (sym (add-one i));
+  reads = λ R Γ. c .reads R Γ ∙ ap (λ u. starred i (read-rule-term R Γ u)) (drop-cons s i 0 l) ∙ ap (starred i) (one-star R Γ (getD s i 0) (drop (suc i) s) e) ∙ one-inside i _
+      ∙ ap (λ k. starred k (read-rule-term R Γ (drop k s))) (sym (add-one i));
 }
 
 pub stars-stop : (s : List ℕ) (i : ℕ) → Stars s i → i < length s → (getD s i 0 ≡ 24 → ⊥) → Stars s i × (getD (drop i s) 0 0 ≡ 24 → ⊥)

@@ -6,7 +6,6 @@ use native.Mathlib.Nat.{le-refl, le-trans, le-of-suc-le-suc, not-suc-le-zero}
 use mathlib.Core.Path.{_≡_, refl, ap, _∙_}
 use mathlib.Core.List.{List, [], _∷_, _++_}
 use lib.ListN.{length, drop, getD}
-use Rattle.eb3.specs.Limits.{Limits}
 use Rattle.eb3.specs.Scopes.{guard-scope}
 use Rattle.eb3.specs.RuleSets.{Argument, RuleTerm, rule-perform, rule-star, rule-parallel, rule-guard, choice-over, parallel-over, call, RuleSet, label, process, attributes}
 use Rattle.eb3.specs.Reading.{Reader, giving, both, by-number}
@@ -51,22 +50,22 @@ module _ (R : RuleSet) (e : List ℕ → Reader RuleTerm) (d : (Γ : List ℕ) �
   by-ends RuleKind.star t = giving-fine rule-star t (e Γ t) (d Γ t)
   by-ends RuleKind.parallel t = giving-fine (λ p. rule-parallel (p .0) (p .1 .0) (p .1 .1)) t (both (rule-mask-of R) (both (e Γ) (e Γ)) t) (both-ends (rule-mask-of R) (both (e Γ) (e Γ)) (rule-mask-ends R) (both-ends (e Γ) (e Γ) (d Γ) (d Γ)) t)
   by-ends RuleKind.guard t =
-      let C : Reader _ = read-cond (R .width) (guard-scope (attributes R) (length Γ)) in
-      giving-fine (λ p. rule-guard (p .0) (p .1)) t (both C (e Γ) t) (both-ends C (e Γ) (cond-ends (R .width) (guard-scope (attributes R) (length Γ))) (d Γ) t)
+      let C : Reader _ = read-cond (R .edition .width) (guard-scope (attributes R) (length Γ)) in
+      giving-fine (λ p. rule-guard (p .0) (p .1)) t (both C (e Γ) t) (both-ends C (e Γ) (cond-ends (R .edition .width) (guard-scope (attributes R) (length Γ))) (d Γ) t)
   by-ends RuleKind.choice-quantifier t = choice-over-ends t
   by-ends RuleKind.parallel-quantifier t = parallel-over-ends t
   by-ends RuleKind.process-call t = call-ends R Γ t
   by-ends RuleKind.wrong t = tt
 
-terms-end : (L : Limits) (R : RuleSet) (n : ℕ) (Γ : List ℕ) → Ends (rule-terms L R n Γ)
+terms-end : (R : RuleSet) (n : ℕ) (Γ : List ℕ) → Ends (rule-terms R n Γ)
 unfolding rule-terms
-terms-end L R zero Γ s = tt
-terms-end L R (suc n) Γ [] = tt
-terms-end L R (suc n) Γ (w ∷ t) = step-fine w t (rule-by R (rule-terms L R n) Γ (rule-kind L Γ w) t) (by-ends R (rule-terms L R n) (terms-end L R n) Γ (rule-kind L Γ w) t)
+terms-end R zero Γ s = tt
+terms-end R (suc n) Γ [] = tt
+terms-end R (suc n) Γ (w ∷ t) = step-fine w t (rule-by R (rule-terms R n) Γ (rule-kind Γ w) t) (by-ends R (rule-terms R n) (terms-end R n) Γ (rule-kind Γ w) t)
 
-pub term-ends : (L : Limits) (R : RuleSet) (Γ : List ℕ) → Ends (read-rule-term L R Γ)
+pub term-ends : (R : RuleSet) (Γ : List ℕ) → Ends (read-rule-term R Γ)
 unfolding read-rule-term
-term-ends L R Γ s = terms-end L R (length s) Γ s
+term-ends R Γ s = terms-end R (length s) Γ s
 
 -- ── agreement ──
 
@@ -87,15 +86,15 @@ module _ (R : RuleSet) (e f : List ℕ → Reader RuleTerm) (d : (Γ : List ℕ)
   by-same RuleKind.parallel = ap (giving _) (masked-same (both (e Γ) (e Γ)) (both (f Γ) (f Γ)) two-same t (le-refl (length t)))
   by-same RuleKind.guard =
       let P = guard-scope (attributes R) (length Γ) in
-      ap (giving _) (both-same t (read-cond (R .width) P) (read-cond (R .width) P) (e Γ) (f Γ) (cond-ends (R .width) P) (λ r le. refl) (h Γ) t (le-refl (length t)))
+      ap (giving _) (both-same t (read-cond (R .edition .width) P) (read-cond (R .edition .width) P) (e Γ) (f Γ) (cond-ends (R .edition .width) P) (λ r le. refl) (h Γ) t (le-refl (length t)))
   by-same RuleKind.choice-quantifier = by-number-same t 5 (length (R .domains)) _ _ (λ l r le. ap (giving (choice-over l)) (h (Γ ++ (l ∷ [])) r le)) t (le-refl (length t))
   by-same RuleKind.parallel-quantifier =
       by-number-same t 5 (length (R .domains)) _ _ (λ l r le. ap (giving (λ p. parallel-over l (p .0) (p .1))) (masked-same (e (Γ ++ (l ∷ []))) (f (Γ ++ (l ∷ []))) (h (Γ ++ (l ∷ []))) r le)) t (le-refl (length t))
   by-same RuleKind.process-call = refl
   by-same RuleKind.wrong = refl
 
-module _ (L : Limits) (R : RuleSet) where
-  enough : (n m : ℕ) (Γ s : List ℕ) → length s ≤ n → length s ≤ m → rule-terms L R n Γ s ≡ rule-terms L R m Γ s
+module _ (R : RuleSet) where
+  enough : (n m : ℕ) (Γ s : List ℕ) → length s ≤ n → length s ≤ m → rule-terms R n Γ s ≡ rule-terms R m Γ s
   unfolding rule-terms
   enough zero zero Γ [] p q = refl
   enough zero (suc m) Γ [] p q = refl
@@ -104,15 +103,15 @@ module _ (L : Limits) (R : RuleSet) where
   enough zero m Γ (w ∷ t) p q = absurd (not-suc-le-zero p)
   enough (suc n) zero Γ (w ∷ t) p q = absurd (not-suc-le-zero q)
   enough (suc n) (suc m) Γ (w ∷ t) p q =
-      by-same R (rule-terms L R n) (rule-terms L R m) (terms-end L R n) Γ t (λ Δ r le. enough n m Δ r (le-trans le (le-of-suc-le-suc p)) (le-trans le (le-of-suc-le-suc q))) (rule-kind L Γ w)
+      by-same R (rule-terms R n) (rule-terms R m) (terms-end R n) Γ t (λ Δ r le. enough n m Δ r (le-trans le (le-of-suc-le-suc p)) (le-trans le (le-of-suc-le-suc q))) (rule-kind Γ w)
 
-  to-whole : (t Γ : List ℕ) → Same t (rule-terms L R (length t) Γ) (read-rule-term L R Γ)
+  to-whole : (t Γ : List ℕ) → Same t (rule-terms R (length t) Γ) (read-rule-term R Γ)
   unfolding read-rule-term
   to-whole t Γ r le = enough (length t) (length r) Γ r le (le-refl (length r))
 
   -- What a code in front says of the whole.
-  pub term-case : (Γ s : List ℕ) (k : RuleKind) → (length s ≡ 0 → ⊥) → rule-kind L Γ (getD s 0 0) ≡ k → read-rule-term L R Γ s ≡ rule-by R (read-rule-term L R) Γ k (drop 1 s)
+  pub term-case : (Γ s : List ℕ) (k : RuleKind) → (length s ≡ 0 → ⊥) → rule-kind Γ (getD s 0 0) ≡ k → read-rule-term R Γ s ≡ rule-by R (read-rule-term R) Γ k (drop 1 s)
   unfolding read-rule-term rule-terms
   term-case Γ [] k h e = absurd (h refl)
   term-case Γ (w ∷ t) k h e =
-      by-same R (rule-terms L R (length t)) (read-rule-term L R) (terms-end L R (length t)) Γ t (to-whole t) (rule-kind L Γ w) ∙ ap (λ j. rule-by R (read-rule-term L R) Γ j t) e
+      by-same R (rule-terms R (length t)) (read-rule-term R) (terms-end R (length t)) Γ t (to-whole t) (rule-kind Γ w) ∙ ap (λ j. rule-by R (read-rule-term R) Γ j t) e

@@ -4,7 +4,6 @@ use Prim.Native.Nat.{ℕ, zero, suc, _≤_}
 use mathlib.Core.Path.{_≡_}
 use mathlib.Core.List.{List}
 use lib.ListN.{length, drop}
-use Rattle.eb3.specs.Limits.{edition-1}
 use Rattle.eb3.specs.RuleSets.{RuleTerm, rule-star, RuleSet}
 use Rattle.eb3.specs.Reading.{Read, giving}
 use Rattle.eb3.specs.RuleReading.{read-rule-term}
@@ -17,4 +16,4 @@ starred (suc n) r = giving rule-star (starred n r)
 -- The first k words are stars: whatever the rule set and the variables, the whole is k stars around what stands behind.
 pub record Stars (s : List ℕ) (k : ℕ) : Type 0 where
   pub within : k ≤ length s
-  pub reads : (R : RuleSet) (Γ : List ℕ) → read-rule-term edition-1 R Γ s ≡ starred k (read-rule-term edition-1 R Γ (drop k s))
+  pub reads : (R : RuleSet) (Γ : List ℕ) → read-rule-term R Γ s ≡ starred k (read-rule-term R Γ (drop k s))

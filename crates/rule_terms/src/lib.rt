@@ -4,7 +4,6 @@ ghost use mathlib.Core.Path.{_≡_};
 ghost use mathlib.Core.Bool.{Bool};
 ghost use Prim.Native.Nat.{_+_, _-_, _≤_, _<_};
 ghost use lib.ListN.{drop, take, getD, length};
-ghost use Rattle.eb3.specs.Limits.{edition-1};
 ghost use Rattle.eb3.specs.RuleSets.{rule-sequence, rule-choice, attributes};
 ghost use Rattle.eb3.specs.Scopes.{guard-scope};
 ghost use Rattle.eb3.specs.Reading.{both};
@@ -109,7 +108,7 @@ fn call(t: &[u16], tb: &[u32], vars: &[u16]) -> Weighed
 // the answer) has its place only while this runs, so that the calls of all arms share one place.
 fn operand(t: &[u16], tb: &[u32], vars: &[u16]) -> Weighed
     requires { ⌜ (length (now vars) ≤ 8) × (length (now t) ≤ 65535) ⌝ }
-    ensures { λ r. ⌜ r ≡ weighed (declared (now (tb .entry))) (callee (now (tb .entry))) (read-rule-term edition-1 (declared (now (tb .entry))) (now (vars .entry)) (now (t .entry))) ⌝ }
+    ensures { λ r. ⌜ r ≡ weighed (declared (now (tb .entry))) (callee (now (tb .entry))) (read-rule-term (declared (now (tb .entry))) (now (vars .entry)) (now (t .entry))) ⌝ }
 {
     check_term(t, tb, vars)
 }
@@ -117,7 +116,7 @@ fn operand(t: &[u16], tb: &[u32], vars: &[u16]) -> Weighed
 // Two terms in a row.
 fn in_sequence(t: &[u16], tb: &[u32], vars: &[u16]) -> Weighed
     requires { ⌜ (length (now vars) ≤ 8) × (length (now t) ≤ 65535) ⌝ }
-    ensures { λ r. ⌜ r ≡ weighed (declared (now (tb .entry))) (callee (now (tb .entry))) (rule-by (declared (now (tb .entry))) (read-rule-term edition-1 (declared (now (tb .entry)))) (now (vars .entry)) (RuleKind.pair rule-sequence) (now (t .entry))) ⌝ }
+    ensures { λ r. ⌜ r ≡ weighed (declared (now (tb .entry))) (callee (now (tb .entry))) (rule-by (declared (now (tb .entry))) (read-rule-term (declared (now (tb .entry)))) (now (vars .entry)) (RuleKind.pair rule-sequence) (now (t .entry))) ⌝ }
 {
     match operand(t, tb, vars) {
         Weighed::Found(n, a) => match operand(last(t, n), tb, vars) {
@@ -130,7 +129,7 @@ fn in_sequence(t: &[u16], tb: &[u32], vars: &[u16]) -> Weighed
 
 fn in_choice(t: &[u16], tb: &[u32], vars: &[u16]) -> Weighed
     requires { ⌜ (length (now vars) ≤ 8) × (length (now t) ≤ 65535) ⌝ }
-    ensures { λ r. ⌜ r ≡ weighed (declared (now (tb .entry))) (callee (now (tb .entry))) (rule-by (declared (now (tb .entry))) (read-rule-term edition-1 (declared (now (tb .entry)))) (now (vars .entry)) (RuleKind.pair rule-choice) (now (t .entry))) ⌝ }
+    ensures { λ r. ⌜ r ≡ weighed (declared (now (tb .entry))) (callee (now (tb .entry))) (rule-by (declared (now (tb .entry))) (read-rule-term (declared (now (tb .entry)))) (now (vars .entry)) (RuleKind.pair rule-choice) (now (t .entry))) ⌝ }
 {
     match operand(t, tb, vars) {
         Weighed::Found(n, a) => match operand(last(t, n), tb, vars) {
@@ -144,7 +143,7 @@ fn in_choice(t: &[u16], tb: &[u32], vars: &[u16]) -> Weighed
 // The two sides of a parallel whose mask is zero, or is not.
 fn sides(t: &[u16], tb: &[u32], vars: &[u16], zero: bool) -> Weighed
     requires { ⌜ (length (now vars) ≤ 8) × (length (now t) ≤ 65535) ⌝ }
-    ensures { λ r. ⌜ r ≡ weighed-sides (declared (now (tb .entry))) (callee (now (tb .entry))) zero (both (read-rule-term edition-1 (declared (now (tb .entry))) (now (vars .entry))) (read-rule-term edition-1 (declared (now (tb .entry))) (now (vars .entry))) (now (t .entry))) ⌝ }
+    ensures { λ r. ⌜ r ≡ weighed-sides (declared (now (tb .entry))) (callee (now (tb .entry))) zero (both (read-rule-term (declared (now (tb .entry))) (now (vars .entry))) (read-rule-term (declared (now (tb .entry))) (now (vars .entry))) (now (t .entry))) ⌝ }
 {
     match operand(t, tb, vars) {
         Weighed::Found(n, a) => match operand(last(t, n), tb, vars) {
@@ -158,7 +157,7 @@ fn sides(t: &[u16], tb: &[u32], vars: &[u16], zero: bool) -> Weighed
 // A mask and two terms.
 fn in_parallel(t: &[u16], tb: &[u32], vars: &[u16]) -> Weighed
     requires { ⌜ (length (now vars) ≤ 8) × (length (now t) ≤ 65535) ⌝ }
-    ensures { λ r. ⌜ r ≡ weighed (declared (now (tb .entry))) (callee (now (tb .entry))) (rule-by (declared (now (tb .entry))) (read-rule-term edition-1 (declared (now (tb .entry)))) (now (vars .entry)) RuleKind.parallel (now (t .entry))) ⌝ }
+    ensures { λ r. ⌜ r ≡ weighed (declared (now (tb .entry))) (callee (now (tb .entry))) (rule-by (declared (now (tb .entry))) (read-rule-term (declared (now (tb .entry)))) (now (vars .entry)) RuleKind.parallel (now (t .entry))) ⌝ }
 {
     match check_mask(t, 4, labels(tb)) {
         Checked::Left(n) => sides(last(t, n), tb, vars, mask_zero(t)),
@@ -182,7 +181,7 @@ fn condition(t: &[u16], tb: &[u32], vars: &[u16]) -> Checked
 // A condition, whose size is the words that it took, and a term.
 fn guarded(t: &[u16], tb: &[u32], vars: &[u16]) -> Weighed
     requires { ⌜ (length (now vars) ≤ 8) × (length (now t) ≤ 65535) ⌝ }
-    ensures { λ r. ⌜ r ≡ weighed (declared (now (tb .entry))) (callee (now (tb .entry))) (rule-by (declared (now (tb .entry))) (read-rule-term edition-1 (declared (now (tb .entry)))) (now (vars .entry)) RuleKind.guard (now (t .entry))) ⌝ }
+    ensures { λ r. ⌜ r ≡ weighed (declared (now (tb .entry))) (callee (now (tb .entry))) (rule-by (declared (now (tb .entry))) (read-rule-term (declared (now (tb .entry)))) (now (vars .entry)) RuleKind.guard (now (t .entry))) ⌝ }
 {
     match condition(t, tb, vars) {
         Checked::Left(n) => match operand(last(t, n), tb, vars) {
@@ -226,7 +225,7 @@ fn copied(masked: bool, n: usize, zero: bool, a: Weight) -> Weight
 // A mask where there is one, and a term, of which there are n copies.
 fn copies(t: &[u16], tb: &[u32], vars: &[u16], n: usize, masked: bool) -> Weighed
     requires { ⌜ (length (now vars) ≤ 8) × (length (now t) ≤ 65535) ⌝ }
-    ensures { λ r. ⌜ r ≡ weighed-copies (declared (now (tb .entry))) (callee (now (tb .entry))) masked n (both (mask-if masked (declared (now (tb .entry)))) (read-rule-term edition-1 (declared (now (tb .entry))) (now (vars .entry))) (now (t .entry))) ⌝ }
+    ensures { λ r. ⌜ r ≡ weighed-copies (declared (now (tb .entry))) (callee (now (tb .entry))) masked n (both (mask-if masked (declared (now (tb .entry)))) (read-rule-term (declared (now (tb .entry))) (now (vars .entry))) (now (t .entry))) ⌝ }
 {
     match mask_if(masked, t, tb) {
         Checked::Left(m) => match operand(last(t, m), tb, vars) {
@@ -240,7 +239,7 @@ fn copies(t: &[u16], tb: &[u32], vars: &[u16], n: usize, masked: bool) -> Weighe
 // A domain, and copies of a term with one variable more.
 fn quantified(t: &[u16], tb: &[u32], vars: &[u16], masked: bool) -> Weighed
     requires { ⌜ (length (now vars) < 8) × (length (now t) ≤ 65535) ⌝ }
-    ensures { λ r. ⌜ r ≡ weighed (declared (now (tb .entry))) (callee (now (tb .entry))) (rule-by (declared (now (tb .entry))) (read-rule-term edition-1 (declared (now (tb .entry)))) (now (vars .entry)) (quantifier masked) (now (t .entry))) ⌝ }
+    ensures { λ r. ⌜ r ≡ weighed (declared (now (tb .entry))) (callee (now (tb .entry))) (rule-by (declared (now (tb .entry))) (read-rule-term (declared (now (tb .entry)))) (now (vars .entry)) (quantifier masked) (now (t .entry))) ⌝ }
 {
     match number(t, 5, domains(tb)) {
         Checked::Left(n) => {
@@ -256,14 +255,14 @@ fn quantified(t: &[u16], tb: &[u32], vars: &[u16], masked: bool) -> Weighed
 // nothing of `check_term`'s.
 fn over(t: &[u16], tb: &[u32], vars: &[u16]) -> Weighed
     requires { ⌜ (length (now vars) < 8) × (length (now t) ≤ 65535) ⌝ }
-    ensures { λ r. ⌜ r ≡ weighed (declared (now (tb .entry))) (callee (now (tb .entry))) (rule-by (declared (now (tb .entry))) (read-rule-term edition-1 (declared (now (tb .entry)))) (now (vars .entry)) RuleKind.choice-quantifier (now (t .entry))) ⌝ }
+    ensures { λ r. ⌜ r ≡ weighed (declared (now (tb .entry))) (callee (now (tb .entry))) (rule-by (declared (now (tb .entry))) (read-rule-term (declared (now (tb .entry)))) (now (vars .entry)) RuleKind.choice-quantifier (now (t .entry))) ⌝ }
 {
     quantified(t, tb, vars, false)
 }
 
 fn many(t: &[u16], tb: &[u32], vars: &[u16]) -> Weighed
     requires { ⌜ (length (now vars) < 8) × (length (now t) ≤ 65535) ⌝ }
-    ensures { λ r. ⌜ r ≡ weighed (declared (now (tb .entry))) (callee (now (tb .entry))) (rule-by (declared (now (tb .entry))) (read-rule-term edition-1 (declared (now (tb .entry)))) (now (vars .entry)) RuleKind.parallel-quantifier (now (t .entry))) ⌝ }
+    ensures { λ r. ⌜ r ≡ weighed (declared (now (tb .entry))) (callee (now (tb .entry))) (rule-by (declared (now (tb .entry))) (read-rule-term (declared (now (tb .entry)))) (now (vars .entry)) RuleKind.parallel-quantifier (now (t .entry))) ⌝ }
 {
     quantified(t, tb, vars, true)
 }
@@ -295,7 +294,7 @@ fn beyond(s: &[u16], k: usize) -> &[u16]
 // A term that is no star.
 fn check_plain(s: &[u16], tb: &[u32], vars: &[u16]) -> Weighed
     requires { ⌜ (length (now vars) ≤ 8) × (length (now s) ≤ 65535) × (getD (now s) 0 0 ≡ 24 → ⊥) ⌝ }
-    ensures { λ r. ⌜ r ≡ weighed (declared (now (tb .entry))) (callee (now (tb .entry))) (read-rule-term edition-1 (declared (now (tb .entry))) (now (vars .entry)) (now (s .entry))) ⌝ }
+    ensures { λ r. ⌜ r ≡ weighed (declared (now (tb .entry))) (callee (now (tb .entry))) (read-rule-term (declared (now (tb .entry))) (now (vars .entry)) (now (s .entry))) ⌝ }
 {
     if s.len() == 0 {
         return Weighed::Refused(4);
@@ -329,7 +328,7 @@ fn check_plain(s: &[u16], tb: &[u32], vars: &[u16]) -> Weighed
 // One term, where the domains of the variables in scope are given. Stars in a row are counted and not descended into.
 pub fn check_term(s: &[u16], tb: &[u32], vars: &[u16]) -> Weighed
     requires { ⌜ (length (now vars) ≤ 8) × (length (now s) ≤ 65535) ⌝ }
-    ensures { λ r. ⌜ r ≡ weighed (declared (now (tb .entry))) (callee (now (tb .entry))) (read-rule-term edition-1 (declared (now (tb .entry))) (now (vars .entry)) (now (s .entry))) ⌝ }
+    ensures { λ r. ⌜ r ≡ weighed (declared (now (tb .entry))) (callee (now (tb .entry))) (read-rule-term (declared (now (tb .entry))) (now (vars .entry)) (now (s .entry))) ⌝ }
 {
     let k = stars_in(s);
     match check_plain(beyond(s, k), tb, vars) {

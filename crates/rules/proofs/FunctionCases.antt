@@ -5,7 +5,7 @@ use Prim.Native.Nat.{ℕ, zero, suc, _+_, _*_, _≤_, _<_}
 use native.Mathlib.Omega.{arith}
 use lib.ListN.{length, getD, set, replicate, length-set}
 use lib.Seq.{getD-set-same}
-use Rattle.eb3.specs.Limits.{edition-1}
+use Rattle.eb3.specs.Editions.{edition-1}
 use Rattle.eb3.specs.RuleSets.{Function, RuleSet}
 use Rattle.eb3.specs.Measures.{sat, measure-main}
 use Rattle.eb3.specs.Reading.{Read, refused, taken, Reader, then, count-of, series}
@@ -53,10 +53,10 @@ unfolding then
 then-kept R (refused k) g h = tt
 then-kept R (taken a u) g h = h a u
 
-processes-kept : (n : ℕ) (R Q : RuleSet) → Same R Q → (t : List ℕ) → Kept R (read-processes edition-1 n Q t)
+processes-kept : (n : ℕ) (R Q : RuleSet) → Same R Q → (t : List ℕ) → Kept R (read-processes n Q t)
 unfolding read-processes
 processes-kept zero R Q s t = s
-processes-kept (suc n) R Q s t = then-kept R (read-process edition-1 Q (parameter-limit edition-1 n) t) _ (λ P u. processes-kept n R (with-process Q P) s u)
+processes-kept (suc n) R Q s t = then-kept R (read-process Q (parameter-limit n) t) _ (λ P u. processes-kept n R (with-process Q P) s u)
 
 section-kept : (ds : List ℕ) (ls : List (List ℕ)) (fs : List Function) (t : List ℕ) → Kept (without-processes edition-1 ds ls fs) (process-section ds ls fs t)
 unfolding process-section
@@ -79,7 +79,7 @@ pub ruleset joining = (joined-found, joined-refused)
 
 functions-by : (D : ℕ) (ls : List (List ℕ)) (t u : List ℕ) (n : ℕ) → count-of 0 16 t ≡ taken n u → read-functions edition-1 D ls t ≡ series n 0 (read-function edition-1 D ls (replicate n 1)) u
 unfolding read-functions read-parameter-counts then
-functions-by D ls t u n e = ap (λ r. then r λ n u. then (read-parameter-counts n u) λ counts. series n 0 (read-function edition-1 D ls counts)) e
+functions-by D ls t u n e = ap (λ r. then r λ n u. then (read-parameter-counts edition-1 n u) λ counts. series n 0 (read-function edition-1 D ls counts)) e
 
 rows-same : (ds ds′ : List ℕ) (ls ls′ : List (List ℕ)) (Fs Fs′ : List Function) (t D : List ℕ) → ds′ ≡ ds → ls′ ≡ ls → Fs′ ≡ Fs
     → FunctionRows ds t D (row-width (length ls)) 0 0 Fs → FunctionRows ds′ t D (row-width (length ls′)) 0 0 Fs′

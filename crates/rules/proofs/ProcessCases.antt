@@ -6,7 +6,6 @@ use native.Mathlib.Numerals.{sub-one}
 use native.Mathlib.Omega.{arith}
 use lib.ListN.{length, getD, take, drop, set, length-take, length-set}
 use lib.Seq.{paste, take-length, length-take-le, getD-set-same}
-use Rattle.eb3.specs.Limits.{edition-1}
 use Rattle.eb3.specs.RuleSets.{RuleTerm, Process, RuleSet}
 use Rattle.eb3.specs.Measures.{Measure}
 use Rattle.eb3.specs.Reading.{Read, refused, taken, giving, then, counted, number-of}
@@ -30,7 +29,7 @@ use Rattle.rules.specs.Sections.{process-weighed, main-weighed}
 use Rattle.rules.specs.Filling.{ProcessesRead}
 use Rattle.rules.specs.SectionLaws.{processes-refused, process-row-front, last-answers, last-placed, next-answers, next-placed}
 
-pub limit-more : (n : ℕ) → (n ≡ 0 → ⊥) → 4 ≡ parameter-limit edition-1 n
+pub limit-more : (n : ℕ) → (n ≡ 0 → ⊥) → 4 ≡ parameter-limit n
 limit-more zero z = absurd (z refl)
 limit-more (suc n) z = refl
 
@@ -43,7 +42,7 @@ giving-weighed R M ds (taken E t) = refl
 
 module _ (T t : List ℕ) (hi d x : ℕ) (p : Checked) (e : p ≡ checked (counted 0 hi (number-of 5 d) t)) (f : d ≡ x) (g : x ≡ getD T 0 0) where
   abbrev after : List ℕ → List ℕ → Read Process
-  after ds u = giving (λ E. record { parameters = ds; term = E }) (read-rule-term edition-1 (declared T) ds u)
+  after ds u = giving (λ E. record { parameters = ds; term = E }) (read-rule-term (declared T) ds u)
 
   by-tables : d ≡ length (declared T .domains)
   by-tables = f ∙ g ∙ sym (domains-length T)
@@ -55,17 +54,17 @@ module _ (T t : List ℕ) (hi d x : ℕ) (p : Checked) (e : p ≡ checked (count
     pub row-ends : (k + 1 ≤ length t) × (k ≤ hi)
     row-ends = (omega (arith, i, there m h .room), omega (arith, i, there m h .small))
 
-    pub process-in : (s : List ℕ) (q : Weighed) → s ≡ last-of m t → q ≡ weighed (declared T) (callee T) (read-rule-term edition-1 (declared T) (take (k + 1 - 1) (drop 1 t)) s)
-        → q ≡ process-weighed (declared T) (callee T) (read-process edition-1 (declared T) hi t)
+    pub process-in : (s : List ℕ) (q : Weighed) → s ≡ last-of m t → q ≡ weighed (declared T) (callee T) (read-rule-term (declared T) (take (k + 1 - 1) (drop 1 t)) s)
+        → q ≡ process-weighed (declared T) (callee T) (read-process (declared T) hi t)
     unfolding read-process then row
     process-in s q l w =
         let o : k + 1 - 1 ≡ getD t 0 0 = omega (arith, i) in
-        w ∙ (λ j. weighed (declared T) (callee T) (read-rule-term edition-1 (declared T) (take (o j) (drop 1 t)) (l j)))
-        ∙ giving-weighed (declared T) (callee T) (row t 0) (read-rule-term edition-1 (declared T) (row t 0) (last-of m t))
+        w ∙ (λ j. weighed (declared T) (callee T) (read-rule-term (declared T) (take (o j) (drop 1 t)) (l j)))
+        ∙ giving-weighed (declared T) (callee T) (row t 0) (read-rule-term (declared T) (row t 0) (last-of m t))
         ∙ ap (λ r. process-weighed (declared T) (callee T) (then r after)) (sym (there m h .is))
         ∙ ap (λ n. process-weighed (declared T) (callee T) (then (counted 0 hi (number-of 5 n) t) after)) by-tables
 
-  pub process-out : (k : ℕ) → p ≡ Checked·refused k → Refused k ≡ process-weighed (declared T) (callee T) (read-process edition-1 (declared T) hi t)
+  pub process-out : (k : ℕ) → p ≡ Checked·refused k → Refused k ≡ process-weighed (declared T) (callee T) (read-process (declared T) hi t)
   unfolding read-process then process-weighed checked
   process-out k h = go (counted 0 hi (number-of 5 d) t) (sym h ∙ e) ∙ ap (λ n. process-weighed (declared T) (callee T) (then (counted 0 hi (number-of 5 n) t) after)) by-tables
     where
@@ -121,18 +120,18 @@ unread r k Q u e f =
     let z : _≡_ {A = ℕ} 0 1 = cc in
     omega arith
 
-module _ (T t : List ℕ) (hi : ℕ) (q : Weighed) (e : q ≡ process-weighed (declared T) (callee T) (read-process edition-1 (declared T) hi t)) where
-  pub all-refused : (n k : ℕ) → 1 ≤ n → hi ≡ parameter-limit edition-1 (n - 1) → q ≡ Refused k → ProcessesRead t T n (Refused k) T
+module _ (T t : List ℕ) (hi : ℕ) (q : Weighed) (e : q ≡ process-weighed (declared T) (callee T) (read-process (declared T) hi t)) where
+  pub all-refused : (n k : ℕ) → 1 ≤ n → hi ≡ parameter-limit (n - 1) → q ≡ Refused k → ProcessesRead t T n (Refused k) T
   all-refused zero k l h f = absurd (let z : ⊥ = omega arith in z)
   all-refused (suc n) k l h f =
-      let z : hi ≡ parameter-limit edition-1 n = h ∙ ap (parameter-limit edition-1) (sub-one (suc n)) in
-      let a : (R : RuleSet) → Declares T R → Refused k ≡ main-weighed (read-processes edition-1 (suc n) R t) =
-      processes-refused T t n k (sym f ∙ e ∙ ap (λ j. process-weighed (declared T) (callee T) (read-process edition-1 (declared T) j t)) z) in
-      record { answer = λ R d narrow. a R d; same-length = refl; placed = λ whole R Q u tl p narrow g. absurd (unread (read-processes edition-1 (suc n) R t) k Q u (a R (p .declares)) g) }
+      let z : hi ≡ parameter-limit n = h ∙ ap parameter-limit (sub-one (suc n)) in
+      let a : (R : RuleSet) → Declares T R → Refused k ≡ main-weighed (read-processes (suc n) R t) =
+      processes-refused T t n k (sym f ∙ e ∙ ap (λ j. process-weighed (declared T) (callee T) (read-process (declared T) j t)) z) in
+      record { answer = λ R d narrow. a R d; same-length = refl; placed = λ whole R Q u tl p narrow g. absurd (unread (read-processes (suc n) R t) k Q u (a R (p .declares)) g) }
 
-  module _ (n m : ℕ) (w : Weight) (h : hi ≡ parameter-limit edition-1 n) (f : q ≡ Found m w) where
-    was : Found m w ≡ process-weighed (declared T) (callee T) (read-process edition-1 (declared T) (parameter-limit edition-1 n) t)
-    was = sym f ∙ e ∙ ap (λ j. process-weighed (declared T) (callee T) (read-process edition-1 (declared T) j t)) h
+  module _ (n m : ℕ) (w : Weight) (h : hi ≡ parameter-limit n) (f : q ≡ Found m w) where
+    was : Found m w ≡ process-weighed (declared T) (callee T) (read-process (declared T) (parameter-limit n) t)
+    was = sym f ∙ e ∙ ap (λ j. process-weighed (declared T) (callee T) (read-process (declared T) j t)) h
 
     pub all-front : hi ≤ 4 → (getD t 0 0 ≤ 4) × (getD t 0 0 + 1 ≤ length t)
     all-front l =
@@ -163,16 +162,16 @@ module _ (T t : List ℕ) (hi : ℕ) (q : Weighed) (e : q ≡ process-weighed (d
             (λ P S y z k. next .placed whole P S u (tail-on r t whole tl (subst (λ y. Tail y t) (sym rest) (last-tail m t))) y z k);
       }
 
-  pub all-last : (n m p x : ℕ) (w : Weight) (T′ : List ℕ) → n ≡ 1 → hi ≡ parameter-limit edition-1 (n - 1) → hi ≤ 4 → q ≡ Found m w → Bounded T → getD T 211 0 ≡ p → 212 + 9 * (n + p) ≤ length T → x ≡ getD t 0 0
+  pub all-last : (n m p x : ℕ) (w : Weight) (T′ : List ℕ) → n ≡ 1 → hi ≡ parameter-limit (n - 1) → hi ≤ 4 → q ≡ Found m w → Bounded T → getD T 211 0 ≡ p → 212 + 9 * (n + p) ≤ length T → x ≡ getD t 0 0
       → T′ ≡ entered-process T p (take (getD t 0 0 + 1) t) (w .size) (w .reach) (w .breadth) (length t - (x + 1)) → ProcessesRead t T n (Found m w) T′
   all-last n m p x w T′ o h small f b count room i en =
       let z : n - 1 ≡ 0 = omega arith in
-      subst (λ y. ProcessesRead t T y (Found m w) T′) (sym o) (one-last 0 m w (h ∙ ap (parameter-limit edition-1) z) f p x T′ small b count (omega arith) i en refl)
+      subst (λ y. ProcessesRead t T y (Found m w) T′) (sym o) (one-last 0 m w (h ∙ ap parameter-limit z) f p x T′ small b count (omega arith) i en refl)
 
-  pub all-next : (n m p x : ℕ) (w : Weight) (T′ r T″ : List ℕ) (v : Weighed) → 1 ≤ n → hi ≡ parameter-limit edition-1 (n - 1) → hi ≤ 4 → q ≡ Found m w → Bounded T → getD T 211 0 ≡ p → 212 + 9 * (n + p) ≤ length T → x ≡ getD t 0 0
+  pub all-next : (n m p x : ℕ) (w : Weight) (T′ r T″ : List ℕ) (v : Weighed) → 1 ≤ n → hi ≡ parameter-limit (n - 1) → hi ≤ 4 → q ≡ Found m w → Bounded T → getD T 211 0 ≡ p → 212 + 9 * (n + p) ≤ length T → x ≡ getD t 0 0
       → T′ ≡ entered-process T p (take (getD t 0 0 + 1) t) (w .size) (w .reach) (w .breadth) (length t - (x + 1)) → r ≡ last-of m t → ProcessesRead r T′ (n - 1) v T″ → ProcessesRead t T n v T″
   all-next zero m p x w T′ r T″ v l h small f b count room i en rest next = absurd (let z : ⊥ = omega arith in z)
   all-next (suc n) m p x w T′ r T″ v l h small f b count room i en rest next =
-      one-next n m w (h ∙ ap (parameter-limit edition-1) (sub-one (suc n))) f p x T′ small b count (omega arith) i en r T″ v rest (subst (λ y. ProcessesRead r T′ y v T″) (sub-one (suc n)) next)
+      one-next n m w (h ∙ ap parameter-limit (sub-one (suc n))) f p x T′ small b count (omega arith) i en r T″ v rest (subst (λ y. ProcessesRead r T′ y v T″) (sub-one (suc n)) next)
 
 pub ruleset processing = (process-in, process-out)

@@ -6,7 +6,7 @@ use native.Mathlib.Omega.{arith}
 use lib.ListN.{length, getD, set, length-set}
 use lib.Seq.{paste, length-paste, getD-set-same, getD-set-other}
 use Rattle.eb3.specs.Generic.AllLists.{All}
-use Rattle.eb3.specs.Limits.{edition-1}
+use Rattle.eb3.specs.Editions.{edition-1}
 use Rattle.eb3.specs.RuleSets.{Function, RuleSet}
 use Rattle.eb3.specs.RuleSpelling.{one-word}
 use Rattle.eb3.specs.Reading.{Read, refused, taken, Reader, then, count-of, number-of, repeat, counted}
@@ -66,9 +66,9 @@ module _ (T t : List ℕ) (p : Checked) (e : p ≡ checked (count-of 1 32 t)) wh
   section-in m n r T′ q room b h i l k =
       let start : (ds : List ℕ) (ls : List (List ℕ)) (fs : List Function) → Tables T ds ls fs → Declares (set T 211 0) (without-processes edition-1 ds ls fs) =
       λ ds ls fs z. processes-start T ds ls fs room (b .domains-few) (b .labels-few) (b .label-rows) z in
-      let same : (ds : List ℕ) (ls : List (List ℕ)) (fs : List Function) → process-section ds ls fs t ≡ read-processes edition-1 n (without-processes edition-1 ds ls fs) r =
-      λ ds ls fs. then-taken (count-of 1 32 t) (λ n. read-processes edition-1 n (without-processes edition-1 ds ls fs)) (getD t 0 0) (last-of m t) (count-word 1 32 m t (sym h ∙ e))
-      ∙ (λ j. read-processes edition-1 (sym i j) (without-processes edition-1 ds ls fs) (sym l j)) in
+      let same : (ds : List ℕ) (ls : List (List ℕ)) (fs : List Function) → process-section ds ls fs t ≡ read-processes n (without-processes edition-1 ds ls fs) r =
+      λ ds ls fs. then-taken (count-of 1 32 t) (λ n. read-processes n (without-processes edition-1 ds ls fs)) (getD t 0 0) (last-of m t) (count-word 1 32 m t (sym h ∙ e))
+      ∙ (λ j. read-processes (sym i j) (without-processes edition-1 ds ls fs) (sym l j)) in
       record {
         answer = λ ds ls fs z. k .answer (without-processes edition-1 ds ls fs) (start ds ls fs z) tt ∙ sym (ap main-weighed (same ds ls fs));
         same-length = k .same-length ∙ length-set T 211 0;
@@ -90,12 +90,12 @@ module _ (T t : List ℕ) (p : Checked) (e : p ≡ checked (count-of 1 64 t)) wh
   pub labels-none : (D : List ℕ) (k : ℕ) → p ≡ Checked·refused k → LabelSectionRead t T D (Rules·refused k) T D
   unfolding label-section counted
   labels-none D k h =
-      let r : (ds : List ℕ) → read-labels edition-1 (length ds) t ≡ refused k = λ ds. then-refused (count-of 1 64 t) _ k (checked-refused (count-of 1 64 t) k (sym h ∙ e)) in
+      let r : (ds : List ℕ) → read-labels (length ds) t ≡ refused k = λ ds. then-refused (count-of 1 64 t) _ k (checked-refused (count-of 1 64 t) k (sym h ∙ e)) in
       record {
-        answer = λ ds z. rules-out (read-labels edition-1 (length ds) t) _ k (r ds);
+        answer = λ ds z. rules-out (read-labels (length ds) t) _ k (r ds);
         same-tables = refl;
         same-directory = refl;
-        filled = λ ds z whole R u tl small g room. absurd (not-taken (label-section ds t) k R u (then-refused (read-labels edition-1 (length ds) t) _ k (r ds)) g);
+        filled = λ ds z whole R u tl small g room. absurd (not-taken (label-section ds t) k R u (then-refused (read-labels (length ds) t) _ k (r ds)) g);
       }
 
   module _ (m n x d y : ℕ) (s : length T ≡ 500) (few : getD T 0 0 ≤ 16) (h : p ≡ Left m) (i : n ≡ getD t 0 0) (f : x ≡ n) (fd : d ≡ y) (fy : y ≡ getD (set T 17 x) 0 0) where
@@ -103,14 +103,14 @@ module _ (T t : List ℕ) (p : Checked) (e : p ≡ checked (count-of 1 64 t)) wh
     labels-asks = omega (arith, count-between 1 64 m n t p e h i, length-set T 17 x)
 
     module _ (u : List ℕ) (l : u ≡ last-of m t) (r : Checked) (T′ : List ℕ) (entered : Entered u (set T 17 x) n 18 d r T′) where
-      labels-read-are : (ds : List ℕ) → declared T .domains ≡ ds → read-labels edition-1 (length ds) t ≡ repeat n (label-of d) u
+      labels-read-are : (ds : List ℕ) → declared T .domains ≡ ds → read-labels (length ds) t ≡ repeat n (label-of d) u
       unfolding counted
       labels-read-are ds z =
           let c : length ds ≡ d = sym (ap length z) ∙ domains-length T ∙ sym (getD-set-other T 17 0 x 0 (omega arith)) ∙ sym fy ∙ sym fd in
           then-taken (count-of 1 64 t) (λ n. repeat n (label-of (length ds))) (getD t 0 0) (last-of m t) (count-word 1 64 m t (sym h ∙ e))
           ∙ (λ j. repeat (sym i j) (label-of (c j)) (sym l j))
 
-      labels-refused : (k : ℕ) → r ≡ Checked·refused k → (ds : List ℕ) → declared T .domains ≡ ds → read-labels edition-1 (length ds) t ≡ refused k
+      labels-refused : (k : ℕ) → r ≡ Checked·refused k → (ds : List ℕ) → declared T .domains ≡ ds → read-labels (length ds) t ≡ refused k
       labels-refused k q ds z = labels-read-are ds z ∙ checked-refused (repeat n (label-of d) u) k (sym q ∙ entered .answer)
 
       module _ (j : ℕ) (q : r ≡ Left j) where
@@ -141,7 +141,7 @@ module _ (T t : List ℕ) (p : Checked) (e : p ≡ checked (count-of 1 64 t)) wh
 
         section-by : (v : List ℕ) → v ≡ last-of j u → (ds : List ℕ) → declared T .domains ≡ ds → label-section ds t ≡ function-section ds (labels-got .0) v
         unfolding label-section
-        section-by v o ds z = then-taken (read-labels edition-1 (length ds) t) (λ ls. function-section ds ls) (labels-got .0) (last-of j u) (labels-read-are ds z ∙ labels-got .1) ∙ ap (function-section ds (labels-got .0)) (sym o)
+        section-by v o ds z = then-taken (read-labels (length ds) t) (λ ls. function-section ds ls) (labels-got .0) (last-of j u) (labels-read-are ds z ∙ labels-got .1) ∙ ap (function-section ds (labels-got .0)) (sym o)
 
         labels-go : (v T″ D D′ : List ℕ) (w : Rules) → v ≡ last-of j u → FunctionSectionRead v T′ D w T″ D′ → LabelSectionRead t T D w T″ D′
         labels-go v T″ D D′ w o k = record {
@@ -155,10 +155,10 @@ module _ (T t : List ℕ) (p : Checked) (e : p ≡ checked (count-of 1 64 t)) wh
     pub labels-out : (u T′ D : List ℕ) (r : Checked) (k : ℕ) → u ≡ last-of m t → Entered u (set T 17 x) n 18 d r T′ → r ≡ Checked·refused k → LabelSectionRead t T D (Rules·refused k) T′ D
     unfolding label-section
     labels-out u T′ D r k l en q = record {
-      answer = λ ds z. rules-out (read-labels edition-1 (length ds) t) _ k (labels-refused u l r T′ en k q ds z);
+      answer = λ ds z. rules-out (read-labels (length ds) t) _ k (labels-refused u l r T′ en k q ds z);
       same-tables = en .same-length ∙ length-set T 17 x;
       same-directory = refl;
-      filled = λ ds z whole R c tl small g room. absurd (not-taken (label-section ds t) k R c (then-refused (read-labels edition-1 (length ds) t) _ k (labels-refused u l r T′ en k q ds z)) g);
+      filled = λ ds z whole R c tl small g room. absurd (not-taken (label-section ds t) k R c (then-refused (read-labels (length ds) t) _ k (labels-refused u l r T′ en k q ds z)) g);
     }
 
     pub labels-bounded : (u T′ : List ℕ) (r : Checked) (j : ℕ) → u ≡ last-of m t → Entered u (set T 17 x) n 18 d r T′ → r ≡ Left j → (length T′ ≡ 500) × Bounded T′
@@ -169,20 +169,20 @@ module _ (T t : List ℕ) (p : Checked) (e : p ≡ checked (count-of 1 64 t)) wh
 
 -- ── the whole ──
 
-module _ (T t : List ℕ) (p : Checked) (e : p ≡ checked (read-domains edition-1 t)) where
+module _ (T t : List ℕ) (p : Checked) (e : p ≡ checked (read-domains t)) where
   pub read-out : (D : List ℕ) (k : ℕ) → p ≡ Checked·refused k → RulesRead t T D (Rules·refused k) T D
   unfolding read-rules
   read-out D k h =
-      let r = checked-refused (read-domains edition-1 t) k (sym h ∙ e) in
+      let r = checked-refused (read-domains t) k (sym h ∙ e) in
       record {
-        answer = rules-out (read-domains edition-1 t) _ k r;
+        answer = rules-out (read-domains t) _ k r;
         same-tables = refl;
         same-directory = refl;
-        directory = λ R u g room. absurd (not-taken (read-rules edition-1 t) k R u (then-refused (read-domains edition-1 t) _ k r) g);
+        directory = λ R u g room. absurd (not-taken (read-rules edition-1 t) k R u (then-refused (read-domains t) _ k r) g);
       }
 
   module _ (m k : ℕ) (s : length T ≡ 500) (h : p ≡ Left m) (i : k ≡ getD t 0 0) where
-    domains-here : RowAt 16 t (read-domains edition-1 t) m
+    domains-here : RowAt 16 t (read-domains t) m
     domains-here = domains-row m t p e h
 
     pub read-copies : (0 + (k + 1) ≤ length T) × (k + 1 ≤ length t)
@@ -203,7 +203,7 @@ module _ (T t : List ℕ) (p : Checked) (e : p ≡ checked (read-domains edition
 
       whole-is : (v : List ℕ) → v ≡ last-of m t → read-rules edition-1 t ≡ label-section (row t 0) v
       unfolding read-rules label-section function-section process-section
-      whole-is v o = then-taken (read-domains edition-1 t) (λ ds. label-section ds) (row t 0) (last-of m t) (domains-here .is) ∙ ap (label-section (row t 0)) (sym o)
+      whole-is v o = then-taken (read-domains t) (λ ds. label-section ds) (row t 0) (last-of m t) (domains-here .is) ∙ ap (label-section (row t 0)) (sym o)
 
       pub read-in : (v T″ D D′ : List ℕ) (w : Rules) → length t ≤ 65535 → v ≡ last-of m t → LabelSectionRead v T′ D w T″ D′ → RulesRead t T D w T″ D′
       read-in v T″ D D′ w short o g = record {

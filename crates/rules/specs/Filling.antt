@@ -4,7 +4,7 @@ use mathlib.Core.Path.{_≡_}
 use mathlib.Core.List.{List}
 use Prim.Native.Nat.{ℕ, _*_, _≤_, _<_}
 use lib.ListN.{length}
-use Rattle.eb3.specs.Limits.{edition-1}
+use Rattle.eb3.specs.Editions.{edition-1}
 use Rattle.eb3.specs.RuleSets.{Function, RuleSet}
 use Rattle.eb3.specs.Reading.{taken, Reader}
 use Rattle.eb3.specs.RuleReading.{read-processes, read-rules}
@@ -26,9 +26,9 @@ pub record Placed (whole T : List ℕ) (R : RuleSet) : Type 0 where
 
 -- n processes behind those of any rule set that the tables T declare.
 pub record ProcessesRead (t T : List ℕ) (n : ℕ) (r : Weighed) (T′ : List ℕ) : Type 0 where
-  pub answer : (R : RuleSet) → Declares T R → Narrow R → r ≡ main-weighed (read-processes edition-1 n R t)
+  pub answer : (R : RuleSet) → Declares T R → Narrow R → r ≡ main-weighed (read-processes n R t)
   pub same-length : length T′ ≡ length T
-  pub placed : (whole : List ℕ) (R Q : RuleSet) (u : List ℕ) → Tail t whole → Placed whole T R → Narrow R → read-processes edition-1 n R t ≡ taken Q u → Placed whole T′ Q
+  pub placed : (whole : List ℕ) (R Q : RuleSet) (u : List ℕ) → Tail t whole → Placed whole T R → Narrow R → read-processes n R t ≡ taken Q u → Placed whole T′ Q
 
 -- All of them, behind domains, labels and functions.
 pub record ProcessSectionRead (t T : List ℕ) (r : Weighed) (T′ : List ℕ) : Type 0 where

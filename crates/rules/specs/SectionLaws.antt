@@ -5,7 +5,6 @@ use mathlib.Core.List.{List, [], _∷_}
 use Prim.Native.Nat.{ℕ, zero, suc, _+_, _-_, _*_, _≤_}
 use native.Mathlib.Omega.{arith}
 use lib.ListN.{length, getD, take, length-append}
-use Rattle.eb3.specs.Limits.{edition-1}
 use Rattle.eb3.specs.RuleSets.{Process, RuleSet, main-process, process}
 use Rattle.eb3.specs.Measures.{sat, Measure, measure-term, row-of, measure-main}
 use Rattle.eb3.specs.Laws.Signatures.{own-measure}
@@ -63,15 +62,15 @@ refused-reads R M (refused j) k e = ap refused (sym (ap (number-in k) e))
 refused-reads R M (taken P u) k e = absurd (subst IsFound (sym e) tt)
 
 -- What is left of words that were read is their end.
-process-ends : (R : RuleSet) (hi : ℕ) → Ends (read-process edition-1 R hi)
+process-ends : (R : RuleSet) (hi : ℕ) → Ends (read-process R hi)
 unfolding read-process
-process-ends R hi t = then-fine _ (λ ds u. giving-fine _ u (read-rule-term edition-1 R ds u) (term-ends edition-1 R ds u)) t (counted 0 hi (number-of Refusal.reference (length (R .domains))) t)
+process-ends R hi t = then-fine _ (λ ds u. giving-fine _ u (read-rule-term R ds u) (term-ends R ds u)) t (counted 0 hi (number-of Refusal.reference (length (R .domains))) t)
     (counted-ends 0 hi (number-of Refusal.reference (length (R .domains))) (number-ends Refusal.reference (length (R .domains))) t)
 
-process-left : (R : RuleSet) (hi : ℕ) (t : List ℕ) (P : Process) (u : List ℕ) (n : ℕ) → read-process edition-1 R hi t ≡ taken P u → n ≡ length u → u ≡ last-of n t
+process-left : (R : RuleSet) (hi : ℕ) (t : List ℕ) (P : Process) (u : List ℕ) (n : ℕ) → read-process R hi t ≡ taken P u → n ≡ length u → u ≡ last-of n t
 process-left R hi t P u n e l = sym (ap (λ j. last-of j t) l ∙ tail-at u t (subst (Fine t) e (process-ends R hi t)))
 
-limit-four : (n k : ℕ) → k ≤ parameter-limit edition-1 n → k ≤ 4
+limit-four : (n k : ℕ) → k ≤ parameter-limit n → k ≤ 4
 limit-four zero k h = omega arith
 limit-four (suc n) k h = h
 
@@ -87,37 +86,37 @@ same-taken a b u v e = cc
 
 module _ (T t : List ℕ) (n : ℕ) where
   abbrev first-process : Read Process
-  first-process = read-process edition-1 (declared T) (parameter-limit edition-1 n) t
+  first-process = read-process (declared T) (parameter-limit n) t
 
   -- Refused,
   pub processes-refused : (k : ℕ) → Refused k ≡ process-weighed (declared T) (callee T) first-process
-      → (R : RuleSet) → Declares T R → Refused k ≡ main-weighed (read-processes edition-1 (suc n) R t)
+      → (R : RuleSet) → Declares T R → Refused k ≡ main-weighed (read-processes (suc n) R t)
   unfolding read-processes then main-weighed
   processes-refused k e R d =
-      let q = sym (process-alike T R d (parameter-limit edition-1 n) t) ∙ refused-reads (declared T) (callee T) first-process k e in
-      sym (ap (λ r. main-weighed (then r λ P. read-processes edition-1 n (with-process R P))) q)
+      let q = sym (process-alike T R d (parameter-limit n) t) ∙ refused-reads (declared T) (callee T) first-process k e in
+      sym (ap (λ r. main-weighed (then r λ P. read-processes n (with-process R P))) q)
 
   module _ (m : ℕ) (w : Weight) (e : Found m w ≡ process-weighed (declared T) (callee T) first-process) where
     abbrev got : Reads (declared T) (callee T) first-process m w
     got = found-reads (declared T) (callee T) first-process m w e
 
     -- What stands in front of the words, for entering it.
-    pub process-row-front : (getD t 0 0 ≤ parameter-limit edition-1 n) × (getD t 0 0 + 1 ≤ length t) × (m ≤ length t)
+    pub process-row-front : (getD t 0 0 ≤ parameter-limit n) × (getD t 0 0 + 1 ≤ length t) × (m ≤ length t)
     process-row-front =
-        let f = process-front (declared T) (parameter-limit edition-1 n) t (got .0) (got .1) (got .2) in
-        let k = tail-short (got .1) t (subst (Fine t) (got .2) (process-ends (declared T) (parameter-limit edition-1 n) t)) in
+        let f = process-front (declared T) (parameter-limit n) t (got .0) (got .1) (got .2) in
+        let k = tail-short (got .1) t (subst (Fine t) (got .2) (process-ends (declared T) (parameter-limit n) t)) in
         (omega (arith, f .few, f .count), f .long, omega (arith, got .3, k))
 
     module _ (R : RuleSet) (d : Declares T R) where
-      read-behind : read-process edition-1 R (parameter-limit edition-1 n) t ≡ taken (got .0) (got .1)
-      read-behind = sym (process-alike T R d (parameter-limit edition-1 n) t) ∙ got .2
+      read-behind : read-process R (parameter-limit n) t ≡ taken (got .0) (got .1)
+      read-behind = sym (process-alike T R d (parameter-limit n) t) ∙ got .2
 
       weighs : measure w ≡ measure-term (sat cap) R (row-of (sat cap) R (length (R .processes))) (got .0 .term)
       weighs = got .4 ∙ term-alike T R d (got .0 .term)
 
-      rest-reads : read-processes edition-1 (suc n) R t ≡ read-processes edition-1 n (with-process R (got .0)) (got .1)
+      rest-reads : read-processes (suc n) R t ≡ read-processes n (with-process R (got .0)) (got .1)
       unfolding read-processes then
-      rest-reads = ap (λ r. then r λ P. read-processes edition-1 n (with-process R P)) read-behind
+      rest-reads = ap (λ r. then r λ P. read-processes n (with-process R P)) read-behind
 
       -- Entered, it is declared with the others, and its term stands behind its parameters.
       module _ (p : ℕ) (T′ : List ℕ) (b : Bounded T) (narrow : Narrow R) (count : getD T 211 0 ≡ p) (room : 212 + 9 * (p + 1) ≤ length T)
@@ -125,8 +124,8 @@ module _ (T t : List ℕ) (n : ℕ) where
         abbrev head : List ℕ
         head = length (got .0 .parameters) ∷ got .0 .parameters
 
-        f : Front (parameter-limit edition-1 n) t (got .0)
-        f = process-front (declared T) (parameter-limit edition-1 n) t (got .0) (got .1) (got .2)
+        f : Front (parameter-limit n) t (got .0)
+        f = process-front (declared T) (parameter-limit n) t (got .0) (got .1) (got .2)
 
         four : length (got .0 .parameters) ≤ 4
         four = limit-four n (length (got .0 .parameters)) (f .few)
@@ -157,30 +156,30 @@ module _ (T t : List ℕ) (n : ℕ) where
             record {
               declares = grown;
               rows = rows-more whole T′ 0 (R .processes) (got .0) kept
-                  (subst (λ m. Stands whole m (rule-words 1 (got .0 .term))) (sym place) (term-stands (declared T) (parameter-limit edition-1 n) whole t (got .0) (got .1) (width-declared T) tl (got .2)));
+                  (subst (λ m. Stands whole m (rule-words 1 (got .0 .term))) (sym place) (term-stands (declared T) (parameter-limit n) whole t (got .0) (got .1) (width-declared T) tl (got .2)));
             }
 
         -- the last: it is main;
-        pub last-answers : n ≡ 0 → Found m w ≡ main-weighed (read-processes edition-1 (suc n) R t)
+        pub last-answers : n ≡ 0 → Found m w ≡ main-weighed (read-processes (suc n) R t)
         unfolding read-processes main-weighed
         last-answers z =
             let q : Found m w ≡ main-weighed (taken (with-process R (got .0)) (got .1)) = λ i. Found (got .3 i) (weight ((weighs ∙ sym (main-read R (got .0))) i)) in
-            q ∙ (ap (λ k. main-weighed (read-processes edition-1 k (with-process R (got .0)) (got .1))) (sym z) ∙ sym (ap main-weighed rest-reads))
+            q ∙ (ap (λ k. main-weighed (read-processes k (with-process R (got .0)) (got .1))) (sym z) ∙ sym (ap main-weighed rest-reads))
 
-        pub last-placed : n ≡ 0 → (whole : List ℕ) (Q : RuleSet) (u : List ℕ) → Tail t whole → ProcessRows whole T 0 (R .processes) → read-processes edition-1 (suc n) R t ≡ taken Q u → Placed whole T′ Q
+        pub last-placed : n ≡ 0 → (whole : List ℕ) (Q : RuleSet) (u : List ℕ) → Tail t whole → ProcessRows whole T 0 (R .processes) → read-processes (suc n) R t ≡ taken Q u → Placed whole T′ Q
         unfolding read-processes
         last-placed z whole Q u tl rows e =
-            let q : taken (with-process R (got .0)) (got .1) ≡ taken Q u = ap (λ k. read-processes edition-1 k (with-process R (got .0)) (got .1)) (sym z) ∙ sym rest-reads ∙ e in
+            let q : taken (with-process R (got .0)) (got .1) ≡ taken Q u = ap (λ k. read-processes k (with-process R (got .0)) (got .1)) (sym z) ∙ sym rest-reads ∙ e in
             subst (Placed whole T′) (same-taken (with-process R (got .0)) Q (got .1) u q) (grown-placed whole tl rows)
 
         -- or one of several: the others behind it, by the tables with it entered.
         module _ (r : List ℕ) (rest : r ≡ last-of m t) where
           left : r ≡ got .1
-          left = rest ∙ sym (process-left (declared T) (parameter-limit edition-1 n) t (got .0) (got .1) m (got .2) (got .3))
+          left = rest ∙ sym (process-left (declared T) (parameter-limit n) t (got .0) (got .1) m (got .2) (got .3))
 
-          pub next-answers : (q : Weighed) → ((Q : RuleSet) → Declares T′ Q → Narrow Q → q ≡ main-weighed (read-processes edition-1 n Q r)) → q ≡ main-weighed (read-processes edition-1 (suc n) R t)
-          next-answers q next = next (with-process R (got .0)) grown grown-narrow ∙ ap (λ u. main-weighed (read-processes edition-1 n (with-process R (got .0)) u)) left ∙ sym (ap main-weighed rest-reads)
+          pub next-answers : (q : Weighed) → ((Q : RuleSet) → Declares T′ Q → Narrow Q → q ≡ main-weighed (read-processes n Q r)) → q ≡ main-weighed (read-processes (suc n) R t)
+          next-answers q next = next (with-process R (got .0)) grown grown-narrow ∙ ap (λ u. main-weighed (read-processes n (with-process R (got .0)) u)) left ∙ sym (ap main-weighed rest-reads)
 
-          pub next-placed : (T″ whole : List ℕ) (Q : RuleSet) (u : List ℕ) → Tail t whole → ProcessRows whole T 0 (R .processes) → read-processes edition-1 (suc n) R t ≡ taken Q u
-              → ((P Q : RuleSet) → Placed whole T′ P → Narrow P → read-processes edition-1 n P r ≡ taken Q u → Placed whole T″ Q) → Placed whole T″ Q
-          next-placed T″ whole Q u tl rows e next = next (with-process R (got .0)) Q (grown-placed whole tl rows) grown-narrow (ap (read-processes edition-1 n (with-process R (got .0))) left ∙ sym rest-reads ∙ e)
+          pub next-placed : (T″ whole : List ℕ) (Q : RuleSet) (u : List ℕ) → Tail t whole → ProcessRows whole T 0 (R .processes) → read-processes (suc n) R t ≡ taken Q u
+              → ((P Q : RuleSet) → Placed whole T′ P → Narrow P → read-processes n P r ≡ taken Q u → Placed whole T″ Q) → Placed whole T″ Q
+          next-placed T″ whole Q u tl rows e next = next (with-process R (got .0)) Q (grown-placed whole tl rows) grown-narrow (ap (read-processes n (with-process R (got .0))) left ∙ sym rest-reads ∙ e)

@@ -3,7 +3,7 @@
 use mathlib.Core.List.{List}
 use Prim.Native.Nat.{ℕ}
 use lib.ListN.{length}
-use Rattle.eb3.specs.Limits.{edition-1}
+use Rattle.eb3.specs.Editions.{edition-1}
 use Rattle.eb3.specs.Cells.{total-cells}
 use Rattle.eb3.specs.RuleSets.{Function, Process, RuleSet, attributes}
 use Rattle.eb3.specs.Measures.{sat, Measure, measure-term, measure-main}
@@ -35,10 +35,10 @@ joined c (Refused k) = Rules·refused k
 
 -- The sections as they follow one another; `read-rules` is domains, then these.
 unfoldable pub process-section : List ℕ → List (List ℕ) → List Function → Reader RuleSet
-process-section domains labels functions t = then (count-of 1 32 t) λ n. read-processes edition-1 n (without-processes edition-1 domains labels functions)
+process-section domains labels functions t = then (count-of 1 32 t) λ n. read-processes n (without-processes edition-1 domains labels functions)
 
 unfoldable pub function-section : List ℕ → List (List ℕ) → Reader RuleSet
 function-section domains labels t = then (read-functions edition-1 (length domains) labels t) λ functions. process-section domains labels functions
 
 unfoldable pub label-section : List ℕ → Reader RuleSet
-label-section domains t = then (read-labels edition-1 (length domains) t) λ labels. function-section domains labels
+label-section domains t = then (read-labels (length domains) t) λ labels. function-section domains labels

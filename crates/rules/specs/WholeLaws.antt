@@ -9,16 +9,16 @@ use lib.ListN.{length}
 use Rattle.eb3.specs.Refusal
 use Rattle.eb3.specs.Generic.Booleans.{T-and, T-fst, T-snd}
 use Rattle.eb3.specs.Cells.{total-cells}
-use Rattle.eb3.specs.Limits.{edition-1}
+use Rattle.eb3.specs.Editions.{edition-1}
 use Rattle.eb3.specs.RuleSets.{RuleSet, attributes}
 use Rattle.eb3.specs.Measures.{sat, measure-main}
-use Rattle.eb3.specs.WellFormedness.{Form}
 use Rattle.eb3.specs.Laws.CellCounts.{cells-below}
 use Rattle.eb3.specs.RuleSpelling.{rules-words}
 use Rattle.eb3.specs.Reading.{Read, refused, taken, pick}
 use Rattle.eb3.specs.Laws.Reading.{Sound, pick-true, pick-false}
 use Rattle.eb3.specs.RuleReading.{read-rules}
-use Rattle.eb3.specs.Laws.RuleReading.{rules-sound}
+use Rattle.eb3.specs.Laws.RuleReading.{FormOf, rules-sound}
+use Rattle.eb3.specs.Laws.Editions.{edition-1-defined}
 use Rattle.eb3.specs.Answers.{Answer}
 use Rattle.eb3.specs.Admission.{all-zero, ends-right}
 use Rattle.eb3.specs.Laws.Judging.{judged, whole-of, whole-refused, whole-taken}
@@ -61,7 +61,7 @@ pub record Whole (t : List ℕ) (r : Read RuleSet) (left cells : ℕ) (w : Weigh
   pub few : cells ≤ 1024
   pub weighs : measure w ≡ measure-main (sat cap) R
 
-whole-by : (t : List ℕ) (r : Read RuleSet) → Sound rules-words (Form edition-1) t r → (left cells : ℕ) (w : Weight) → Found left cells w ≡ rules-weighed r → Whole t r left cells w
+whole-by : (t : List ℕ) (r : Read RuleSet) → Sound rules-words (FormOf edition-1) t r → (left cells : ℕ) (w : Weight) → Found left cells w ≡ rules-weighed r → Whole t r left cells w
 unfolding rules-weighed
 whole-by t (refused k) s left cells w e = absurd (subst IsFound e tt)
 whole-by t (taken R rest) s left cells w e =
@@ -74,13 +74,13 @@ whole-by t (taken R rest) s left cells w e =
       left-is = l;
       end = behind-part (rules-words R) rest t left (s .0) l;
       cells-are = c;
-      few = omega (arith, c, cells-below R (s .1));
+      few = omega (arith, c, cells-below R (s .1 .0));
       weighs = ap (λ x. measure (weight-in w x)) e;
     }
 
 module _ (t : List ℕ) where
   pub rules-found : (left cells : ℕ) (w : Weight) → Found left cells w ≡ rules-weighed (read-rules edition-1 t) → Whole t (read-rules edition-1 t) left cells w
-  rules-found left cells w e = whole-by t (read-rules edition-1 t) (rules-sound edition-1 (omega arith) t) left cells w e
+  rules-found left cells w e = whole-by t (read-rules edition-1 t) (rules-sound edition-1 edition-1-defined t) left cells w e
 
   pub rules-refused : (k : ℕ) → Refused k ≡ rules-weighed (read-rules edition-1 t) → whole-of (read-rules edition-1 t) ≡ Answer.refused k
   unfolding rules-weighed

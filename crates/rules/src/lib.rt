@@ -4,7 +4,6 @@ ghost use mathlib.Core.Path.{_≡_};
 ghost use mathlib.Core.List.{List, [], _∷_, _++_};
 ghost use Prim.Native.Nat.{ℕ, _+_, _-_, _*_, _≤_, _<_};
 ghost use lib.ListN.{drop, take, getD, length, set};
-ghost use Rattle.eb3.specs.Limits.{edition-1};
 ghost use Rattle.eb3.specs.RuleReading.{parameter-limit, read-process};
 ghost use Rattle.arguments.specs.Tables.{declared, callee};
 ghost use Rattle.declarations.specs.Declaring.{entered-process};
@@ -37,7 +36,7 @@ pub enum Rules {
 // ── processes ──
 
 fn limit_of(n: usize) -> usize
-    ensures { λ r. ⌜ (r ≡ parameter-limit edition-1 n) × (r ≤ 4) ⌝ }
+    ensures { λ r. ⌜ (r ≡ parameter-limit n) × (r ≤ 4) ⌝ }
 {
     if n == 0 {
         return 0;
@@ -48,7 +47,7 @@ fn limit_of(n: usize) -> usize
 // A process: its parameters, at most hi, and its term.
 fn check_process(t: &[u16], tb: &[u32], hi: usize) -> Weighed
     requires { ⌜ (hi ≤ 8) × (length (now t) ≤ 65535) ⌝ }
-    ensures { λ r. ⌜ r ≡ process-weighed (declared (now (tb .entry))) (callee (now (tb .entry))) (read-process edition-1 (declared (now (tb .entry))) hi (now (t .entry))) ⌝ }
+    ensures { λ r. ⌜ r ≡ process-weighed (declared (now (tb .entry))) (callee (now (tb .entry))) (read-process (declared (now (tb .entry))) hi (now (t .entry))) ⌝ }
 {
     match parameters(t, hi, wide32(entry(tb, 0))) {
         Checked::Left(m) => {

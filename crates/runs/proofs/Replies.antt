@@ -9,7 +9,6 @@ use lib.ListN.{length, getElem?}
 use Rattle.eb3.specs.Terms.{Term, Action, internal, visible}
 use Rattle.eb3.specs.Moves.{Move, moves}
 use Rattle.eb3.specs.Derivations.{DataState, state-after}
-use Rattle.eb3.specs.Limits.{edition-1}
 use Rattle.eb3.specs.RuleSets.{RuleSet, attributes}
 use Rattle.eb3.specs.Sizes.{size, reach}
 use Rattle.eb3.specs.Laws.Sizes.{move-size}
@@ -20,6 +19,7 @@ use Rattle.eb3.specs.Semantics.{Sem-M, Situation, situation, transition, system
 use Rattle.eb3.specs.TransitionSystems.{Outcome, took-visible, took-internal, refused, taken, reply, respond}
 use Rattle.eb3.specs.Laws.TransitionSystems.{getElem?-map}
 use Rattle.eb3.specs.WellFormedness.{well-formed, Running}
+use Rattle.eb3.specs.Laws.Editions.{width-is-1}
 use Rattle.actions.specs.Codes.{action-code}
 use Rattle.listing.specs.Listing.{holding}
 use Rattle.steps.specs.Storing.{Ruled, StoreRenewed}
@@ -81,11 +81,11 @@ module _ {H : Holding} (t D : List ℕ) (w functions c n k : ℕ) (ws M : List �
   offered = getElem? (moves (holding M) (s .term)) k
 
   pub spelled-length : (E : Term) → well-formed R E → length (words 1 E) ≡ size 1 E
-  spelled-length E h = subst (λ v. length (words v E) ≡ size v E) (ruled .form .width-is) (words-length R E h)
+  spelled-length E h = subst (λ v. length (words v E) ≡ size v E) (width-is-1 (ruled .form)) (words-length R E h)
 
   module _ (x : Move) (listed : offered ≡ some x) where
-    pub next-running : Running edition-1 R (x .successor)
-    next-running = move-running edition-1 R (holding M) (s .term) k x listed (at .running)
+    pub next-running : Running R (x .successor)
+    next-running = move-running R (holding M) (s .term) k x listed (at .running)
 
     -- A successor has no more words than the term reaches.
     pub next-length : length (words 1 (x .successor)) ≤ reach 1 (s .term)
@@ -108,5 +108,5 @@ module _ {H : Holding} (t D : List ℕ) (w functions c n k : ℕ) (ws M : List �
       (record {
         running = next-running x listed;
         held = held;
-        stored = renewed R T ruled (x .action) (move-action edition-1 R (holding M) (s .term) k x listed (at .running .form)) number (s .state) (at .stored);
+        stored = renewed R T ruled (x .action) (move-action R (holding M) (s .term) k x listed (at .running .form)) number (s .state) (at .stored);
       })

@@ -18,6 +18,7 @@ use Rattle.eb3.specs.Laws.Operations.{spelling-small}
 use Rattle.eb3.specs.Bytes.{written}
 use Rattle.eb3.specs.Semantics.{Sem-M, Situation}
 use Rattle.eb3.specs.TransitionSystems.{taken}
+use Rattle.eb3.specs.Laws.Editions.{width-is-1}
 use Rattle.actions.specs.Codes.{action-code}
 use Rattle.listing.specs.Listing.{holding}
 use Rattle.cells.specs.Preparing.{Loaded}
@@ -76,7 +77,7 @@ module _ (t D : List ℕ) (w functions c n k : ℕ) (ws M out path : List ℕ) (
   next-spelled x e out′ ws′ buffer size′ l loaded = record {
     size-is = l;
     spelled = written-loaded (words 1 (x .successor)) out ws ws′ size′ l
-        (subst (λ v. Small (words v (x .successor))) (ruled .form .width-is) (spelling-small R (ruled .form) (x .successor) (next-running t D w functions c n k ws M R T ruled s at x e .form)))
+        (subst (λ v. Small (words v (x .successor))) (width-is-1 (ruled .form)) (spelling-small R (ruled .form) (x .successor) (next-running t D w functions c n k ws M R T ruled s at x e .form)))
         (omega (arith, next-fits x e, room .words-room)) (subst (λ B. Loaded B ws ws′ 0 size′) buffer loaded);
   }
 

@@ -3,7 +3,6 @@ use mathlib.Core.Path.{_≡_}
 use mathlib.Core.List.{List}
 use Prim.Native.Nat.{ℕ, _+_, _≤_}
 use lib.ListN.{length, take}
-use Rattle.eb3.specs.Limits.{edition-1}
 use Rattle.eb3.specs.RuleSets.{RuleSet, attributes}
 use Rattle.eb3.specs.Terms.{Term}
 use Rattle.eb3.specs.Sizes.{reach}
@@ -29,7 +28,7 @@ pub record Spelled (R : RuleSet) (E : Term) (n : ℕ) (ws : List ℕ) : Type 0 w
 
 -- A situation of the memory machine: the first n words of ws hold its term, and the store M holds its cells.
 pub record Situated (H : Holding) (R : RuleSet) (s : Situation (Sem-M (attributes R))) (n : ℕ) (ws M : List ℕ) : Type 0 where
-  pub running : Running edition-1 R (s .term)
+  pub running : Running R (s .term)
   pub held : H R (s .term) n ws
   pub stored : Stored R (s .state) M
 

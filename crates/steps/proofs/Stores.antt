@@ -11,7 +11,9 @@ use Rattle.eb3.specs.Terms.{VisibleAction, internal, visible}
 use Rattle.eb3.specs.Attributes.{Attributes, number-of-functions}
 use Rattle.eb3.specs.Cells.{total-cells, cell-at, initial-cells, renew}
 use Rattle.eb3.specs.Derivations.{state-after}
-use Rattle.eb3.specs.Memory.{cell-room}
+use Rattle.eb3.specs.Memory.{cell-room, cells-in}
+use Rattle.eb3.specs.Laws.Cells.{ValuesAtMost}
+use Rattle.eb3.specs.Laws.Editions.{top-is-65534}
 use Rattle.eb3.specs.RuleSets.{RuleSet, attributes}
 use Rattle.eb3.specs.Laws.RuleSets.{functions-counted}
 use Rattle.eb3.specs.WellFormedness.{well-formed-action}
@@ -58,11 +60,12 @@ store-loaded D B M M₁ M₂ w n c bytes l₁ prepared loaded R t T ruled enough
     let p = prepared-for R t T D w n c ruled M M₁ (prepared (omega arith)) in
     let many : total-cells A ≤ cell-room B = omega (arith, e) in
     let put : Loaded B M₁ M₂ 36 (total-cells A) = subst (Loaded B M₁ M₂ 36) e loaded in
+    let back : cells-in 65534 (total-cells A) B ≡ cells-in (R .edition .top) (total-cells A) B = ap (λ top. cells-in top (total-cells A) B) (sym (top-is-65534 (ruled .form))) in
     record {
       laid = laid-kept A M₁ M₂ (few-functions R t T D w n c ruled) (λ i h l. loaded .kept-below i l) (rows-laid R (ruled .form) t T D (ruled .directory) M M₁ p);
-      holds = loaded-holds B M₁ M₂ 36 (total-cells A) (words-small B bytes) many (omega (arith, e, l₁)) put;
-      counted = given-counted (total-cells A) B many;
-      at-most = given-at-most (total-cells A) B;
+      holds = subst (Holds M₂ 36) back (loaded-holds B M₁ M₂ 36 (total-cells A) (words-small B bytes) many (omega (arith, e, l₁)) put);
+      counted = ap length (sym back) ∙ given-counted (total-cells A) B many;
+      at-most = subst (ValuesAtMost 65534) back (given-at-most (total-cells A) B);
       old-place = loaded .kept-below 3 (omega arith) ∙ p .old-cells;
       room = omega (arith, e, l₁, loaded .same-length);
     }

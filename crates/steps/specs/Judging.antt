@@ -11,7 +11,6 @@ use Rattle.eb3.specs.Terms.{Term, Done, Internal, Perform, Sequence, Choice, St
 use Rattle.eb3.specs.Scopes.{Scope, cond-in-scope, guard-scope}
 use Rattle.eb3.specs.Moves.{move, sequenced, parallel-moves, moves}
 use Rattle.eb3.specs.Semantics.{Sem-M}
-use Rattle.eb3.specs.Limits.{edition-1}
 use Rattle.eb3.specs.RuleSets.{RuleSet, attributes}
 use Rattle.eb3.specs.Spelling.{words}
 use Rattle.eb3.specs.WellFormedness.{well-formed, Running, Form}
@@ -34,7 +33,7 @@ moves-agree g h P a (Star E) f = λ i. move internal Done ∷ map (sequenced (St
 moves-agree g h P a (Parallel Δ E F) f = λ i. cond (done? E && done? F) (move internal Done ∷ []) (parallel-moves Δ E F (moves-agree g h P a E (f .1) i) (moves-agree g h P a F (f .2) i))
 moves-agree g h P a (Guard C E) f = λ i. cond (a C (f .0) i) (moves-agree g h P a E (f .1) i) []
 
-module _ (R : RuleSet) (form : Form edition-1 R) where
+module _ (R : RuleSet) (form : Form R) where
   pub fits : (E : Term) → well-formed R E → Fits (guard-scope (attributes R) 0) E
   fits Done h = tt
   fits Internal h = tt
@@ -45,7 +44,7 @@ module _ (R : RuleSet) (form : Form edition-1 R) where
   fits (Parallel Δ E F) h = (h .0 .0, fits E (h .1), fits F (h .2))
   fits (Guard C E) h = (h .0, fits E (h .1))
 
-  pub whole : (E : Term) → Running edition-1 R E → (s : List ℕ) → s ≡ words 1 E → Whole s (guard-scope (attributes R) 0) E
+  pub whole : (E : Term) → Running R E → (s : List ℕ) → s ≡ words 1 E → Whole s (guard-scope (attributes R) 0) E
   whole E r s e = record {
     there = record { plain = plain-guard R form 0; fits = fits E (r .form); spelled = e ∙ sym (append-nil (words 1 E)); closed = λ z. let w : ⊥ = omega arith in w };
     narrow = r .breadth-limit;

@@ -5,7 +5,6 @@ use mathlib.Core.List.{List}
 use Prim.Native.Nat.{ℕ, _+_, _≤_}
 use native.Mathlib.Omega.{arith}
 use lib.ListN.{length, getD}
-use Rattle.eb3.specs.Limits.{edition-1}
 use Rattle.eb3.specs.Cells.{total-cells}
 use Rattle.eb3.specs.RuleSets.{RuleSet, attributes}
 use Rattle.eb3.specs.WellFormedness.{Form}
@@ -13,7 +12,7 @@ use Rattle.arguments.specs.TableLaws.{labels-length}
 use Rattle.declarations.specs.Directory.{Directory}
 use Rattle.steps.specs.Storing.{Ruled}
 
-module _ (R : RuleSet) (form : Form edition-1 R) (t T D : List ℕ) (d : Directory t T D R) where
+module _ (R : RuleSet) (form : Form R) (t T D : List ℕ) (d : Directory t T D R) where
   pub labels-there : getD T 17 0 ≡ length (R .labels)
   labels-there = sym (labels-length T) ∙ ap length (d .declares .tables .heads .same-labels)
 

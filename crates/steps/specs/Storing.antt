@@ -7,7 +7,6 @@ use Rattle.eb3.specs.Values.{Value}
 use Rattle.eb3.specs.Terms.{Action}
 use Rattle.eb3.specs.Cells.{total-cells, initial-cells}
 use Rattle.eb3.specs.Laws.Cells.{ValuesAtMost}
-use Rattle.eb3.specs.Limits.{edition-1}
 use Rattle.eb3.specs.RuleSets.{RuleSet, attributes}
 use Rattle.eb3.specs.WellFormedness.{well-formed-action, Form}
 use Rattle.eb3.specs.Derivations.{state-after}
@@ -30,7 +29,7 @@ pub record Stored (R : RuleSet) (cells : List Value) (M : List ℕ) : Type 0 whe
 
 -- The stream, tables and directory of a rule set, w words a row, n functions, c cells.
 pub record Ruled (R : RuleSet) (t T D : List ℕ) (w n c : ℕ) : Type 0 where
-  pub form : Form edition-1 R
+  pub form : Form R
   pub directory : Directory t T D R
   pub width-is : w ≡ row-width (length (R .labels))
   pub functions-are : n ≡ length (R .functions)
@@ -38,7 +37,7 @@ pub record Ruled (R : RuleSet) (t T D : List ℕ) (w n c : ℕ) : Type 0 where
 
 -- Of a memory B of enough cells.
 abbrev pub StoreLoaded : List ℕ → List ℕ → List ℕ → List ℕ → ℕ → ℕ → ℕ → Type 0
-StoreLoaded D B M M′ w n c = (R : RuleSet) (t T : List ℕ) → Ruled R t T D w n c → c ≤ cell-room B → now-place + 2 * c ≤ length M → Stored R (cells-given edition-1 R B) M′
+StoreLoaded D B M M′ w n c = (R : RuleSet) (t T : List ℕ) → Ruled R t T D w n c → c ≤ cell-room B → now-place + 2 * c ≤ length M → Stored R (cells-given R B) M′
 
 -- At the start.
 abbrev pub StoreStarted : List ℕ → List ℕ → List ℕ → List ℕ → ℕ → ℕ → ℕ → Type 0

@@ -11,18 +11,18 @@ use Rattle.eb3.specs.Terms.{VisibleAction, visible}
 use Rattle.eb3.specs.Attributes.{Attributes, number-of-functions}
 use Rattle.eb3.specs.Cells.{total-cells, cell-at, initial-cells, renew}
 use Rattle.eb3.specs.Laws.Cells.{ValuesAtMost, initial-values, values-at-most, renew-at-most}
-use Rattle.eb3.specs.Limits.{edition-1}
 use Rattle.eb3.specs.RuleSets.{RuleSet, label, attributes}
 use Rattle.eb3.specs.Laws.RuleSets.{functions-counted}
 use Rattle.eb3.specs.Laws.Running.{expressions-in-scope, elements-small, parameters-small}
 use Rattle.eb3.specs.WellFormedness.{well-formed-action, Form}
+use Rattle.eb3.specs.Laws.Editions.{top-is-65534}
 use Rattle.expressions.specs.Stores.{stored}
 use Rattle.cells.specs.Layout.{Laid}
 use Rattle.cells.specs.CellLaws.{cells-counted}
 use Rattle.cells.specs.Reads.{row-cells}
 use Rattle.cells.specs.Readying.{domain-of}
 
-module _ (R : RuleSet) (form : Form edition-1 R) where
+module _ (R : RuleSet) (form : Form R) where
   abbrev A : Attributes
   A = attributes R
 
@@ -44,12 +44,12 @@ module _ (R : RuleSet) (form : Form edition-1 R) where
 
   pub initial-at-most : ValuesAtMost 65534 (initial-cells A)
   initial-at-most =
-      subst (λ n. ValuesAtMost n (initial-cells A)) (form .top-is)
-      (subst (ValuesAtMost (R .top)) (sym (initial-values A))
-      (values-at-most A (λ l. length (label R l)) (expressions-in-scope edition-1 R form) (parameters-small edition-1 R form (omega arith)) [] tt))
+      subst (λ n. ValuesAtMost n (initial-cells A)) (top-is-65534 form)
+      (subst (ValuesAtMost (R .edition .top)) (sym (initial-values A))
+      (values-at-most A (λ l. length (label R l)) (expressions-in-scope R form) (parameters-small R form) [] tt))
 
   pub renewed-at-most : (cells : List Value) (a : VisibleAction) → well-formed-action R (visible a) → ValuesAtMost 65534 cells → ValuesAtMost 65534 (renew A cells a)
   renewed-at-most cells a good h =
-      subst (λ n. ValuesAtMost n (renew A cells a)) (form .top-is)
-      (renew-at-most A (λ l. length (label R l)) (expressions-in-scope edition-1 R form) (parameters-small edition-1 R form (omega arith)) cells a
-      (subst (λ n. ValuesAtMost n cells) (sym (form .top-is)) h) (elements-small edition-1 R form (omega arith) (label R (a .label)) (a .arguments) (good .1)))
+      subst (λ n. ValuesAtMost n (renew A cells a)) (top-is-65534 form)
+      (renew-at-most A (λ l. length (label R l)) (expressions-in-scope R form) (parameters-small R form) cells a
+      (subst (λ n. ValuesAtMost n cells) (sym (top-is-65534 form)) h) (elements-small R form (label R (a .label)) (a .arguments) (good .1)))

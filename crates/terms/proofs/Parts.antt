@@ -142,7 +142,7 @@ words-taken P t C u e =
 -- b is the number of functions, as the code has it
 module _ (T t : List ℕ) (b : ℕ) (p : Checked) (i : b ≡ getD T 210 0) (e : p ≡ checked (read-cond 1 (record { top = 65534; arity = λ f. 1; now = b; before = 0; variables = 0 }) t)) where
   abbrev conditions : Reader Cond
-  conditions = read-cond (declared T .width) (guard-scope (attributes (declared T)) 0)
+  conditions = read-cond (declared T .edition .width) (guard-scope (attributes (declared T)) 0)
 
   width-one : read-cond 1 (guard-scope (attributes (declared T)) 0) t ≡ conditions t
   unfolding declared
@@ -157,7 +157,7 @@ module _ (T t : List ℕ) (b : ℕ) (p : Checked) (i : b ≡ getD T 210 0) (e : 
 
   module _ (n q : ℕ) (r : List ℕ) (fits : length t ≤ 8192) (h : p ≡ Left n) (l : r ≡ last-of n t) (f : q ≡ weighed-running (read-term (declared T) r)) where
     condition : Taken t n (conditions t)
-    condition = checked-taken t n (conditions t) (cond-ends (declared T .width) (guard-scope (attributes (declared T)) 0) t) (sym h ∙ in-scope)
+    condition = checked-taken t n (conditions t) (cond-ends (declared T .edition .width) (guard-scope (attributes (declared T)) 0) t) (sym h ∙ in-scope)
 
     behind-is : condition .rest ≡ r
     behind-is = sym (condition .words) ∙ sym l

@@ -6,7 +6,6 @@ use mathlib.Core.List.{List, [], _∷_, map}
 use Prim.Native.Nat.{ℕ, zero, suc}
 use lib.ListN.{length, getD}
 use Rattle.eb3.specs.Refusal
-use Rattle.eb3.specs.Limits.{Limits}
 use Rattle.eb3.specs.Terms.{Term, Parallel, Guard}
 use Rattle.eb3.specs.RuleSets.{RuleSet}
 use Rattle.eb3.specs.Reading.{Reader, giving, both, by-number}
@@ -41,9 +40,9 @@ module _ (R Q : RuleSet) (a : Alike R Q) where
   unfolding read-term
   read-term-alike ws = terms-alike (length ws) ws
 
-  pub given-term-alike : (L : Limits) (ws : List ℕ) → given-term L R ws ≡ given-term L Q ws
+  pub given-term-alike : (ws : List ℕ) → given-term R ws ≡ given-term Q ws
   unfolding given-term
-  given-term-alike L ws = λ i. term-alone L (a .same-width i) (read-term-alike ws i)
+  given-term-alike ws = λ i. term-alone (a .same-width i) (read-term-alike ws i)
 
   pub given-event-alike : (ws : List ℕ) → given-event R ws ≡ given-event Q ws
   unfolding given-event

@@ -40,8 +40,8 @@ elements-end width (n ∷ ns) t =
 module _ (R : RuleSet) where
   pub action-ends : Ends (action-of R)
   unfolding action-of
-  action-ends = by-number-ends 5 (length (R .labels)) (λ l u. giving (perform l) (elements-of (R .width) (sizes-of R (label R l)) u))
-      (λ l u. giving-fine (perform l) u (elements-of (R .width) (sizes-of R (label R l)) u) (elements-end (R .width) (sizes-of R (label R l)) u))
+  action-ends = by-number-ends 5 (length (R .labels)) (λ l u. giving (perform l) (elements-of (R .edition .width) (sizes-of R (label R l)) u))
+      (λ l u. giving-fine (perform l) u (elements-of (R .edition .width) (sizes-of R (label R l)) u) (elements-end (R .edition .width) (sizes-of R (label R l)) u))
 
   abbrev masks : Reader (List ℕ)
   masks = mask-of 4 (length (R .labels))
@@ -55,8 +55,8 @@ module _ (R : RuleSet) where
     by-ends TermKind.star t = giving-fine Star t (e t) (d t)
     by-ends TermKind.parallel t = giving-fine (λ p. Parallel (p .0) (p .1 .0) (p .1 .1)) t (both masks (both e e) t) (both-ends masks (both e e) (mask-ends 4 (length (R .labels))) (both-ends e e d d) t)
     by-ends TermKind.guard t =
-        let C : Reader _ = read-cond (R .width) (guard-scope (attributes R) 0) in
-        giving-fine (λ p. Guard (p .0) (p .1)) t (both C e t) (both-ends C e (cond-ends (R .width) (guard-scope (attributes R) 0)) d t)
+        let C : Reader _ = read-cond (R .edition .width) (guard-scope (attributes R) 0) in
+        giving-fine (λ p. Guard (p .0) (p .1)) t (both C e t) (both-ends C e (cond-ends (R .edition .width) (guard-scope (attributes R) 0)) d t)
     by-ends TermKind.done t = tail-here t
     by-ends TermKind.wrong t = tt
 
@@ -82,7 +82,7 @@ module _ (R : RuleSet) (e f : Reader Term) (d : Ends e) (t : List ℕ) (h : Same
       ap (giving _) (both-same t (masks R) (masks R) (both e e) (both f f) (mask-ends 4 (length (R .labels))) (λ r le. refl) (both-same t e f e f d h h) t (le-refl (length t)))
   by-same TermKind.guard =
       let P = guard-scope (attributes R) 0 in
-      ap (giving _) (both-same t (read-cond (R .width) P) (read-cond (R .width) P) e f (cond-ends (R .width) P) (λ r le. refl) h t (le-refl (length t)))
+      ap (giving _) (both-same t (read-cond (R .edition .width) P) (read-cond (R .edition .width) P) e f (cond-ends (R .edition .width) P) (λ r le. refl) h t (le-refl (length t)))
   by-same TermKind.done = refl
   by-same TermKind.wrong = refl
 

@@ -3,7 +3,6 @@
 ghost use mathlib.Core.Path.{_≡_};
 ghost use Prim.Native.Nat.{_/_, _%_, _≤_};
 ghost use lib.ListN.{length, getD};
-ghost use Rattle.eb3.specs.Limits.{edition-1};
 ghost use Rattle.eb3.specs.Terms.{Star};
 ghost use Rattle.eb3.specs.RuleSets.{sizes-of};
 ghost use Rattle.eb3.specs.Reading.{giving, both};
@@ -281,7 +280,7 @@ fn check_running(s: &[u16], tb: &[u32]) -> usize
 
 // Exactly one running term of the rule set that the tables declare, within the limits.
 pub fn given_term(s: &[u16], tb: &[u32]) -> Given
-    ensures { λ r. ⌜ r ≡ given (given-term edition-1 (declared (now (tb .entry))) (now (s .entry))) ⌝ }
+    ensures { λ r. ⌜ r ≡ given (given-term (declared (now (tb .entry))) (now (s .entry))) ⌝ }
 {
     // No term has more words than its reach.
     if wide32(Limits::REACH) < s.len() {

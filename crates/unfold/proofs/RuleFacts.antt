@@ -6,7 +6,6 @@ use native.Mathlib.Omega.{arith}
 use lib.ListN.{length, getD, length-map, List·getD-map}
 use Rattle.eb3.specs.Expressions.{Data, Undefined, Constant, Variable, Add, Subtract, If, Now, Before, Args, Nil, Cons, Cond, Equal, Less, And, Or, Not, True}
 use Rattle.eb3.specs.Scopes.{Scope, data-in-scope, args-in-scope, cond-in-scope, guard-scope}
-use Rattle.eb3.specs.Limits.{edition-1}
 use Rattle.eb3.specs.RuleSets.{Argument, Process, RuleSet, domain-size, label, no-process, process, attributes}
 use Rattle.eb3.specs.RuleSpelling.{rule-words}
 use Rattle.eb3.specs.WellFormedness.{Form, arguments-fit}
@@ -76,7 +75,7 @@ module _ (P : Scope) (one : (f : ℕ) → P .arity f ≡ 1) where
     cond-plain (Not c) h = cond-plain c h
     cond-plain True h = tt
 
-pub guard-plain : (R : RuleSet) → Form edition-1 R → (n : ℕ) (c : Cond) → cond-in-scope c (guard-scope (attributes R) n) → plain-cond c
+pub guard-plain : (R : RuleSet) → Form R → (n : ℕ) (c : Cond) → cond-in-scope c (guard-scope (attributes R) n) → plain-cond c
 guard-plain R form n c h = cond-plain (guard-scope (attributes R) n) (one-arity R form) c h
 
 -- ── arguments ──

@@ -12,7 +12,6 @@ use Rattle.eb3.specs.Generic.AllLists.{All}
 use Rattle.eb3.specs.Expressions.{Constant, Variable, Cond}
 use Rattle.eb3.specs.Terms.{Term, Done, Choice, Parallel}
 use Rattle.eb3.specs.Scopes.{cond-in-scope, guard-scope}
-use Rattle.eb3.specs.Limits.{edition-1}
 use Rattle.eb3.specs.Reading.{pick}
 use Rattle.eb3.specs.RuleSets.{Argument, constant-argument, variable-argument, RuleTerm, rule-internal, rule-perform, rule-sequence, rule-choice, rule-star, rule-parallel, rule-guard, choice-over, parallel-over, call, RuleSet, domain-size, sizes-of, label, process, attributes}
 use Rattle.eb3.specs.Spelling.{number-words, data-words, cond-words, arguments-words, words}
@@ -123,7 +122,7 @@ module _ (t T : List ℕ) (n m i : ℕ) (σ : List ℕ) (R : RuleSet) (ready : R
     behind = ap (λ k. last-of k t) m-long ∙ last-behind t u (c ∷ []) n e
 
     -- a part of it, behind some words
-    part-of : (E : RuleTerm) (v rest : List ℕ) → u ≡ v ++ (rule-words 1 E ++ rest) → allowed edition-1 R i Γ E → Unfolds t T (length (rule-words 1 E ++ rest)) i σ (unfolded-words R i E σ) rest
+    part-of : (E : RuleTerm) (v rest : List ℕ) → u ≡ v ++ (rule-words 1 E ++ rest) → allowed R i Γ E → Unfolds t T (length (rule-words 1 E ++ rest)) i σ (unfolded-words R i E σ) rest
     part-of E v rest f a = record {
       rules = R;
       domains = Γ;
@@ -133,7 +132,7 @@ module _ (t T : List ℕ) (n m i : ℕ) (σ : List ℕ) (R : RuleSet) (ready : R
       same-words = refl;
     }
 
-    joins : (k : ℕ) (Δ : List ℕ) (E F : RuleTerm) (ws rest : List ℕ) → length Δ ≡ k → u ≡ Δ ++ (rule-words 1 E ++ (rule-words 1 F ++ rest)) → allowed edition-1 R i Γ E → allowed edition-1 R i Γ F
+    joins : (k : ℕ) (Δ : List ℕ) (E F : RuleTerm) (ws rest : List ℕ) → length Δ ≡ k → u ≡ Δ ++ (rule-words 1 E ++ (rule-words 1 F ++ rest)) → allowed R i Γ E → allowed R i Γ F
         → ws ≡ c ∷ (Δ ++ (unfolded-words R i E σ ++ unfolded-words R i F σ)) → Joins t T m i σ c k ws rest
     joins k Δ E F ws rest l f a b g =
         let two = rule-words 1 E ++ (rule-words 1 F ++ rest) in
@@ -157,7 +156,7 @@ module _ (t T : List ℕ) (n m i : ℕ) (σ : List ℕ) (R : RuleSet) (ready : R
           };
         }
 
-    stars : (E : RuleTerm) (ws rest : List ℕ) → u ≡ rule-words 1 E ++ rest → allowed edition-1 R i Γ E → ws ≡ 24 ∷ unfolded-words R i E σ → Stars t T m i σ ws rest
+    stars : (E : RuleTerm) (ws rest : List ℕ) → u ≡ rule-words 1 E ++ rest → allowed R i Γ E → ws ≡ 24 ∷ unfolded-words R i E σ → Stars t T m i σ ws rest
     stars E ws rest f a g = record {
       front = 24 ∷ [];
       back = unfolded-words R i E σ;
@@ -167,7 +166,7 @@ module _ (t T : List ℕ) (n m i : ℕ) (σ : List ℕ) (R : RuleSet) (ready : R
       joined = g;
     }
 
-    guards : (C : Cond) (E : RuleTerm) (ws rest : List ℕ) → u ≡ cond-words 1 C ++ (rule-words 1 E ++ rest) → cond-in-scope C (guard-scope (attributes R) (length Γ)) → allowed edition-1 R i Γ E
+    guards : (C : Cond) (E : RuleTerm) (ws rest : List ℕ) → u ≡ cond-words 1 C ++ (rule-words 1 E ++ rest) → cond-in-scope C (guard-scope (attributes R) (length Γ)) → allowed R i Γ E
         → ws ≡ 26 ∷ (cond-words 1 (instantiate-cond C σ) ++ unfolded-words R i E σ) → Guards t T m i σ ws rest
     unfolding expression-words instantiate
     guards C E ws rest f h a g = record {
@@ -218,7 +217,7 @@ module _ (t T : List ℕ) (n m i : ℕ) (σ : List ℕ) (R : RuleSet) (ready : R
         }
 
     -- w is the words of a quantifier's term and those behind it
-    module _ (E : RuleTerm) (d k : ℕ) (Δ rest : List ℕ) (l : length Δ ≡ k) (f : u ≡ d ∷ (Δ ++ (rule-words 1 E ++ rest))) (defined : d < length (R .domains)) (free : length Γ < 8) (a : allowed edition-1 R i (Γ ++ (d ∷ [])) E) where
+    module _ (E : RuleTerm) (d k : ℕ) (Δ rest : List ℕ) (l : length Δ ≡ k) (f : u ≡ d ∷ (Δ ++ (rule-words 1 E ++ rest))) (defined : d < length (R .domains)) (free : length Γ < 8) (a : allowed R i (Γ ++ (d ∷ [])) E) where
       abbrev w : List ℕ
       w = rule-words 1 E ++ rest
 
@@ -334,7 +333,7 @@ module _ (t T : List ℕ) (n i : ℕ) (σ ws rest : List ℕ) where
   coded c u e s = subst (λ k. Shape t T (length (last-of n t) - 1) i σ k ws rest) (sym (ap (λ z. getD z 0 0) e)) s
 
   module _ (R : RuleSet) (ready : Ready t T R) (there : i ≤ length (R .processes)) (Γ : List ℕ) (values : Within (sizes-of R Γ) σ) (few : length Γ ≤ 8) where
-    shape-of : (E : RuleTerm) → allowed edition-1 R i Γ E → last-of n t ≡ rule-words 1 E ++ rest → ws ≡ unfolded-words R i E σ → Shape t T (length (last-of n t) - 1) i σ (getD (last-of n t) 0 0) ws rest
+    shape-of : (E : RuleTerm) → allowed R i Γ E → last-of n t ≡ rule-words 1 E ++ rest → ws ≡ unfolded-words R i E σ → Shape t T (length (last-of n t) - 1) i σ (getD (last-of n t) 0 0) ws rest
     unfolding rule-words unfold-term words
     shape-of rule-internal a e g = coded 20 rest e (record { same-words = g; same-left = omega (arith, ap length e) })
     shape-of (rule-perform l rs) a e g = coded 21 _ e (performs t T n _ i σ R ready there Γ values few refl 21 _ e l rs ws rest refl (a .0) (a .1) g)

@@ -7,7 +7,6 @@ use Prim.Native.Nat.{ℕ, _+_, _*_, _/_, _%_, _≤_, _<_}
 use lib.Dec.{leb}
 use lib.ListN.{length, take, drop}
 use Rattle.eb3.specs.Generic.Lists.{Within}
-use Rattle.eb3.specs.Limits.{edition-1}
 use Rattle.eb3.specs.RuleSets.{RuleTerm, RuleSet, sizes-of}
 use Rattle.eb3.specs.RuleSpelling.{rule-words}
 use Rattle.eb3.specs.Spelling.{words}
@@ -20,14 +19,14 @@ use Rattle.declarations.specs.Directory.{ProcessRows}
 
 -- The stream t and the tables T say of a rule set what its terms are unfolded by.
 pub record Ready (t T : List ℕ) (R : RuleSet) : Type 0 where
-  pub form : Form edition-1 R
+  pub form : Form R
   pub declares : Declares T R
   pub processes : ProcessRows t T 0 (R .processes)
 
 -- Where n words of t are left stands a term of process i; its variables have the domains Γ and the values σ.
 pub record RuleTermAt (t : List ℕ) (n : ℕ) (R : RuleSet) (i : ℕ) (Γ σ : List ℕ) (E : RuleTerm) (rest : List ℕ) : Type 0 where
   pub process-there : i ≤ length (R .processes)
-  pub fits : allowed edition-1 R i Γ E
+  pub fits : allowed R i Γ E
   pub values : Within (sizes-of R Γ) σ
   pub few : length Γ ≤ 8
   pub spelled : last-of n t ≡ rule-words 1 E ++ rest

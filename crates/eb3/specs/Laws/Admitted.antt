@@ -7,14 +7,12 @@ use lib.Dec.{T, leb, leb→le}
 use lib.ListN.{length, getD, replicate, length-append, length-replicate}
 use Rattle.eb3.specs.Generic.Booleans.{T-fst, T-snd}
 use Rattle.eb3.specs.Generic.Positions.{Enumeration}
-use Rattle.eb3.specs.Values.{AtMost}
 use Rattle.eb3.specs.Terms.{Term}
 use Rattle.eb3.specs.Derivations.{DataState}
-use Rattle.eb3.specs.Attributes.{AttributeFunction, number-of-functions, attribute-value, value-at}
+use Rattle.eb3.specs.Attributes.{AttributeFunction, number-of-functions, value-at}
 use Rattle.eb3.specs.Laws.Attributes.{value-empty, value-last, value-at-most}
 use Rattle.eb3.specs.Expressions.{Undefined, no-reading, environment, evaluate-data}
 use Rattle.eb3.specs.Semantics.{Situation, situation, system}
-use Rattle.eb3.specs.Limits.{edition-1}
 use Rattle.eb3.specs.RuleSets.{RuleSet, label, main-process, attributes}
 use Rattle.eb3.specs.Laws.RuleSets.{functions-counted, function-is}
 use Rattle.eb3.specs.Unfolding.{unfold-main}
@@ -32,36 +30,37 @@ use Rattle.eb3.specs.RuleSpelling.{stream-words}
 use Rattle.eb3.specs.Blocks.{content-words, block-count, stream}
 use Rattle.eb3.specs.Answers.{answered}
 use Rattle.eb3.specs.Admission.{admission}
-use Rattle.eb3.specs.Laws.Admission.{blocks-there, stream-length, admitted, admitted-whole}
+use Rattle.eb3.specs.Laws.Admission.{blocks-there, stream-length, admitted}
 use Rattle.eb3.specs.Admitted.{concluded-source, Admitted}
+use Rattle.eb3.specs.Laws.Editions.{form-proper, only-edition-1}
 
-module _ (rules : List ℕ) (R : RuleSet) (a : admission edition-1 rules ≡ answered R) where
-  good : WellFormed edition-1 R
-  good = admitted edition-1 (omega arith) (omega arith) rules R a .0
+module _ (rules : List ℕ) (R : RuleSet) (a : admission rules ≡ answered R) where
+  good : WellFormed R
+  good = admitted rules R a .good
 
   -- The count of zeros is what is left of the blocks.
   used : ℕ
-  used = length (stream-words edition-1 (block-count rules) R)
+  used = length (stream-words (block-count rules) R)
 
   abbrev Ends : ℕ → Type 0
-  Ends n = (n < content-words) × (stream rules ≡ stream-words edition-1 (block-count rules) R ++ replicate n 0)
+  Ends n = (n < content-words) × (stream rules ≡ stream-words (block-count rules) R ++ replicate n 0)
 
   whole : length (stream rules) ≡ content-words * block-count rules
-  whole = stream-length edition-1 rules (admitted-whole edition-1 (omega arith) (omega arith) rules R a)
+  whole = stream-length rules (admitted rules R a .whole)
 
   counted : (n : ℕ) → Ends n → (n ≡ content-words * block-count rules - used) × (used ≤ content-words * block-count rules)
   unfolding used
   counted n e =
-      let l : length (stream rules) ≡ used + n = ap length (e .1) ∙ (length-append (stream-words edition-1 (block-count rules) R) (replicate n 0) ∙ ap (λ m. used + m) (length-replicate {A = ℕ} n 0)) in
+      let l : length (stream rules) ≡ used + n = ap length (e .1) ∙ (length-append (stream-words (block-count rules) R) (replicate n 0) ∙ ap (λ m. used + m) (length-replicate {A = ℕ} n 0)) in
       (omega (arith, whole), omega (arith, whole))
 
   some-block : 1 ≤ block-count rules
-  some-block = blocks-there edition-1 rules (admitted-whole edition-1 (omega arith) (omega arith) rules R a)
+  some-block = blocks-there rules (admitted rules R a .whole)
 
   -- Main as it runs is the unfolding of the call of main.
   main-derived : (S : DataState) (M : S .State) → Enumeration (SourceDerivation R S M (s-call (main-process R) [])) SourceEarlier concluded-source (system S .transitions (situation (unfold-main R) M))
-  main-derived S M = subst (λ (E : Term). Enumeration (SourceDerivation R S M (s-call (main-process R) [])) SourceEarlier concluded-source (system S .transitions (situation E M))) (main-call edition-1 R (good .form))
-      (main-enumeration edition-1 R (good .form) S M)
+  main-derived S M = subst (λ (E : Term). Enumeration (SourceDerivation R S M (s-call (main-process R) [])) SourceEarlier concluded-source (system S .transitions (situation E M))) (main-call R (good .form))
+      (main-enumeration R (good .form) S M)
 
   module _ (f : ℕ) (defined : f < length (R .functions)) where
     there : f < number-of-functions (attributes R)
@@ -70,22 +69,22 @@ module _ (rules : List ℕ) (R : RuleSet) (a : admission edition-1 rules ≡ ans
   pub admitted-facts : Admitted rules R
   unfolding used
   admitted-facts =
-      let t = admitted edition-1 (omega arith) (omega arith) rules R a .1 in
+      let t = admitted rules R a .spelled in
       let c = counted (t .0) (t .1, t .2) in
       record {
         well-formed = good;
-        spelled = subst (λ n. stream rules ≡ stream-words edition-1 (block-count rules) R ++ replicate n 0) (c .0) (t .2);
+        of-edition-1 = only-edition-1 (R .edition) (good .form .defined);
+        spelled = subst (λ n. stream rules ≡ stream-words (block-count rules) R ++ replicate n 0) (c .0) (t .2);
         in-last-block = (omega (arith, c, t .1, some-block), c .1);
-        starts = main-running edition-1 R (omega arith) good;
+        starts = main-running R good;
         main-derived = main-derived;
-        measured = main-answers edition-1 65536 (omega arith) (omega arith) R (omega (arith, ap (λ (m : Measure). m .reach) (main-sat 65536 R), good .reach-limit)) (omega (arith, ap (λ (m : Measure). m .breadth) (main-sat 65536 R), good .breadth-limit));
-        value-empty = λ f d xs. value-empty (attributes R) (λ l. length (label R l)) (expressions-in-scope edition-1 R (good .form)) f (there f d) xs
-            ∙ ap (λ (F : AttributeFunction). evaluate-data (F .at-start) (environment (R .top) xs (value-at (attributes R) []) no-reading)) (function-is R f d);
-        value-last = λ f d xs e H. value-last (attributes R) (λ l. length (label R l)) (expressions-in-scope edition-1 R (good .form)) f (there f d) xs e H
-            ∙ ap (λ (F : AttributeFunction). evaluate-data (getD (F .at-label) (e .label) Undefined) (environment (R .top) (xs ++ e .arguments) (value-at (attributes R) (e ∷ H)) (value-at (attributes R) H))) (function-is R f d);
-        value-bounded = λ f d H w xs h. subst (λ n. AtMost n (attribute-value (attributes R) H f xs)) (good .form .top-is)
-            (value-at-most (attributes R) (λ l. length (label R l)) (expressions-in-scope edition-1 R (good .form)) (parameters-small edition-1 R (good .form) (omega arith)) H
-            (trace-small edition-1 R (good .form) (omega arith) H w) f (there f d) xs h);
-        term-accepted = given-term-exact edition-1 R (omega (arith, good .form .width-is));
-        event-accepted = given-event-exact R (omega (arith, good .form .width-is));
+        measured = main-answers 65536 (omega arith) (omega arith) R (omega (arith, ap (λ (m : Measure). m .reach) (main-sat 65536 R), good .reach-limit)) (omega (arith, ap (λ (m : Measure). m .breadth) (main-sat 65536 R), good .breadth-limit));
+        value-empty = λ f d xs. value-empty (attributes R) (λ l. length (label R l)) (expressions-in-scope R (good .form)) f (there f d) xs
+            ∙ ap (λ (F : AttributeFunction). evaluate-data (F .at-start) (environment (R .edition .top) xs (value-at (attributes R) []) no-reading)) (function-is R f d);
+        value-last = λ f d xs e H. value-last (attributes R) (λ l. length (label R l)) (expressions-in-scope R (good .form)) f (there f d) xs e H
+            ∙ ap (λ (F : AttributeFunction). evaluate-data (getD (F .at-label) (e .label) Undefined) (environment (R .edition .top) (xs ++ e .arguments) (value-at (attributes R) (e ∷ H)) (value-at (attributes R) H))) (function-is R f d);
+        value-bounded = λ f d H w xs h. value-at-most (attributes R) (λ l. length (label R l)) (expressions-in-scope R (good .form)) (parameters-small R (good .form)) H
+            (trace-small R (good .form) H w) f (there f d) xs h;
+        term-accepted = given-term-exact R (form-proper (good .form) .constants .0);
+        event-accepted = given-event-exact R (form-proper (good .form) .constants .0);
       }

@@ -1,5 +1,5 @@
--- A rule set of edition 1 has at most 1,024 cells: at most 16 functions, each with one parameter of at most 64 elements (document 01, "Blocks and the
--- rule stream", items 2 and 4).
+-- A rule set has at most 1,024 cells: at most 16 functions, each with one parameter of at most 64 elements (document 01, "Blocks and the rule stream",
+-- items 2 and 4).
 use mathlib.Core.Path.{_≡_, ap, sym, _∙_, subst}
 use mathlib.Core.List.{List, [], _∷_, map}
 use Prim.Native.Nat.{ℕ, zero, suc, _+_, _*_, _≤_, _<_}
@@ -10,13 +10,16 @@ use Rattle.eb3.specs.Attributes.{domain, number-of-functions}
 use Rattle.eb3.specs.Laws.Attributes.{no-domain-beyond}
 use Rattle.eb3.specs.Scopes.{arities}
 use Rattle.eb3.specs.Cells.{cell-count, offset, total-cells}
-use Rattle.eb3.specs.Limits.{edition-1}
 use Rattle.eb3.specs.RuleSets.{RuleSet, domain-size, sizes-of, function-rule, attributes}
 use Rattle.eb3.specs.Laws.RuleSets.{functions-counted, domain-is}
 use Rattle.eb3.specs.Laws.Elements.{small-domain}
 use Rattle.eb3.specs.WellFormedness.{Form}
+use Rattle.eb3.specs.Laws.Editions.{parameters-are-1}
 
-module _ (R : RuleSet) (form : Form edition-1 R) where
+module _ (R : RuleSet) (form : Form R) where
+  pub one-parameter-count : (f : ℕ) → f < length (R .functions) → (1 ≤ length (function-rule R f .parameters)) × (length (function-rule R f .parameters) ≤ 1)
+  one-parameter-count f h = (form .function-forms f h .parameter-count .0, omega (arith, parameters-are-1 form, form .function-forms f h .parameter-count .1))
+
   -- A function that is not there counts as one of one parameter.
   pub one-arity : (f : ℕ) → arities (attributes R) f ≡ 1
   one-arity f = go (decLt f (length (R .functions)))
@@ -24,15 +27,15 @@ module _ (R : RuleSet) (form : Form edition-1 R) where
       go : Dec (f < length (R .functions)) → arities (attributes R) f ≡ 1
       go (yes h) =
           let c = form .function-forms f h .parameter-count in
-          let l : length (function-rule R f .parameters) ≡ 1 = omega arith in
+          let l : length (function-rule R f .parameters) ≡ 1 = omega (arith, parameters-are-1 form) in
           ap length (domain-is R f h) ∙ length-map (function-rule R f .parameters) (domain-size R) ∙ l
       go (no h) = ap length (no-domain-beyond (attributes R) f (omega (arith, functions-counted R)))
 
-  few-cells : (ds : List ℕ) → (1 ≤ length ds) × (length ds ≤ 1) → cell-count (sizes-of R ds) ≤ 64
+  few-cells : (ds : List ℕ) → (1 ≤ length ds) × (length ds ≤ R .edition .function-parameters) → cell-count (sizes-of R ds) ≤ 64
   unfolding cell-count
   few-cells [] h = let z : ⊥ = omega (arith, h .0) in absurd z
   few-cells (d ∷ []) h = omega (arith, small-domain R form d)
-  few-cells (d ∷ e ∷ ds) h = let z : ⊥ = omega (arith, h .1) in absurd z
+  few-cells (d ∷ e ∷ ds) h = let z : ⊥ = omega (arith, h .1, parameters-are-1 form) in absurd z
 
   function-cells : (f : ℕ) → cell-count (domain (attributes R) f) ≤ 64
   unfolding cell-count

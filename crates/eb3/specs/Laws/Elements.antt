@@ -6,10 +6,10 @@ use Prim.Native.Nat.{ℕ, zero, suc, _≤_, _<_}
 use native.Mathlib.Omega.{arith}
 use native.Mathlib.Decide.{decLt}
 use lib.ListN.{length, getD, length-map, List·getD-eq-default}
+use Rattle.eb3.specs.Limits
 use Rattle.eb3.specs.Generic.Lists.{Within}
 use Rattle.eb3.specs.Generic.AllLists.{All}
 use Rattle.eb3.specs.Terms.{VisibleAction, visible}
-use Rattle.eb3.specs.Limits.{Limits, edition-1}
 use Rattle.eb3.specs.RuleSets.{Argument, constant-argument, variable-argument, RuleSet, domain-size, sizes-of, label}
 use Rattle.eb3.specs.Unfolding.{argument-value}
 use Rattle.eb3.specs.WellFormedness.{well-formed-action, argument-fits, arguments-fit, Form}
@@ -52,19 +52,19 @@ module _ (R : RuleSet) where
     arguments-within (d ∷ ds) [] h = absurd h
     arguments-within (d ∷ ds) (r ∷ rs) h = (argument-within d r (h .0), arguments-within ds rs (h .1))
 
--- ── below the edition's limit ──
+-- ── below the limit ──
 
 -- A domain that is not there has no element.
-pub domain-limited : (L : Limits) (R : RuleSet) → Form L R → (d : ℕ) → domain-size R d ≤ L .domain-size
-domain-limited L R form d = go (decLt d (length (R .domains)))
+pub domain-limited : (R : RuleSet) → Form R → (d : ℕ) → domain-size R d ≤ Limits.domain-size
+domain-limited R form d = go (decLt d (length (R .domains)))
   where
-    go : Dec (d < length (R .domains)) → domain-size R d ≤ L .domain-size
+    go : Dec (d < length (R .domains)) → domain-size R d ≤ Limits.domain-size
     go (yes h) = form .domain-sizes d h .1
     go (no h) = let k : length (R .domains) ≤ d = omega arith in omega (arith, List·getD-eq-default (R .domains) 0 k)
 
-module _ (R : RuleSet) (form : Form edition-1 R) where
+module _ (R : RuleSet) (form : Form R) where
   pub small-domain : (d : ℕ) → domain-size R d ≤ 64
-  small-domain d = domain-limited edition-1 R form d
+  small-domain d = domain-limited R form d
 
   pub within-small : (ds xs : List ℕ) → Within (sizes-of R ds) xs → All (λ x. x < 64) xs
   within-small [] [] h = tt

@@ -7,17 +7,20 @@ use native.Mathlib.Omega.{arith}
 use lib.Dec.{T, eqb, leb, ltb, eqb-refl, le→leb, lt→ltb}
 use lib.ListN.{length, take, drop, getD, replicate, length-append, length-drop, length-replicate, take-append-drop, drop-of-length-le}
 use lib.Seq.{take-at, drop-at, length-take-le}
+use Rattle.eb3.specs.Limits
 use Rattle.eb3.specs.Generic.Booleans.{T-and}
 use Rattle.eb3.specs.Sizes.{reach, breadth}
-use Rattle.eb3.specs.Limits.{Limits, edition-1}
+use Rattle.eb3.specs.Editions.{Edition, edition-of, Defined}
+use Rattle.eb3.specs.Laws.Editions.{edition-proper}
+use Rattle.eb3.specs.Refusal
 use Rattle.eb3.specs.RuleSets.{RuleSet}
 use Rattle.eb3.specs.Unfolding.{unfold-main}
 use Rattle.eb3.specs.WellFormedness.{WellFormed}
 use Rattle.eb3.specs.RuleSpelling.{rules-words, stream-words}
 use Rattle.eb3.specs.RuleReading.{read-rules}
 use Rattle.eb3.specs.Bytes.{words-in, bytes-of}
-use Rattle.eb3.specs.Answers.{answered, and-then}
-use Rattle.eb3.specs.Blocks.{Sums, add-byte, sums-from, block-bytes, content-bytes, content-words, content, block-right, blocks-right, contents, block-count, stream, whole-blocks, edition-right, open-blocks}
+use Rattle.eb3.specs.Answers.{Answer, answered, and-then, or-refused}
+use Rattle.eb3.specs.Blocks.{Sums, add-byte, sums-from, block-bytes, content-bytes, content-words, content, block-right, blocks-right, contents, block-count, stream, whole-blocks, edition-in, Opened, open-blocks}
 use Rattle.eb3.specs.Files.{block-sums, block-of, blocks-from, words-used, blocks-needed, file-of}
 use Rattle.eb3.specs.Admission.{all-zero, ends-right, ended, within-limits, admission}
 use Rattle.eb3.specs.Laws.Bytes.{bytes-length, bytes-back}
@@ -96,9 +99,9 @@ blocks-contents i (suc n) bytes l =
 -- ── the stream ──
 
 -- The blocks of words us behind the edition and the number of blocks.
-module _ (n : ℕ) (us : List ℕ) (small : Small us) (l : 2 + length us ≡ content-words * n) (few : n ≤ 64) where
+module _ (L : Edition) (defined : Defined L) (n : ℕ) (us : List ℕ) (small : Small us) (l : 2 + length us ≡ content-words * n) (few : n ≤ 64) where
   abbrev all-words : List ℕ
-  all-words = 1 ∷ n ∷ us
+  all-words = L .number ∷ n ∷ us
 
   abbrev file : List ℕ
   file = blocks-from 0 n (bytes-of all-words)
@@ -115,27 +118,31 @@ module _ (n : ℕ) (us : List ℕ) (small : Small us) (l : 2 + length us ≡ con
   file-stream : stream file ≡ all-words
   file-stream =
       ap (λ m. words-in (contents m file)) file-blocks
-      ∙ (ap words-in (blocks-contents 0 n (bytes-of all-words) bytes-fill) ∙ bytes-back all-words (omega arith, (omega arith, small)))
+      ∙ (ap words-in (blocks-contents 0 n (bytes-of all-words) bytes-fill) ∙ bytes-back all-words (edition-proper L defined .numbered .1, (omega arith, small)))
 
-  file-opens : open-blocks edition-1 file ≡ answered us
-  unfolding open-blocks
+  edition-there : edition-in file ≡ answered L
+  unfolding edition-in
+  edition-there =
+      pick-true _ _ (eqb (getD (stream file) 1 0) (block-count file)) (eq→eqb (getD (stream file) 1 0) (block-count file) (ap (λ s. getD s 1 0) file-stream ∙ sym file-blocks))
+      ∙ ap (or-refused Refusal.edition) (ap (λ s. edition-of (getD s 0 0)) file-stream ∙ defined)
+
+  abbrev reopened : List ℕ → Answer Opened
+  reopened s = answered (record { edition = L; words = drop 2 s })
+
+  file-opens : open-blocks file ≡ answered (record { edition = L; words = us })
+  unfolding open-blocks and-then
   file-opens =
-      pick-true _ _ (whole-blocks edition-1 file) whole
+      pick-true _ _ (whole-blocks file) whole
       ∙ (pick-true _ _ (blocks-right 0 (block-count file) file) right
-      ∙ (pick-true _ _ (edition-right edition-1 file) edition ∙ ap (λ s. answered (drop 2 s)) file-stream))
+      ∙ (ap (λ a. and-then a λ L. answered (record { edition = L; words = drop 2 (stream file) })) edition-there ∙ ap reopened file-stream))
     where
-      whole : T (whole-blocks edition-1 file)
+      whole : T (whole-blocks file)
       whole =
           T-and (eqb (length file % block-bytes) 0) _ (eq→eqb (length file % block-bytes) 0 (omega (arith, file-length)))
           (T-and (leb 1 (block-count file)) (leb (block-count file) 64) (le→leb 1 (block-count file) (omega (arith, file-blocks))) (le→leb (block-count file) 64 (omega (arith, file-blocks))))
 
       right : T (blocks-right 0 (block-count file) file)
       right = subst (λ m. T (blocks-right 0 m file)) (sym file-blocks) (blocks-good 0 n (bytes-of all-words) bytes-fill (omega arith))
-
-      edition : T (edition-right edition-1 file)
-      edition =
-          T-and (eqb (getD (stream file) 0 0) 1) _ (eq→eqb (getD (stream file) 0 0) 1 (ap (λ s. getD s 0 0) file-stream))
-          (eq→eqb (getD (stream file) 1 0) (block-count file) (ap (λ s. getD s 1 0) file-stream ∙ sym file-blocks))
 
 -- ── admission ──
 
@@ -152,21 +159,21 @@ zeros-small : (m : ℕ) → Small (replicate m 0)
 zeros-small zero = tt
 zeros-small (suc m) = (omega arith, zeros-small m)
 
-rules-end : (R : RuleSet) (m : ℕ) → WellFormed edition-1 R → m < content-words → ended (read-rules edition-1 (rules-words R ++ replicate m 0)) ≡ answered R
+rules-end : (R : RuleSet) (m : ℕ) → WellFormed R → m < content-words → ended (read-rules (R .edition) (rules-words R ++ replicate m 0)) ≡ answered R
 unfolding ended
-rules-end R m w h = ap ended (rules-takes edition-1 (omega arith) refl (omega arith) R (replicate m 0) (w .form)) ∙ pick-true _ _ (ends-right (replicate m 0)) (ends-good m h)
+rules-end R m w h = ap ended (rules-takes (R .edition) R (replicate m 0) (w .form, refl)) ∙ pick-true _ _ (ends-right (replicate m 0)) (ends-good m h)
 
-limits-kept : (R : RuleSet) → WellFormed edition-1 R → within-limits edition-1 R ≡ answered R
+limits-kept : (R : RuleSet) → WellFormed R → within-limits R ≡ answered R
 unfolding within-limits
 limits-kept R w =
-    pick-true _ _ (leb (reach (R .width) (unfold-main R)) (edition-1 .reach)) (le→leb (reach (R .width) (unfold-main R)) (edition-1 .reach) (w .reach-limit))
-    ∙ pick-true _ _ (leb (breadth (unfold-main R)) (edition-1 .breadth)) (le→leb (breadth (unfold-main R)) (edition-1 .breadth) (w .breadth-limit))
+    (pick-true _ _ (leb (reach (R .edition .width) (unfold-main R)) Limits.reach) (le→leb (reach (R .edition .width) (unfold-main R)) Limits.reach (w .reach-limit))
+    ∙ pick-true _ _ (leb (breadth (unfold-main R)) Limits.breadth) (le→leb (breadth (unfold-main R)) Limits.breadth (w .breadth-limit)))
 
-pub file-admitted : (R : RuleSet) → WellFormed edition-1 R → blocks-needed R ≤ 64 → admission edition-1 (file-of edition-1 R) ≡ answered R
+pub file-admitted : (R : RuleSet) → WellFormed R → blocks-needed R ≤ 64 → admission (file-of R) ≡ answered R
 unfolding admission file-of stream-words and-then
 file-admitted R w few =
-    ap (λ r. and-then (and-then r λ words. ended (read-rules edition-1 words)) (within-limits edition-1)) opens
-    ∙ (ap (λ r. and-then r (within-limits edition-1)) (rules-end R unused w (omega arith)) ∙ limits-kept R w)
+    ap (λ r. and-then (and-then r λ o. ended (read-rules (o .edition) (o .words))) within-limits) opens
+    ∙ (ap (λ r. and-then r within-limits) (rules-end R unused w (omega arith)) ∙ limits-kept R w)
   where
     unused : ℕ
     unused = content-words * blocks-needed R - words-used R
@@ -174,8 +181,8 @@ file-admitted R w few =
     filled : 2 + length (rules-words R ++ replicate unused 0) ≡ content-words * blocks-needed R
     filled = omega (arith, length-append (rules-words R) (replicate unused 0), length-replicate {A = ℕ} unused 0)
 
-    opens : open-blocks edition-1 (file-of edition-1 R) ≡ answered (rules-words R ++ replicate unused 0)
-    opens = file-opens (blocks-needed R) (rules-words R ++ replicate unused 0) (small-append (rules-words R) (replicate unused 0) (rules-small R (w .form)) (zeros-small unused)) filled few
+    opens : open-blocks (file-of R) ≡ answered (record { edition = R .edition; words = rules-words R ++ replicate unused 0 })
+    opens = file-opens (R .edition) (w .form .defined) (blocks-needed R) (rules-words R ++ replicate unused 0) (small-append (rules-words R) (replicate unused 0) (rules-small R (w .form)) (zeros-small unused)) filled few
 
 -- ── bytes ──
 
@@ -215,6 +222,6 @@ blocks-small i (suc n) s p =
     (all-append (bytes-of (i ∷ [])) _ (bytes-small (i ∷ [])) (h .0, (h .1, all-take content-bytes s p))) (blocks-small (suc i) n (drop content-bytes s) (all-drop content-bytes s p))
 
 -- A file is made of bytes.
-pub file-bytes : (L : Limits) (R : RuleSet) → Bytes (file-of L R)
+pub file-bytes : (R : RuleSet) → Bytes (file-of R)
 unfolding file-of
-file-bytes L R = blocks-small 0 (blocks-needed R) _ (bytes-small _)
+file-bytes R = blocks-small 0 (blocks-needed R) _ (bytes-small _)

@@ -11,12 +11,12 @@ use Rattle.eb3.specs.Generic.Lists.{Within}
 use Rattle.eb3.specs.Expressions.{Data, Undefined, Constant, Variable, Add, Subtract, If, Now, Before, Args, Nil, Cons, Cond, Equal, Less, And, Or, Not, True}
 use Rattle.eb3.specs.Terms.{Term, Done, Choice, Parallel}
 use Rattle.eb3.specs.Scopes.{Scope, data-in-scope, args-in-scope, cond-in-scope, guard-scope}
-use Rattle.eb3.specs.Limits.{Limits}
 use Rattle.eb3.specs.RuleSets.{RuleTerm, rule-internal, rule-perform, rule-sequence, rule-choice, rule-star, rule-parallel, rule-guard, choice-over, parallel-over, call, RuleSet, domain-size, sizes-of, label, process, main-process, attributes}
 use Rattle.eb3.specs.Unfolding.{Valuation, argument-value, instantiate-data, instantiate-args, instantiate-cond, unfold-term, unfold-below, unfold-main}
 use Rattle.eb3.specs.Laws.Unfolding.{right-nest-keeps}
 use Rattle.eb3.specs.Laws.Elements.{within-more, within-at, arguments-within, domain-limited}
 use Rattle.eb3.specs.WellFormedness.{well-formed, Running, allowed, Form, WellFormed}
+use Rattle.eb3.specs.Laws.Editions.{form-proper}
 
 -- With constants for its variables, a guard's condition needs none.
 module _ (P : Scope) (σ : Valuation) (small : (i : ℕ) → i < P .variables → getD σ i 0 ≤ P .top) where
@@ -48,10 +48,10 @@ module _ (P : Scope) (σ : Valuation) (small : (i : ℕ) → i < P .variables �
     cond-instantiated (Not c) w = cond-instantiated c w
     cond-instantiated True w = tt
 
-module _ (L : Limits) (R : RuleSet) where
-  module _ (small : (d : ℕ) → domain-size R d ≤ suc (R .top)) where
+module _ (R : RuleSet) where
+  module _ (small : (d : ℕ) → domain-size R d ≤ suc (R .edition .top)) where
     module _ (i : ℕ) (callee : ℕ → Valuation → Term) (callee-well-formed : (p : ℕ) → p < i → (vs : Valuation) → Within (sizes-of R (process R p .parameters)) vs → well-formed R (callee p vs)) where
-      pub unfold-well-formed : (E : RuleTerm) (Γ : List ℕ) → allowed L R i Γ E → (σ : Valuation) → Within (sizes-of R Γ) σ → well-formed R (unfold-term R callee E σ)
+      pub unfold-well-formed : (E : RuleTerm) (Γ : List ℕ) → allowed R i Γ E → (σ : Valuation) → Within (sizes-of R Γ) σ → well-formed R (unfold-term R callee E σ)
       unfolding unfold-term
       unfold-well-formed rule-internal Γ h σ w = tt
       unfold-well-formed (rule-perform l rs) Γ h σ w = (h .0, arguments-within R Γ σ w (label R l) rs (h .1))
@@ -71,7 +71,7 @@ module _ (L : Limits) (R : RuleSet) where
     either-well-formed true E F h k = h tt
     either-well-formed false E F h k = k (λ t. t)
 
-    pub below-well-formed : (i : ℕ) → ((p : ℕ) → p < i → allowed L R p (process R p .parameters) (process R p .term))
+    pub below-well-formed : (i : ℕ) → ((p : ℕ) → p < i → allowed R p (process R p .parameters) (process R p .term))
         → (p : ℕ) → p < i → (vs : Valuation) → Within (sizes-of R (process R p .parameters)) vs → well-formed R (unfold-below R i p vs)
     unfolding unfold-below
     below-well-formed zero a p h vs w = let z : ⊥ = omega arith in absurd z
@@ -86,16 +86,16 @@ module _ (L : Limits) (R : RuleSet) where
         apart (no e) n = omega arith
 
 -- Elements of domains are numbers.
-pub small-domains : (L : Limits) (R : RuleSet) → L .domain-size ≤ suc (L .top) → Form L R → (d : ℕ) → domain-size R d ≤ suc (R .top)
-small-domains L R fits w d = omega (arith, domain-limited L R w d, w .top-is)
+pub small-domains : (R : RuleSet) → Form R → (d : ℕ) → domain-size R d ≤ suc (R .edition .top)
+small-domains R w d = omega (arith, domain-limited R w d, form-proper w .largest .0)
 
-pub main-running : (L : Limits) (R : RuleSet) → L .domain-size ≤ suc (L .top) → WellFormed L R → Running L R (unfold-main R)
+pub main-running : (R : RuleSet) → WellFormed R → Running R (unfold-main R)
 unfolding unfold-main
-main-running L R fits w =
+main-running R w =
     let last : suc (main-process R) ≤ length (R .processes) = omega (arith, w .form .process-count .0) in
     record {
-      form = unfold-well-formed L R (small-domains L R fits (w .form)) (main-process R) (unfold-below R (main-process R))
-          (below-well-formed L R (small-domains L R fits (w .form)) (main-process R) (λ p l. w .form .process-terms p (omega arith)))
+      form = unfold-well-formed R (small-domains R (w .form)) (main-process R) (unfold-below R (main-process R))
+          (below-well-formed R (small-domains R (w .form)) (main-process R) (λ p l. w .form .process-terms p (omega arith)))
           (process R (main-process R) .term) (process R (main-process R) .parameters) (w .form .process-terms (main-process R) last) []
           (subst (λ ds. Within (sizes-of R ds) []) (sym (w .form .main-parameters)) tt);
       reach-limit = w .reach-limit;

@@ -3,7 +3,7 @@ use mathlib.Core.Path.{_≡_, refl, ap, sym, _∙_, subst}
 use mathlib.Core.Bool.{Bool, _&&_}
 use mathlib.Core.List.{List, _++_}
 use mathlib.Core.Option.{Option, some}
-use Prim.Native.Nat.{ℕ, _+_, _*_, _%_, _^_, _≤_, _<_}
+use Prim.Native.Nat.{ℕ, _+_, _*_, _%_, _≤_}
 use native.Mathlib.Omega.{arith}
 use lib.Dec.{T, eqb, leb, le→leb, eqb-refl}
 use lib.ListN.{length, replicate, take}
@@ -12,10 +12,9 @@ use Rattle.eb3.specs.Refusal
 use Rattle.eb3.specs.Terms.{Term}
 use Rattle.eb3.specs.Attributes.{Trace, number-of-functions}
 use Rattle.eb3.specs.Cells.{total-cells, all-values}
-use Rattle.eb3.specs.Laws.Cells.{length-values, values-at-most, ValuesAtMost}
+use Rattle.eb3.specs.Laws.Cells.{length-values, values-at-most}
 use Rattle.eb3.specs.Semantics.{Sem-T}
 use Rattle.eb3.specs.Sizes.{size, reach}
-use Rattle.eb3.specs.Limits.{Limits, edition-1}
 use Rattle.eb3.specs.RuleSets.{RuleSet, label, attributes}
 use Rattle.eb3.specs.Laws.RuleSets.{functions-counted}
 use Rattle.eb3.specs.WellFormedness.{well-formed, well-formed-trace, Running, Form, WellFormed}
@@ -31,32 +30,29 @@ use Rattle.eb3.specs.Laws.Bytes.{bytes-length, bytes-back, written-cut}
 use Rattle.eb3.specs.Memory.{cell-room, memory-words}
 use Rattle.eb3.specs.Laws.Memory.{memory-length, cells-back}
 use Rattle.eb3.specs.Answers.{Answer, refused, answered}
-use Rattle.eb3.specs.Operations.{or-refused, even, term-in, cells-given, cells-needed, main-reach, term-fits, memory-fits}
+use Rattle.eb3.specs.Operations.{even, term-in, cells-given, cells-needed, main-reach, term-fits, memory-fits}
+use Rattle.eb3.specs.Answers.{or-refused}
+use Rattle.eb3.specs.Laws.Editions.{form-proper}
 
-module _ (R : RuleSet) (good : Form edition-1 R) where
-  pub one-word : R .width ≡ 1
-  one-word = good .width-is
-
-  pub spelling-small : (E : Term) → well-formed R E → Small (words (R .width) E)
+module _ (R : RuleSet) (good : Form R) where
+  pub spelling-small : (E : Term) → well-formed R E → Small (words (R .edition .width) E)
   spelling-small E w =
-      let top-small : R .top < 65536 ^ R .width = subst (λ n. R .top < 65536 ^ n) (sym one-word) (omega (arith, good .top-is)) in
-      words-small R top-small (omega (arith, functions-counted R, good .function-count)) (omega (arith, good .label-count .1)) (small-domains edition-1 R (omega arith) good) E w
+      words-small R (form-proper good .constants .1) (omega (arith, functions-counted R, good .function-count)) (omega (arith, good .label-count .1)) (small-domains R good) E w
 
   -- A running term's words, as bytes, are given as that term.
-  pub term-back : (E : Term) → Running edition-1 R E → term-in edition-1 R (bytes-of (words (R .width) E)) ≡ answered E
+  pub term-back : (E : Term) → Running R E → term-in R (bytes-of (words (R .edition .width) E)) ≡ answered E
   term-back E w =
-      let s = bytes-of (words (R .width) E) in
-      let twice : length s % 2 ≡ 0 = omega (arith, bytes-length (words (R .width) E)) in
-      pick-true _ _ (even s) (subst (λ n. T (eqb n 0)) (sym twice) tt) ∙ ap (or-refused Refusal.term) (given-term-exact edition-1 R (omega (arith, one-word)) (words-in s) E .1 (bytes-back (words (R .width) E) (spelling-small E (w .form)), w))
+      let s = bytes-of (words (R .edition .width) E) in
+      let twice : length s % 2 ≡ 0 = omega (arith, bytes-length (words (R .edition .width) E)) in
+      pick-true _ _ (even s) (subst (λ n. T (eqb n 0)) (sym twice) tt) ∙ ap (or-refused Refusal.term) (given-term-exact R (form-proper good .constants .0) (words-in s) E .1 (bytes-back (words (R .edition .width) E) (spelling-small E (w .form)), w))
 
   -- So is a term buffer cut to the term that was written in front.
-  pub cut-back : (E : Term) (vs buffer : List ℕ) → Running edition-1 R E → term-in edition-1 R (take (2 * size (R .width) E) (written (words (R .width) E ++ vs) buffer)) ≡ answered E
+  pub cut-back : (E : Term) (vs buffer : List ℕ) → Running R E → term-in R (take (2 * size (R .edition .width) E) (written (words (R .edition .width) E ++ vs) buffer)) ≡ answered E
   cut-back E vs buffer w =
-      ap (λ n. term-in edition-1 R (take (2 * n) (written (words (R .width) E ++ vs) buffer))) (sym (words-length R E (w .form)))
-      ∙ (ap (term-in edition-1 R) (written-cut (words (R .width) E) vs buffer) ∙ term-back E w)
+      ap (λ n. term-in R (take (2 * n) (written (words (R .edition .width) E ++ vs) buffer))) (sym (words-length R E (w .form)))
+      ∙ (ap (term-in R) (written-cut (words (R .edition .width) E) vs buffer) ∙ term-back E w)
 
   -- A memory of the values over a trace is given as those values.
-  pub values-back : (H : Trace) (memory : List ℕ) → well-formed-trace R H → cells-given edition-1 R (written (memory-words edition-1 (all-values (attributes R) H)) memory) ≡ all-values (attributes R) H
-  values-back H memory w = cells-back edition-1 (omega arith) (omega arith) (cells-needed R) (all-values (attributes R) H) memory (length-values (attributes R) H)
-      (subst (λ n. ValuesAtMost n (all-values (attributes R) H)) (good .top-is)
-      (values-at-most (attributes R) (λ l. length (label R l)) (expressions-in-scope edition-1 R good) (parameters-small edition-1 R good (omega arith)) H (trace-small edition-1 R good (omega arith) H w)))
+  pub values-back : (H : Trace) (memory : List ℕ) → well-formed-trace R H → cells-given R (written (memory-words (all-values (attributes R) H)) memory) ≡ all-values (attributes R) H
+  values-back H memory w = cells-back (R .edition .top) (form-proper good .largest .1) (cells-needed R) (all-values (attributes R) H) memory (length-values (attributes R) H)
+      (values-at-most (attributes R) (λ l. length (label R l)) (expressions-in-scope R good) (parameters-small R good) H (trace-small R good H w))

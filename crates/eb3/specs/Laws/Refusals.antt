@@ -2,28 +2,34 @@
 use mathlib.Core.Path.{_≡_, refl, ap, sym, _∙_, subst}
 use mathlib.Core.Bool.{Bool, true, false}
 use mathlib.Core.List.{List, [], _∷_, _++_}
-use Prim.Native.Nat.{ℕ, zero, suc, _+_, _*_, _-_, _^_, _≤_, min}
-use native.Mathlib.Omega.{arith}
-use lib.Dec.{eqb, ltb, leb}
+use Prim.Native.Nat.{ℕ, zero, suc, _+_, _*_, _-_, _^_, min}
+use mathlib.Core.Option.{Option, none, some}
+use lib.Dec.{T, eqb, ltb, leb}
 use lib.ListN.{length, getD}
+use Rattle.eb3.specs.Limits
 use Rattle.eb3.specs.Refusal
+use Rattle.eb3.specs.Generic.Lists.{one-of, all-of, one-of-more}
 use Rattle.eb3.specs.Expressions.{Data}
 use Rattle.eb3.specs.Scopes.{Scope, guard-scope}
 use Rattle.eb3.specs.Sizes.{reach, breadth}
-use Rattle.eb3.specs.Limits.{Limits}
+use Rattle.eb3.specs.Editions.{Edition, edition-of}
 use Rattle.eb3.specs.RuleSets.{RuleTerm, RuleSet, domain-size, label, process, attributes}
 use Rattle.eb3.specs.Unfolding.{unfold-main}
 use Rattle.eb3.specs.Reading.{Read, refused, taken, Reader, pick, giving, then, both, number-of, by-number, count-of, repeat, counted, for-each, series, number-in}
 use Rattle.eb3.specs.ExpressionReading.{DataKind, CondKind, data-kind, cond-kind, constant-of, args-of, Readers, data-by, cond-by, data-step, cond-step, readers, read-data, read-cond}
 use Rattle.eb3.specs.TermReading.{mask-of}
 use Rattle.eb3.specs.RuleReading.{read-domains, read-labels, read-parameter-counts, count-for, at-start-scope, at-label-scope, function-from, read-function, read-functions, argument-of, arguments-of, rule-action-of, call-of, choice-over-of, parallel-over-of, RuleKind, rule-kind, rule-by, rule-step, rule-terms, read-rule-term, parameter-limit, read-process, with-process, read-processes, without-processes, read-rules}
-use Rattle.eb3.specs.Answers.{Answer, and-then}
+use Rattle.eb3.specs.Answers.{Answer, and-then, or-refused}
 use Rattle.eb3.specs.Laws.Answers.{not-both, refused-injective}
-use Rattle.eb3.specs.Blocks.{block-count, whole-blocks, blocks-right, edition-right, open-blocks}
+use Rattle.eb3.specs.Blocks.{block-count, whole-blocks, blocks-right, edition-in, stream, open-blocks}
 use Rattle.eb3.specs.Admission.{ends-right, ended, within-limits, admission}
 
+-- What the readers of the stream refuse with.
+abbrev of-stream : List ℕ
+of-stream = 4 ∷ 5 ∷ 6 ∷ []
+
 abbrev OfStream : ℕ → Type 0
-OfStream k = (4 ≤ k) × (k ≤ 6)
+OfStream k = T (one-of of-stream k)
 
 abbrev pub Refuses : {A : Type 0} → Read A → Type 0
 Refuses (refused k) = OfStream k
@@ -33,13 +39,16 @@ abbrev pub AllRefuse : {A : Type 0} → Reader A → Type 0
 AllRefuse f = (t : List ℕ) → Refuses (f t)
 
 by-form : OfStream Refusal.form
-by-form = (omega arith, omega arith)
+unfolding one-of
+by-form = tt
 
 by-reference : OfStream Refusal.reference
-by-reference = (omega arith, omega arith)
+unfolding one-of
+by-reference = tt
 
 by-kind : OfStream Refusal.kind
-by-kind = (omega arith, omega arith)
+unfolding one-of
+by-kind = tt
 
 picked : {A : Type 0} (P : A → Type 0) (b : Bool) (x y : A) → P x → P y → P (pick b x y)
 picked P true x y p q = p
@@ -169,7 +178,7 @@ module _ (R : RuleSet) where
   argument-refuses Γ d [] = by-form
   argument-refuses Γ d (c ∷ t) =
       picked Refuses (eqb c 1) _ _
-      (then-refuses _ (λ v u. picked Refuses (leb v (R .top)) _ _ (picked Refuses (ltb v (domain-size R d)) _ _ tt by-kind) by-form) (number-in (R .width) t) (number-in-refuses (R .width) t))
+      (then-refuses _ (λ v u. picked Refuses (leb v (R .edition .top)) _ _ (picked Refuses (ltb v (domain-size R d)) _ _ tt by-kind) by-form) (number-in (R .edition .width) t) (number-in-refuses (R .edition .width) t))
       (picked Refuses (eqb c 2) _ _ (by-number-refuses (length Γ) _ (λ i u. picked Refuses (eqb (getD Γ i 0) d) _ _ tt by-kind) t) by-form)
 
   arguments-refuse : (Γ ds : List ℕ) → AllRefuse (arguments-of R Γ ds)
@@ -186,22 +195,22 @@ module _ (R : RuleSet) where
     rule-by-refuses RuleKind.star t = giving-refuses _ (e Γ t) (h Γ t)
     rule-by-refuses RuleKind.parallel t = giving-refuses _ (both (mask-of 4 (length (R .labels))) (both (e Γ) (e Γ)) t)
         (both-refuses (mask-of 4 (length (R .labels))) (both (e Γ) (e Γ)) (mask-refuses 4 (length (R .labels))) (both-refuses (e Γ) (e Γ) (h Γ) (h Γ)) t)
-    rule-by-refuses RuleKind.guard t = giving-refuses _ (both (read-cond (R .width) (guard-scope (attributes R) (length Γ))) (e Γ) t)
-        (both-refuses (read-cond (R .width) (guard-scope (attributes R) (length Γ))) (e Γ) (cond-refuses (R .width) (guard-scope (attributes R) (length Γ))) (h Γ) t)
+    rule-by-refuses RuleKind.guard t = giving-refuses _ (both (read-cond (R .edition .width) (guard-scope (attributes R) (length Γ))) (e Γ) t)
+        (both-refuses (read-cond (R .edition .width) (guard-scope (attributes R) (length Γ))) (e Γ) (cond-refuses (R .edition .width) (guard-scope (attributes R) (length Γ))) (h Γ) t)
     rule-by-refuses RuleKind.choice-quantifier t = by-number-refuses (length (R .domains)) _ (λ d u. giving-refuses _ (e (Γ ++ (d ∷ [])) u) (h (Γ ++ (d ∷ [])) u)) t
     rule-by-refuses RuleKind.parallel-quantifier t = by-number-refuses (length (R .domains)) _ (λ d u. giving-refuses _ (both (mask-of 4 (length (R .labels))) (e (Γ ++ (d ∷ []))) u)
         (both-refuses (mask-of 4 (length (R .labels))) (e (Γ ++ (d ∷ []))) (mask-refuses 4 (length (R .labels))) (h (Γ ++ (d ∷ []))) u)) t
     rule-by-refuses RuleKind.process-call t = by-number-refuses (length (R .processes)) _ (λ p u. giving-refuses _ (arguments-of R Γ (process R p .parameters) u) (arguments-refuse Γ (process R p .parameters) u)) t
     rule-by-refuses RuleKind.wrong t = by-form
 
-  rule-terms-refuse : (L : Limits) (n : ℕ) (Γ : List ℕ) → AllRefuse (rule-terms L R n Γ)
+  rule-terms-refuse : (n : ℕ) (Γ : List ℕ) → AllRefuse (rule-terms R n Γ)
   unfolding rule-terms
-  rule-terms-refuse L zero Γ t = by-form
-  rule-terms-refuse L (suc n) Γ [] = by-form
-  rule-terms-refuse L (suc n) Γ (c ∷ t) = rule-by-refuses (rule-terms L R n) (rule-terms-refuse L n) Γ (rule-kind L Γ c) t
+  rule-terms-refuse zero Γ t = by-form
+  rule-terms-refuse (suc n) Γ [] = by-form
+  rule-terms-refuse (suc n) Γ (c ∷ t) = rule-by-refuses (rule-terms R n) (rule-terms-refuse n) Γ (rule-kind Γ c) t
 
 -- The sections.
-module _ (L : Limits) where
+module _ (L : Edition) where
   function-refuses : (domains : ℕ) (labels : List (List ℕ)) (counts : List ℕ) (i : ℕ) → AllRefuse (read-function L domains labels counts i)
   unfolding read-function
   function-refuses domains labels counts i t = giving-refuses function-from _ (both-refuses (repeat (count-for counts i) (number-of Refusal.reference domains)) _
@@ -211,54 +220,64 @@ module _ (L : Limits) where
 
   functions-refuse : (domains : ℕ) (labels : List (List ℕ)) → AllRefuse (read-functions L domains labels)
   unfolding read-functions read-parameter-counts
-  functions-refuse domains labels t = then-refuses _ (λ n u. then-refuses _ (λ counts. series-refuses n 0 (read-function L domains labels counts) (function-refuses domains labels counts)) (read-parameter-counts n u) tt)
-      (count-of 0 (L .functions) t) (count-refuses 0 (L .functions) t)
+  functions-refuse domains labels t = then-refuses _ (λ n u. then-refuses _ (λ counts. series-refuses n 0 (read-function L domains labels counts) (function-refuses domains labels counts)) (read-parameter-counts L n u) (picked Refuses (L .counts-written) _ _ (repeat-refuses n (count-of 1 (L .function-parameters)) (count-refuses 1 (L .function-parameters)) u) tt))
+      (count-of 0 Limits.functions t) (count-refuses 0 Limits.functions t)
 
-  process-refuses : (R : RuleSet) (limit : ℕ) → AllRefuse (read-process L R limit)
+  process-refuses : (R : RuleSet) (limit : ℕ) → AllRefuse (read-process R limit)
   unfolding read-process read-rule-term
-  process-refuses R limit t = then-refuses _ (λ ds u. giving-refuses _ (read-rule-term L R ds u) (rule-terms-refuse R L (length u) ds u))
+  process-refuses R limit t = then-refuses _ (λ ds u. giving-refuses _ (read-rule-term R ds u) (rule-terms-refuse R (length u) ds u))
       (counted 0 limit (number-of Refusal.reference (length (R .domains))) t) (counted-refuses 0 limit (number-of Refusal.reference (length (R .domains))) (number-refuses Refusal.reference (length (R .domains)) by-reference) t)
 
-  processes-refuse : (n : ℕ) (R : RuleSet) → AllRefuse (read-processes L n R)
+  processes-refuse : (n : ℕ) (R : RuleSet) → AllRefuse (read-processes n R)
   unfolding read-processes
   processes-refuse zero R t = tt
-  processes-refuse (suc n) R t = then-refuses _ (λ P. processes-refuse n (with-process R P)) (read-process L R (parameter-limit L n) t) (process-refuses R (parameter-limit L n) t)
+  processes-refuse (suc n) R t = then-refuses _ (λ P. processes-refuse n (with-process R P)) (read-process R (parameter-limit n) t) (process-refuses R (parameter-limit n) t)
 
   pub rules-refuse : AllRefuse (read-rules L)
   unfolding read-rules
   rules-refuse t = then-refuses _ (λ domains t₁. then-refuses _ (λ labels t₂. then-refuses _ (λ functions t₃. then-refuses _ (λ n. processes-refuse n (without-processes L domains labels functions))
-      (count-of 1 (L .processes) t₃) (count-refuses 1 (L .processes) t₃))
+      (count-of 1 Limits.processes t₃) (count-refuses 1 Limits.processes t₃))
       (read-functions L (length domains) labels t₂) (functions-refuse (length domains) labels t₂))
-      (read-labels L (length domains) t₁) (counted-refuses 1 (L .labels) _ (counted-refuses 0 (L .label-parameters) (number-of Refusal.reference (length domains)) (number-refuses Refusal.reference (length domains) by-reference)) t₁))
-      (read-domains L t) (counted-refuses 1 (L .domains) (count-of 1 (L .domain-size)) (count-refuses 1 (L .domain-size)) t)
+      (read-labels (length domains) t₁) (counted-refuses 1 Limits.labels _ (counted-refuses 0 Limits.label-parameters (number-of Refusal.reference (length domains)) (number-refuses Refusal.reference (length domains) by-reference)) t₁))
+      (read-domains t) (counted-refuses 1 Limits.domains (count-of 1 Limits.domain-size) (count-refuses 1 Limits.domain-size) t)
 
 -- Admission.
-abbrev pub Within : {X : Type 0} → ℕ → ℕ → Answer X → Type 0
-Within lo hi (Answer.refused k) = (lo ≤ k) × (k ≤ hi)
-Within lo hi (Answer.answered x) = Unit
+abbrev pub Within : {X : Type 0} → List ℕ → Answer X → Type 0
+Within ks (Answer.refused k) = T (one-of ks k)
+Within ks (Answer.answered x) = Unit
 
-pub and-then-within : {X Y : Type 0} (lo hi : ℕ) (a : Answer X) (f : X → Answer Y) → Within lo hi a → ((x : X) → Within lo hi (f x)) → Within lo hi (and-then a f)
+pub and-then-within : {X Y : Type 0} (ks : List ℕ) (a : Answer X) (f : X → Answer Y) → Within ks a → ((x : X) → Within ks (f x)) → Within ks (and-then a f)
 unfolding and-then
-and-then-within lo hi (Answer.refused k) f h q = h
-and-then-within lo hi (Answer.answered x) f h q = q x
+and-then-within ks (Answer.refused k) f h q = h
+and-then-within ks (Answer.answered x) f h q = q x
 
-module _ (L : Limits) (rules : List ℕ) where
-  opened-within : Within 1 8 (open-blocks L rules)
-  unfolding open-blocks
-  opened-within = picked (Within 1 8) (whole-blocks L rules) _ _
-      (picked (Within 1 8) (blocks-right 0 (block-count rules) rules) _ _ (picked (Within 1 8) (edition-right L rules) _ _ tt (omega arith, omega arith)) (omega arith, omega arith)) (omega arith, omega arith)
+pub or-refused-within : {X : Type 0} (ks : List ℕ) (k : ℕ) (o : Option X) → T (one-of ks k) → Within ks (or-refused k o)
+or-refused-within ks k none h = h
+or-refused-within ks k (some x) h = tt
 
-  ended-within : (r : Read RuleSet) → Refuses r → Within 1 8 (ended r)
-  unfolding ended
-  ended-within (refused k) h = (omega (arith, h .0), omega (arith, h .1))
-  ended-within (taken R rest) h = picked (Within 1 8) (ends-right rest) _ _ tt (omega arith, omega arith)
+module _ (rules : List ℕ) where
+  abbrev OfAdmission : {X : Type 0} → Answer X → Type 0
+  OfAdmission a = Within Refusal.of-admission a
 
-  pub admission-within : Within 1 8 (admission L rules)
-  unfolding admission within-limits
-  admission-within = and-then-within 1 8 (and-then (open-blocks L rules) λ words. ended (read-rules L words)) (within-limits L)
-      (and-then-within 1 8 (open-blocks L rules) _ opened-within (λ words. ended-within (read-rules L words) (rules-refuse L words)))
-      (λ R. picked (Within 1 8) (leb (reach (R .width) (unfold-main R)) (L .reach)) _ _ (picked (Within 1 8) (leb (breadth (unfold-main R)) (L .breadth)) _ _ tt (omega arith, omega arith)) (omega arith, omega arith))
+  opened-within : OfAdmission (open-blocks rules)
+  unfolding open-blocks edition-in one-of
+  opened-within = picked OfAdmission (whole-blocks rules) _ _
+      (picked OfAdmission (blocks-right 0 (block-count rules) rules) _ _
+      (and-then-within Refusal.of-admission (edition-in rules) _
+      (picked OfAdmission (eqb (getD (stream rules) 1 0) (block-count rules)) _ _ (or-refused-within Refusal.of-admission Refusal.edition (edition-of (getD (stream rules) 0 0)) tt) tt)
+      (λ L. tt)) tt) tt
+
+  ended-within : (r : Read RuleSet) → Refuses r → OfAdmission (ended r)
+  unfolding ended one-of all-of
+  ended-within (refused k) h = one-of-more Refusal.of-admission of-stream tt k h
+  ended-within (taken R rest) h = picked OfAdmission (ends-right rest) _ _ tt tt
+
+  pub admission-within : Within Refusal.of-admission (admission rules)
+  unfolding admission within-limits one-of
+  admission-within = and-then-within Refusal.of-admission (and-then (open-blocks rules) λ o. ended (read-rules (o .edition) (o .words))) within-limits
+      (and-then-within Refusal.of-admission (open-blocks rules) _ opened-within (λ o. ended-within (read-rules (o .edition) (o .words)) (rules-refuse (o .edition) (o .words))))
+      (λ R. picked OfAdmission (leb (reach (R .edition .width) (unfold-main R)) Limits.reach) _ _ (picked OfAdmission (leb (breadth (unfold-main R)) Limits.breadth) _ _ tt tt) tt)
 
 -- What a property of refusals says of a refusal.
-pub refused-within : {X : Type 0} (lo hi : ℕ) (a : Answer X) → Within lo hi a → (k : ℕ) → a ≡ Answer.refused k → (lo ≤ k) × (k ≤ hi)
-refused-within lo hi a h k e = subst (Within lo hi) e h
+pub refused-within : {X : Type 0} (ks : List ℕ) (a : Answer X) → Within ks a → (k : ℕ) → a ≡ Answer.refused k → T (one-of ks k)
+refused-within ks a h k e = subst (Within ks) e h

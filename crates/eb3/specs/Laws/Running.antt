@@ -4,7 +4,7 @@ use mathlib.Core.Path.{_≡_, sym, subst}
 use mathlib.Core.Bool.{Bool}
 use mathlib.Core.List.{List, [], _∷_}
 use mathlib.Core.Option.{some}
-use Prim.Native.Nat.{ℕ, zero, suc, _≤_, _<_}
+use Prim.Native.Nat.{ℕ, zero, _<_}
 use native.Mathlib.Omega.{arith}
 use native.Mathlib.Decide.{decLt}
 use lib.ListN.{length, getD, getElem?, List·getD-eq-default}
@@ -25,8 +25,7 @@ use Rattle.eb3.specs.Laws.Semantics.{transition-derived, move-stepped}
 use Rattle.eb3.specs.Machines.{machine, history-run, memory-run}
 use Rattle.eb3.specs.Laws.Machines.{steps-keep, machines-agree}
 use Rattle.eb3.specs.Laws.Sizes.{reach-nonincreasing, breadth-nonincreasing}
-use Rattle.eb3.specs.Limits.{Limits}
-use Rattle.eb3.specs.RuleSets.{RuleSet, domain-size, sizes-of, label, function-rule, attributes}
+use Rattle.eb3.specs.RuleSets.{RuleSet, sizes-of, label, function-rule, attributes}
 use Rattle.eb3.specs.Laws.RuleSets.{functions-counted, function-is, domain-is}
 use Rattle.eb3.specs.WellFormedness.{well-formed, well-formed-action, well-formed-trace, Running, Form}
 use Rattle.eb3.specs.Laws.MainRunning.{small-domains}
@@ -63,24 +62,24 @@ module _ (R : RuleSet) {S : DataState} {M : S .State} where
   step-action (S-9-right h d) w = step-action d (w .2)
   step-action (S-10 h d) w = step-action d (w .1)
 
-module _ (L : Limits) (R : RuleSet) where
-  pub step-running : {S : DataState} {M M′ : S .State} {E E′ : Term} {ρ : Action} → Step S M E ρ E′ M′ → Running L R E → Running L R E′
+module _ (R : RuleSet) where
+  pub step-running : {S : DataState} {M M′ : S .State} {E E′ : Term} {ρ : Action} → Step S M E ρ E′ M′ → Running R E → Running R E′
   step-running d w = record {
     form = step-well-formed R d (w .form);
-    reach-limit = omega (arith, reach-nonincreasing (R .width) d, w .reach-limit);
+    reach-limit = omega (arith, reach-nonincreasing (R .edition .width) d, w .reach-limit);
     breadth-limit = omega (arith, breadth-nonincreasing d, w .breadth-limit);
   }
 
   -- Of every entry of the list of moves,
-  pub move-running : (g : Cond → Bool) (E : Term) (k : ℕ) (x : Move) → getElem? (moves g E) k ≡ some x → Running L R E → Running L R (x .successor)
+  pub move-running : (g : Cond → Bool) (E : Term) (k : ℕ) (x : Move) → getElem? (moves g E) k ≡ some x → Running R E → Running R (x .successor)
   move-running g E k x e w = step-running (move-stepped g E k x e) w
 
   pub move-action : (g : Cond → Bool) (E : Term) (k : ℕ) (x : Move) → getElem? (moves g E) k ≡ some x → well-formed R E → well-formed-action R (x .action)
   move-action g E k x e w = step-action R (move-stepped g E k x e) w
 
   -- and of the last term of every run.
-  pub run-running : (S : DataState) (c : machine S) (ks : List ℕ) → Running L R (c .state .term) → Running L R (run (system S) c ks .state .term)
-  run-running S c ks w = steps-keep S (Running L R) (λ M M′ E E′ ρ d h. step-running d h) c ks w
+  pub run-running : (S : DataState) (c : machine S) (ks : List ℕ) → Running R (c .state .term) → Running R (run (system S) c ks .state .term)
+  run-running S c ks w = steps-keep S (Running R) (λ M M′ E E′ ρ d h. step-running d h) c ks w
 
 -- The trace of a run has well-formed actions.
 module _ (R : RuleSet) where
@@ -105,7 +104,7 @@ module _ (R : RuleSet) where
   history-well-formed E ks w = run-keeps (system (Sem-T (attributes R))) Good kept _ ks (w, tt) .1
 
 -- A well-formed rule set's expressions stand in their scopes: so `value-empty` and `value-last` hold of it.
-module _ (L : Limits) (R : RuleSet) (good : Form L R) where
+module _ (R : RuleSet) (good : Form R) where
   pub expressions-in-scope : ExpressionsInScope (attributes R) (λ l. length (label R l))
   expressions-in-scope = record {
     at-start = λ f d. let h = there f d in
@@ -125,31 +124,30 @@ module _ (L : Limits) (R : RuleSet) (good : Form L R) where
           (subst (λ a. data-in-scope a (label-scope (attributes R) f (length (label R l))))
           (sym (List·getD-eq-default (function-rule R f .at-label) Undefined (omega (arith, good .function-forms f (there f d) .label-count)))) tt)
 
-  module _ (fits : L .domain-size ≤ suc (L .top)) where
-    pub elements-small : (ds xs : List ℕ) → Within (sizes-of R ds) xs → AllAtMost (R .top) xs
-    elements-small [] [] w = tt
-    elements-small [] (x ∷ xs) w = absurd w
-    elements-small (d ∷ ds) [] w = absurd w
-    elements-small (d ∷ ds) (x ∷ xs) w = (omega (arith, small-domains L R fits good d, w .0), elements-small ds xs (w .1))
+  pub elements-small : (ds xs : List ℕ) → Within (sizes-of R ds) xs → AllAtMost (R .edition .top) xs
+  elements-small [] [] w = tt
+  elements-small [] (x ∷ xs) w = absurd w
+  elements-small (d ∷ ds) [] w = absurd w
+  elements-small (d ∷ ds) (x ∷ xs) w = (omega (arith, small-domains R good d, w .0), elements-small ds xs (w .1))
 
-    pub parameters-small : (f : ℕ) (xs : List ℕ) → Within (domain (attributes R) f) xs → AllAtMost (R .top) xs
-    parameters-small f xs w = go (decLt f (number-of-functions (attributes R)))
-      where
-        none-there : (ys : List ℕ) → Within (zero ∷ []) ys → AllAtMost (R .top) ys
-        none-there [] v = absurd v
-        none-there (y ∷ ys) v = let z : ⊥ = omega (arith, v .0) in absurd z
+  pub parameters-small : (f : ℕ) (xs : List ℕ) → Within (domain (attributes R) f) xs → AllAtMost (R .edition .top) xs
+  parameters-small f xs w = go (decLt f (number-of-functions (attributes R)))
+    where
+      none-there : (ys : List ℕ) → Within (zero ∷ []) ys → AllAtMost (R .edition .top) ys
+      none-there [] v = absurd v
+      none-there (y ∷ ys) v = let z : ⊥ = omega (arith, v .0) in absurd z
 
-        go : Dec (f < number-of-functions (attributes R)) → AllAtMost (R .top) xs
-        go (yes d) = elements-small (function-rule R f .parameters) xs (subst (λ ns. Within ns xs) (domain-is R f (omega (arith, functions-counted R))) w)
-        go (no d) = none-there xs (subst (λ ns. Within ns xs) (no-domain-beyond (attributes R) f (omega arith)) w)
+      go : Dec (f < number-of-functions (attributes R)) → AllAtMost (R .edition .top) xs
+      go (yes d) = elements-small (function-rule R f .parameters) xs (subst (λ ns. Within ns xs) (domain-is R f (omega (arith, functions-counted R))) w)
+      go (no d) = none-there xs (subst (λ ns. Within ns xs) (no-domain-beyond (attributes R) f (omega arith)) w)
 
-    pub trace-small : (H : Trace) → well-formed-trace R H → TraceAtMost (R .top) H
-    trace-small [] h = tt
-    trace-small (a ∷ H) h = (elements-small (label R (a .label)) (a .arguments) (h .0 .1), trace-small H (h .1))
+  pub trace-small : (H : Trace) → well-formed-trace R H → TraceAtMost (R .edition .top) H
+  trace-small [] h = tt
+  trace-small (a ∷ H) h = (elements-small (label R (a .label)) (a .arguments) (h .0 .1), trace-small H (h .1))
 
-    -- Every cell of every run is at most the largest number.
-    pub run-cells-small : (E : Term) (ks : List ℕ) → well-formed R E → ValuesAtMost (R .top) (memory-run (attributes R) E ks .state .state)
-    run-cells-small E ks w =
-        let H : Trace = history-run (attributes R) E ks .state .state in
-        subst (ValuesAtMost (R .top)) (sym (machines-agree (attributes R) E ks .cells-are-values))
-        (values-at-most (attributes R) (λ l. length (label R l)) expressions-in-scope parameters-small H (trace-small H (history-well-formed R E ks w)))
+  -- Every cell of every run is at most the largest number.
+  pub run-cells-small : (E : Term) (ks : List ℕ) → well-formed R E → ValuesAtMost (R .edition .top) (memory-run (attributes R) E ks .state .state)
+  run-cells-small E ks w =
+      let H : Trace = history-run (attributes R) E ks .state .state in
+      subst (ValuesAtMost (R .edition .top)) (sym (machines-agree (attributes R) E ks .cells-are-values))
+      (values-at-most (attributes R) (λ l. length (label R l)) expressions-in-scope parameters-small H (trace-small H (history-well-formed R E ks w)))

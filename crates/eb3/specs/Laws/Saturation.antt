@@ -7,11 +7,11 @@ use native.Mathlib.Omega.{arith}
 use native.Mathlib.Nat.{mul-le-mul, mul-zero, mul-comm}
 use native.Mathlib.Decide.{decLe}
 use lib.Dec.{eqb}
+use Rattle.eb3.specs.Limits
 use Rattle.eb3.specs.Generic.Booleans.{cond-map}
 use Rattle.eb3.specs.Terms.{Term, Done, Internal, Perform, Sequence, Choice, Star, Parallel, Guard, Mask}
 use Rattle.eb3.specs.Sizes.{cond-size, size, reach, breadth, zero-mask}
 use Rattle.eb3.specs.Laws.Sizes.{size-below-reach}
-use Rattle.eb3.specs.Limits.{Limits}
 use Rattle.eb3.specs.RuleSets.{RuleTerm, rule-internal, rule-perform, rule-sequence, rule-choice, rule-star, rule-parallel, rule-guard, choice-over, parallel-over, call, RuleSet, domain-size, process, main-process}
 use Rattle.eb3.specs.Unfolding.{unfold-main}
 use Rattle.eb3.specs.Laws.Unfolding.{right-nest-map}
@@ -91,7 +91,7 @@ module _ (c : ℕ) where
     term-sat (rule-choice E F) = sym (choice-sat _ _) ∙ (λ j. choice-of (sat c) (term-sat E j) (term-sat F j))
     term-sat (rule-star E) = sym (star-sat _) ∙ (λ j. star-of (sat c) (term-sat E j))
     term-sat (rule-parallel k E F) = sym (parallel-sat k _ _) ∙ (λ j. parallel-of (sat c) k (term-sat E j) (term-sat F j))
-    term-sat (rule-guard C E) = sym (guard-sat (guard-size (R .width) C) _) ∙ (λ j. guard-of (sat c) (guard-size (R .width) C) (term-sat E j))
+    term-sat (rule-guard C E) = sym (guard-sat (guard-size (R .edition .width) C) _) ∙ (λ j. guard-of (sat c) (guard-size (R .edition .width) C) (term-sat E j))
     term-sat (choice-over d E) = right-nest-map (saturated c) (nothing whole) (nothing (sat c)) (choice-of whole) (choice-of (sat c)) refl (λ l r. sym (choice-sat l r)) (domain-size R d) _ _ (λ x. term-sat E)
     term-sat (parallel-over d k E) = right-nest-map (saturated c) (nothing whole) (nothing (sat c)) (parallel-of whole k) (parallel-of (sat c) k) refl (λ l r. sym (parallel-sat k l r)) (domain-size R d) _ _ (λ x. term-sat E)
     term-sat (call p rs) = alike p
@@ -105,7 +105,7 @@ module _ (c : ℕ) where
       ∙ sym (row-of-next (sat c) R i p))
 
   -- What is computed with saturation is the saturation of the unfolding's measures.
-  pub main-sat : (R : RuleSet) → measure-main (sat c) R ≡ saturated c (measure-of (R .width) (unfold-main R))
+  pub main-sat : (R : RuleSet) → measure-main (sat c) R ≡ saturated c (measure-of (R .edition .width) (unfold-main R))
   unfolding measure-main
   main-sat R = sym (ap (saturated c) (main-measure R) ∙ term-sat R (row-of (sat c) R (main-process R)) (row-of whole R (main-process R)) (table-sat R (main-process R)) (process R (main-process R) .term))
 
@@ -144,23 +144,23 @@ test-exact cap limit n h = ((λ l. omega arith), (λ l. omega arith))
 pub passed-exact : (cap limit n : ℕ) → limit < cap → sat cap n ≤ limit → sat cap n ≡ n
 passed-exact cap limit n h l = omega arith
 
-module _ (L : Limits) (cap : ℕ) (reach-below : L .reach < cap) (breadth-below : L .breadth < cap) where
+module _ (cap : ℕ) (reach-below : Limits.reach < cap) (breadth-below : Limits.breadth < cap) where
   -- Refusals 7 and 8 are decided on saturated numbers, for main and for a given term.
   pub main-tests : (R : RuleSet)
-      → (L .reach < measure-main (sat cap) R .reach ↔ L .reach < reach (R .width) (unfold-main R)) × (L .breadth < measure-main (sat cap) R .breadth ↔ L .breadth < breadth (unfold-main R))
+      → (Limits.reach < measure-main (sat cap) R .reach ↔ Limits.reach < reach (R .edition .width) (unfold-main R)) × (Limits.breadth < measure-main (sat cap) R .breadth ↔ Limits.breadth < breadth (unfold-main R))
   main-tests R =
-      let g : measure-main (sat cap) R .reach ≡ sat cap (reach (R .width) (unfold-main R)) = ap (λ (m : Measure). m .reach) (main-sat cap R) in
+      let g : measure-main (sat cap) R .reach ≡ sat cap (reach (R .edition .width) (unfold-main R)) = ap (λ (m : Measure). m .reach) (main-sat cap R) in
       let b : measure-main (sat cap) R .breadth ≡ sat cap (breadth (unfold-main R)) = ap (λ (m : Measure). m .breadth) (main-sat cap R) in
       (((λ l. omega arith), (λ l. omega arith)), ((λ l. omega arith), (λ l. omega arith)))
 
   pub term-tests : (w : ℕ) (E : Term)
-      → (L .reach < measure-running (sat cap) w E .reach ↔ L .reach < reach w E) × (L .breadth < measure-running (sat cap) w E .breadth ↔ L .breadth < breadth E)
+      → (Limits.reach < measure-running (sat cap) w E .reach ↔ Limits.reach < reach w E) × (Limits.breadth < measure-running (sat cap) w E .breadth ↔ Limits.breadth < breadth E)
   term-tests w E =
       let g : measure-running (sat cap) w E .reach ≡ sat cap (reach w E) = ap (λ (m : Measure). m .reach) (measure-running-sat cap w E) in
       let b : measure-running (sat cap) w E .breadth ≡ sat cap (breadth E) = ap (λ (m : Measure). m .breadth) (measure-running-sat cap w E) in
       (((λ l. omega arith), (λ l. omega arith)), ((λ l. omega arith), (λ l. omega arith)))
 
-  unsaturated : (w : ℕ) (E : Term) → reach w E ≤ L .reach → breadth E ≤ L .breadth → saturated cap (measure-of w E) ≡ measure-of w E
+  unsaturated : (w : ℕ) (E : Term) → reach w E ≤ Limits.reach → breadth E ≤ Limits.breadth → saturated cap (measure-of w E) ≡ measure-of w E
   unsaturated w E g b = λ j. record { size = s j; reach = r j; breadth = t j }
     where
       s : sat cap (size w E) ≡ size w E
@@ -173,9 +173,9 @@ module _ (L : Limits) (cap : ℕ) (reach-below : L .reach < cap) (breadth-below 
       t = omega arith
 
   -- Where the tests pass, the numbers answered are the true ones.
-  pub main-answers : (R : RuleSet) → measure-main (sat cap) R .reach ≤ L .reach → measure-main (sat cap) R .breadth ≤ L .breadth
-      → measure-main (sat cap) R ≡ measure-of (R .width) (unfold-main R)
-  main-answers R g b = main-sat cap R ∙ unsaturated (R .width) (unfold-main R) (not-above (main-tests R .0 .1) g) (not-above (main-tests R .1 .1) b)
+  pub main-answers : (R : RuleSet) → measure-main (sat cap) R .reach ≤ Limits.reach → measure-main (sat cap) R .breadth ≤ Limits.breadth
+      → measure-main (sat cap) R ≡ measure-of (R .edition .width) (unfold-main R)
+  main-answers R g b = main-sat cap R ∙ unsaturated (R .edition .width) (unfold-main R) (not-above (main-tests R .0 .1) g) (not-above (main-tests R .1 .1) b)
     where
       not-above : {m n limit : ℕ} → (limit < n → limit < m) → m ≤ limit → n ≤ limit
       not-above {m} {n} {limit} f h = go (decLe n limit)

@@ -11,7 +11,6 @@ use lib.Seq.{getD-append-seam}
 use Rattle.eb3.specs.Refusal
 use Rattle.eb3.specs.Scopes.{Scope, guard-scope}
 use Rattle.eb3.specs.Sizes.{arguments-size}
-use Rattle.eb3.specs.Limits.{Limits}
 use Rattle.eb3.specs.RuleSets.{Argument, RuleTerm, rule-internal, rule-perform, rule-sequence, rule-choice, rule-star, rule-parallel, rule-guard, choice-over, parallel-over, call, Process, RuleSet, domain-size, label, no-process, process, attributes}
 use Rattle.eb3.specs.Unfolding.{right-nest}
 use Rattle.eb3.specs.Measures.{Measure, nothing, leaf, sequence-of, choice-of, star-of, parallel-of, guard-of, guard-size, measure-term, table, row-of}
@@ -26,8 +25,8 @@ parameter-lists R = map (λ (P : Process). P .parameters) (R .processes)
 
 -- What stands before a process term, as far as reading it goes.
 pub record Alike (R Q : RuleSet) : Type 0 where
-  pub same-top : R .top ≡ Q .top
-  pub same-width : R .width ≡ Q .width
+  pub same-top : R .edition .top ≡ Q .edition .top
+  pub same-width : R .edition .width ≡ Q .edition .width
   pub same-domains : R .domains ≡ Q .domains
   pub same-labels : R .labels ≡ Q .labels
   pub same-guards : (n : ℕ) → guard-scope (attributes R) n ≡ guard-scope (attributes Q) n
@@ -91,18 +90,18 @@ module _ (R Q : RuleSet) (a : Alike R Q) where
     by-alike RuleKind.wrong = refl
     by-alike (RuleKind.pair k) = refl
 
-  terms-at : (L : Limits) (n : ℕ) (Γ s : List ℕ) → rule-terms L R n Γ s ≡ rule-terms L Q n Γ s
+  terms-at : (n : ℕ) (Γ s : List ℕ) → rule-terms R n Γ s ≡ rule-terms Q n Γ s
   unfolding rule-terms
-  terms-at L zero Γ s = refl
-  terms-at L (suc n) Γ [] = refl
-  terms-at L (suc n) Γ (c ∷ t) = by-alike (rule-terms L R n) Γ t (rule-kind L Γ c) ∙ (λ i. rule-by Q (λ Δ s. terms-at L n Δ s i) Γ (rule-kind L Γ c) t)
+  terms-at zero Γ s = refl
+  terms-at (suc n) Γ [] = refl
+  terms-at (suc n) Γ (c ∷ t) = by-alike (rule-terms R n) Γ t (rule-kind Γ c) ∙ (λ i. rule-by Q (λ Δ s. terms-at n Δ s i) Γ (rule-kind Γ c) t)
 
-  pub read-alike : (L : Limits) (Γ s : List ℕ) → read-rule-term L R Γ s ≡ read-rule-term L Q Γ s
+  pub read-alike : (Γ s : List ℕ) → read-rule-term R Γ s ≡ read-rule-term Q Γ s
   unfolding read-rule-term
-  read-alike L Γ s = terms-at L (length s) Γ s
+  read-alike Γ s = terms-at (length s) Γ s
 
 -- Measures look at the words of a constant and the domains only.
-module _ (cut : ℕ → ℕ) (R Q : RuleSet) (same-width : R .width ≡ Q .width) (same-domains : R .domains ≡ Q .domains) (callee : ℕ → Measure) where
+module _ (cut : ℕ → ℕ) (R Q : RuleSet) (same-width : R .edition .width ≡ Q .edition .width) (same-domains : R .domains ≡ Q .domains) (callee : ℕ → Measure) where
   pub measure-alike : (E : RuleTerm) → measure-term cut R callee E ≡ measure-term cut Q callee E
   unfolding measure-term
   measure-alike rule-internal = refl

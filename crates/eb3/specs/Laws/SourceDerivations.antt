@@ -18,7 +18,6 @@ use Rattle.eb3.specs.Terms.{Term, Action, VisibleAction, Mask, in-mask, 
 use Rattle.eb3.specs.Laws.Terms.{same-action-refl}
 use Rattle.eb3.specs.Derivations.{DataState, Step, S-3, S-10, Derivation, derivation}
 use Rattle.eb3.specs.Laws.Derivations.{no-step, only-internal, only-action, only-end, after-done, after-done-back, choose, chosen, chosen-choose, choose-chosen, first-part, first-done, first-done-part, round, rounded, rounded-round, round-rounded, open-guard, open-guard-back, part, unpart, unpart-part, part-unpart, Sides, agreed, Key, Key-set}
-use Rattle.eb3.specs.Limits.{Limits}
 use Rattle.eb3.specs.RuleSets.{RuleSet, process, main-process}
 use Rattle.eb3.specs.Unfolding.{Valuation, unfold-main}
 use Rattle.eb3.specs.Laws.Unfolding.{below-is}
@@ -362,10 +361,10 @@ module _ (R : RuleSet) (low : Lower R) (S : DataState) (M : S .State) where
   source-derivations s b = invertible (length (R .processes)) (omega arith) (calls-invertible (length (R .processes)) (omega arith)) s b
 
 -- Main as a call of the last process.
-module _ (L : Limits) (R : RuleSet) (good : Form L R) where
+module _ (R : RuleSet) (good : Form R) where
   pub main-call : unfold-source R (s-call (main-process R) []) ≡ unfold-main R
   unfolding unfold-main
   main-call = below-is R (length (R .processes)) (main-process R) (omega (arith, good .process-count .0)) []
 
-  pub main-derivations : (S : DataState) (M : S .State) → Invertible (forward R (well-formed-lower L R good) S M (s-call (main-process R) []))
-  main-derivations S M = source-derivations R (well-formed-lower L R good) S M (s-call (main-process R) []) (omega (arith, good .process-count .0))
+  pub main-derivations : (S : DataState) (M : S .State) → Invertible (forward R (well-formed-lower R good) S M (s-call (main-process R) []))
+  main-derivations S M = source-derivations R (well-formed-lower R good) S M (s-call (main-process R) []) (omega (arith, good .process-count .0))

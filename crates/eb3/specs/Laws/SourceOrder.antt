@@ -13,7 +13,6 @@ use Rattle.eb3.specs.Generic.PositionsAppend.{transfer}
 use Rattle.eb3.specs.Generic.Invertible.{Invertible}
 use Rattle.eb3.specs.Terms.{Term, Action}
 use Rattle.eb3.specs.Derivations.{DataState, Step, earlier, Earlier}
-use Rattle.eb3.specs.Limits.{Limits}
 use Rattle.eb3.specs.RuleSets.{RuleSet, process, main-process}
 use Rattle.eb3.specs.Unfolding.{Valuation}
 use Rattle.eb3.specs.WellFormedness.{Form}
@@ -118,6 +117,6 @@ module _ (R : RuleSet) (low : Lower R) (S : DataState) (M : S .State) where
         (λ x y. order-kept x y .0) (λ x y. order-kept x y .1))
 
 -- and of main, as a call of the last process.
-pub main-enumeration : (L : Limits) (R : RuleSet) (good : Form L R) (S : DataState) (M : S .State)
-    → Enumeration (SourceDerivation R S M (s-call (main-process R) [])) SourceEarlier (λ x. concluded (forward R (well-formed-lower L R good) S M (s-call (main-process R) []) x)) (system S .transitions (situation (unfold-source R (s-call (main-process R) [])) M))
-main-enumeration L R good S M = source-enumeration R (well-formed-lower L R good) S M (s-call (main-process R) []) (omega (arith, good .process-count .0))
+pub main-enumeration : (R : RuleSet) (good : Form R) (S : DataState) (M : S .State)
+    → Enumeration (SourceDerivation R S M (s-call (main-process R) [])) SourceEarlier (λ x. concluded (forward R (well-formed-lower R good) S M (s-call (main-process R) []) x)) (system S .transitions (situation (unfold-source R (s-call (main-process R) [])) M))
+main-enumeration R good S M = source-enumeration R (well-formed-lower R good) S M (s-call (main-process R) []) (omega (arith, good .process-count .0))

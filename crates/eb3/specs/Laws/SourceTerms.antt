@@ -9,7 +9,6 @@ use lib.Dec.{T}
 use lib.ListN.{length}
 use Rattle.eb3.specs.Terms.{Term, Done, Sequence, Choice, Star, Parallel, Guard, Action, done?}
 use Rattle.eb3.specs.Derivations.{DataState, Step, S-1, S-1′, S-2, S-3, S-4-left, S-4-right, S-5, S-6, S-7, S-8, S-9-left, S-9-right, S-10}
-use Rattle.eb3.specs.Limits.{Limits}
 use Rattle.eb3.specs.RuleSets.{RuleTerm, rule-internal, rule-perform, rule-sequence, rule-choice, rule-star, rule-parallel, rule-guard, choice-over, parallel-over, call, RuleSet, domain-size, process}
 use Rattle.eb3.specs.Unfolding.{Valuation, argument-value, instantiate-cond, right-nest, unfold-term, unfold-below, unfold-in}
 use Rattle.eb3.specs.Laws.Unfolding.{below-is, right-nest-map, right-nest-keeps}
@@ -32,20 +31,20 @@ lower R i (call p rs) = p < i
 abbrev pub Lower : RuleSet → Type 0
 Lower R = (p : ℕ) → p < length (R .processes) → lower R p (process R p .term)
 
-pub allowed-lower : (L : Limits) (R : RuleSet) → ((d : ℕ) → d < length (R .domains) → 1 ≤ domain-size R d) → (i : ℕ) (Γ : List ℕ) (E : RuleTerm) → allowed L R i Γ E → lower R i E
-allowed-lower L R h i Γ rule-internal a = tt
-allowed-lower L R h i Γ (rule-perform l rs) a = tt
-allowed-lower L R h i Γ (rule-sequence E F) a = (allowed-lower L R h i Γ E (a .0), allowed-lower L R h i Γ F (a .1))
-allowed-lower L R h i Γ (rule-choice E F) a = (allowed-lower L R h i Γ E (a .0), allowed-lower L R h i Γ F (a .1))
-allowed-lower L R h i Γ (rule-star E) a = allowed-lower L R h i Γ E a
-allowed-lower L R h i Γ (rule-parallel Δ E F) a = (allowed-lower L R h i Γ E (a .1), allowed-lower L R h i Γ F (a .2))
-allowed-lower L R h i Γ (rule-guard C E) a = allowed-lower L R h i Γ E (a .1)
-allowed-lower L R h i Γ (choice-over d E) a = (h d (a .0), allowed-lower L R h i (Γ ++ (d ∷ [])) E (a .2))
-allowed-lower L R h i Γ (parallel-over d Δ E) a = (h d (a .0), allowed-lower L R h i (Γ ++ (d ∷ [])) E (a .3))
-allowed-lower L R h i Γ (call p rs) a = a .0
+pub allowed-lower : (R : RuleSet) → ((d : ℕ) → d < length (R .domains) → 1 ≤ domain-size R d) → (i : ℕ) (Γ : List ℕ) (E : RuleTerm) → allowed R i Γ E → lower R i E
+allowed-lower R h i Γ rule-internal a = tt
+allowed-lower R h i Γ (rule-perform l rs) a = tt
+allowed-lower R h i Γ (rule-sequence E F) a = (allowed-lower R h i Γ E (a .0), allowed-lower R h i Γ F (a .1))
+allowed-lower R h i Γ (rule-choice E F) a = (allowed-lower R h i Γ E (a .0), allowed-lower R h i Γ F (a .1))
+allowed-lower R h i Γ (rule-star E) a = allowed-lower R h i Γ E a
+allowed-lower R h i Γ (rule-parallel Δ E F) a = (allowed-lower R h i Γ E (a .1), allowed-lower R h i Γ F (a .2))
+allowed-lower R h i Γ (rule-guard C E) a = allowed-lower R h i Γ E (a .1)
+allowed-lower R h i Γ (choice-over d E) a = (h d (a .0), allowed-lower R h i (Γ ++ (d ∷ [])) E (a .2))
+allowed-lower R h i Γ (parallel-over d Δ E) a = (h d (a .0), allowed-lower R h i (Γ ++ (d ∷ [])) E (a .3))
+allowed-lower R h i Γ (call p rs) a = a .0
 
-pub well-formed-lower : (L : Limits) (R : RuleSet) → Form L R → Lower R
-well-formed-lower L R w p l = allowed-lower L R (λ d h. w .domain-sizes d h .0) p (process R p .parameters) (process R p .term) (w .process-terms p l)
+pub well-formed-lower : (R : RuleSet) → Form R → Lower R
+well-formed-lower R w p l = allowed-lower R (λ d h. w .domain-sizes d h .0) p (process R p .parameters) (process R p .term) (w .process-terms p l)
 
 -- An unfolding is not done.
 nest-not-done : (join : Term → Term → Term) → ((E F : Term) → T (not (done? (join E F)))) → (n : ℕ) (copy : ℕ → Term) → 1 ≤ n → ((x : ℕ) → T (not (done? (copy x)))) → T (not (done? (right-nest Done join n copy)))

@@ -54,17 +54,17 @@ module _ (w : ℕ) where
   arguments-length [] = refl
   arguments-length (v ∷ vs) = omega (arith, length-append (number-words w v) (arguments-words w vs), number-length w v, arguments-length vs)
 
-pub words-length : (R : RuleSet) (E : Term) → well-formed R E → length (words (R .width) E) ≡ size (R .width) E
+pub words-length : (R : RuleSet) (E : Term) → well-formed R E → length (words (R .edition .width) E) ≡ size (R .edition .width) E
 unfolding words size
 words-length R Done h = refl
 words-length R Internal h = refl
-words-length R (Perform a) h = omega (arith, arguments-length (R .width) (a .arguments))
-words-length R (Sequence E F) h = omega (arith, length-append (words (R .width) E) (words (R .width) F), words-length R E (h .0), words-length R F (h .1))
-words-length R (Choice E F) h = omega (arith, length-append (words (R .width) E) (words (R .width) F), words-length R E (h .0), words-length R F (h .1))
+words-length R (Perform a) h = omega (arith, arguments-length (R .edition .width) (a .arguments))
+words-length R (Sequence E F) h = omega (arith, length-append (words (R .edition .width) E) (words (R .edition .width) F), words-length R E (h .0), words-length R F (h .1))
+words-length R (Choice E F) h = omega (arith, length-append (words (R .edition .width) E) (words (R .edition .width) F), words-length R E (h .0), words-length R F (h .1))
 words-length R (Star E) h = omega (arith, words-length R E h)
 words-length R (Parallel Δ E F) h =
-    omega (arith, h .0 .0, length-append Δ (words (R .width) E ++ words (R .width) F), length-append (words (R .width) E) (words (R .width) F), words-length R E (h .1), words-length R F (h .2))
-words-length R (Guard C E) h = omega (arith, length-append (cond-words (R .width) C) (words (R .width) E), cond-length (R .width) C, words-length R E (h .1))
+    omega (arith, h .0 .0, length-append Δ (words (R .edition .width) E ++ words (R .edition .width) F), length-append (words (R .edition .width) E) (words (R .edition .width) F), words-length R E (h .1), words-length R F (h .2))
+words-length R (Guard C E) h = omega (arith, length-append (cond-words (R .edition .width) C) (words (R .edition .width) E), cond-length (R .edition .width) C, words-length R E (h .1))
 
 -- Words of 16 bits.
 abbrev pub Small : List ℕ → Type 0
@@ -74,7 +74,7 @@ pub small-append : (us vs : List ℕ) → Small us → Small vs → Small (us ++
 small-append [] vs p q = q
 small-append (u ∷ us) vs p q = (p .0, small-append us vs (p .1) q)
 
-number-small : (w n : ℕ) → n < 65536 ^ w → Small (number-words w n)
+pub number-small : (w n : ℕ) → n < 65536 ^ w → Small (number-words w n)
 unfolding number-words
 number-small zero n h = tt
 number-small (suc zero) n h = (omega arith, tt)
@@ -118,28 +118,28 @@ mask-small n (w ∷ Δ) b =
     let p : 2 ^ min n 16 ≤ 2 ^ 16 = pow-le-pow-right o q in
     (omega (arith, b .0), mask-small (n - 16) Δ (b .1))
 
-module _ (R : RuleSet) (top-small : R .top < 65536 ^ R .width) (few-functions : number-of-functions (attributes R) ≤ 65536)
-    (few-labels : length (R .labels) ≤ 65536) (small-domains : (d : ℕ) → domain-size R d ≤ suc (R .top)) where
-  arguments-small : (ds vs : List ℕ) → Within (sizes-of R ds) vs → Small (arguments-words (R .width) vs)
+module _ (R : RuleSet) (top-small : R .edition .top < 65536 ^ R .edition .width) (few-functions : number-of-functions (attributes R) ≤ 65536)
+    (few-labels : length (R .labels) ≤ 65536) (small-domains : (d : ℕ) → domain-size R d ≤ suc (R .edition .top)) where
+  arguments-small : (ds vs : List ℕ) → Within (sizes-of R ds) vs → Small (arguments-words (R .edition .width) vs)
   unfolding arguments-words
   arguments-small [] [] h = tt
   arguments-small [] (v ∷ vs) h = absurd h
   arguments-small (d ∷ ds) [] h = absurd h
   arguments-small (d ∷ ds) (v ∷ vs) h =
-      (omega arith, small-append (number-words (R .width) v) _ (number-small (R .width) v (omega (arith, small-domains d, h .0))) (arguments-small ds vs (h .1)))
+      (omega arith, small-append (number-words (R .edition .width) v) _ (number-small (R .edition .width) v (omega (arith, small-domains d, h .0))) (arguments-small ds vs (h .1)))
 
-  pub words-small : (E : Term) → well-formed R E → Small (words (R .width) E)
+  pub words-small : (E : Term) → well-formed R E → Small (words (R .edition .width) E)
   unfolding words
   words-small Done h = (omega arith, tt)
   words-small Internal h = (omega arith, tt)
   words-small (Perform a) h = (omega arith, (omega (arith, h .0), arguments-small (label R (a .label)) (a .arguments) (h .1)))
-  words-small (Sequence E F) h = (omega arith, small-append (words (R .width) E) (words (R .width) F) (words-small E (h .0)) (words-small F (h .1)))
-  words-small (Choice E F) h = (omega arith, small-append (words (R .width) E) (words (R .width) F) (words-small E (h .0)) (words-small F (h .1)))
+  words-small (Sequence E F) h = (omega arith, small-append (words (R .edition .width) E) (words (R .edition .width) F) (words-small E (h .0)) (words-small F (h .1)))
+  words-small (Choice E F) h = (omega arith, small-append (words (R .edition .width) E) (words (R .edition .width) F) (words-small E (h .0)) (words-small F (h .1)))
   words-small (Star E) h = (omega arith, words-small E h)
   words-small (Parallel Δ E F) h = (
     omega arith,
-    small-append Δ (words (R .width) E ++ words (R .width) F) (mask-small (length (R .labels)) Δ (h .0 .1))
-        (small-append (words (R .width) E) (words (R .width) F) (words-small E (h .1)) (words-small F (h .2))),
+    small-append Δ (words (R .edition .width) E ++ words (R .edition .width) F) (mask-small (length (R .labels)) Δ (h .0 .1))
+        (small-append (words (R .edition .width) E) (words (R .edition .width) F) (words-small E (h .1)) (words-small F (h .2))),
   )
   words-small (Guard C E) h =
-      (omega arith, small-append (cond-words (R .width) C) (words (R .width) E) (cond-small (R .width) (guard-scope (attributes R) 0) (λ n l. number-small (R .width) n (omega arith)) few-functions (omega arith) (omega arith) C (h .0)) (words-small E (h .1)))
+      (omega arith, small-append (cond-words (R .edition .width) C) (words (R .edition .width) E) (cond-small (R .edition .width) (guard-scope (attributes R) 0) (λ n l. number-small (R .edition .width) n (omega arith)) few-functions (omega arith) (omega arith) C (h .0)) (words-small E (h .1)))

@@ -2,14 +2,12 @@
 use mathlib.Core.Path.{_≡_, refl, ap, sym, _∙_}
 use mathlib.Core.List.{List, [], _++_, append-nil}
 use Prim.Native.Nat.{ℕ, _*_}
-use native.Mathlib.Omega.{arith}
 use lib.ListN.{length, take}
 use Rattle.eb3.specs.Cells.{all-values}
 use Rattle.eb3.specs.Laws.Cells.{initial-values}
 use Rattle.eb3.specs.TransitionSystems.{run as machine-run}
 use Rattle.eb3.specs.Machines.{history-run}
 use Rattle.eb3.specs.Sizes.{size}
-use Rattle.eb3.specs.Limits.{edition-1}
 use Rattle.eb3.specs.RuleSets.{RuleSet, attributes}
 use Rattle.eb3.specs.Unfolding.{unfold-main}
 use Rattle.eb3.specs.WellFormedness.{WellFormed}
@@ -27,14 +25,14 @@ use Rattle.eb3.specs.Demands.{Roomy, cut, after, run-result, Start-is-ru
 use Rattle.eb3.specs.Laws.DemandOne.{start-writes}
 use Rattle.eb3.specs.Laws.DemandThree.{admit-reports, run-is, h}
 
-module _ (rules : List ℕ) (S : Sizes) (R : RuleSet) (a : admission edition-1 rules ≡ answered R) (s : sizes-needed R ≡ S) (term memory spare-term spare-memory : List ℕ)
+module _ (rules : List ℕ) (S : Sizes) (R : RuleSet) (a : admission rules ≡ answered R) (s : sizes-needed R ≡ S) (term memory spare-term spare-memory : List ℕ)
     (room : Roomy S term memory) (spare : Roomy S spare-term spare-memory) where
   -- A buffer that main's unfolding was written to, cut to its size, whatever was written behind it.
-  main-cut : (vs : List ℕ) → cut (S .size) (written (words (R .width) (unfold-main R) ++ vs) term) ≡ bytes-of (words (R .width) (unfold-main R))
+  main-cut : (vs : List ℕ) → cut (S .size) (written (words (R .edition .width) (unfold-main R) ++ vs) term) ≡ bytes-of (words (R .edition .width) (unfold-main R))
   main-cut vs =
-      let good : WellFormed edition-1 R = admitted edition-1 (omega arith) (omega arith) rules R a .0 in
-      let e : S .size ≡ length (words (R .width) (unfold-main R)) = sym (ap (λ (x : Sizes). x .size) s) ∙ sym (words-length R (unfold-main R) (main-running edition-1 R (omega arith) good .form)) in
-      ap (λ n. take (2 * n) (written (words (R .width) (unfold-main R) ++ vs) term)) e ∙ written-cut (words (R .width) (unfold-main R)) vs term
+      let good : WellFormed R = admitted rules R a .good in
+      let e : S .size ≡ length (words (R .edition .width) (unfold-main R)) = sym (ap (λ (x : Sizes). x .size) s) ∙ sym (words-length R (unfold-main R) (main-running R good .form)) in
+      ap (λ n. take (2 * n) (written (words (R .edition .width) (unfold-main R) ++ vs) term)) e ∙ written-cut (words (R .edition .width) (unfold-main R)) vs term
 
   nothing-run : run rules [] term memory spare-term spare-memory ≡ run-result R (h rules S R a s [] term memory spare-term spare-memory room spare) term memory
   nothing-run = run-is rules S R a s [] term memory spare-term spare-memory room spare
@@ -44,10 +42,10 @@ module _ (rules : List ℕ) (S : Sizes) (R : RuleSet) (a : admission edition-1 r
   agreed = record {
     same-size = ap (λ (w : Written ℕ). w .answer) (start-writes rules S R a s term memory room) ∙ ap (λ (x : Sizes). answered (x .size)) s;
     same-term = ap (λ (w : Written ℕ). cut (S .size) (w .term)) (start-writes rules S R a s term memory room)
-        ∙ (ap (λ ws. cut (S .size) (written ws term)) (sym (append-nil (words (R .width) (unfold-main R)))) ∙ (main-cut []
+        ∙ (ap (λ ws. cut (S .size) (written ws term)) (sym (append-nil (words (R .edition .width) (unfold-main R)))) ∙ (main-cut []
         ∙ sym (ap (λ (w : Written Ran). cut (S .size) (w .term)) nothing-run ∙ main-cut _)));
     same-memory = ap (λ (w : Written ℕ). w .memory) (start-writes rules S R a s term memory room)
-        ∙ (ap (λ cells. written (memory-words edition-1 cells) memory) (initial-values (attributes R)) ∙ sym (ap (λ (w : Written Ran). w .memory) nothing-run));
+        ∙ (ap (λ cells. written (memory-words cells) memory) (initial-values (attributes R)) ∙ sym (ap (λ (w : Written Ran). w .memory) nothing-run));
   }
 
 pub start-is-run : (rules term memory spare-term spare-memory : List ℕ) (S : Sizes) → admit rules ≡ answered S → Roomy S term memory → Roomy S spare-term spare-memory

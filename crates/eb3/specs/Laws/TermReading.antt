@@ -9,6 +9,7 @@ use Prim.Native.Nat.{ℕ, zero, suc, _+_, _-_, _^_, _≤_, _<_, min}
 use native.Mathlib.Omega.{arith}
 use lib.Dec.{T, ltb, leb, ltb→lt, lt→ltb, leb→le, le→leb}
 use lib.ListN.{length, length-append}
+use Rattle.eb3.specs.Limits
 use Rattle.eb3.specs.Refusal
 use Rattle.eb3.specs.Generic.Booleans.{T-and}
 use Rattle.eb3.specs.Generic.Lists.{Within}
@@ -16,7 +17,6 @@ use Rattle.eb3.specs.Expressions.{Cond}
 use Rattle.eb3.specs.Terms.{Term, Done, Internal, Perform, Sequence, Choice, Star, Parallel, Guard, Mask, Action, internal, visible}
 use Rattle.eb3.specs.Scopes.{cond-in-scope, guard-scope}
 use Rattle.eb3.specs.Sizes.{size, reach, breadth}
-use Rattle.eb3.specs.Limits.{Limits}
 use Rattle.eb3.specs.RuleSets.{RuleSet, sizes-of, label, attributes}
 use Rattle.eb3.specs.WellFormedness.{bits-below, mask-fits, well-formed, well-formed-action, Running}
 use Rattle.eb3.specs.Spelling.{number-words, cond-words, arguments-words, words}
@@ -82,7 +82,7 @@ module _ (w : ℕ) where
 
 module _ (R : RuleSet) where
   abbrev spelled : Term → List ℕ
-  spelled = words (R .width)
+  spelled = words (R .edition .width)
 
   abbrev GuardScope : Cond → Type 0
   GuardScope C = cond-in-scope C (guard-scope (attributes R) 0)
@@ -92,13 +92,13 @@ module _ (R : RuleSet) where
   ArgumentsOf l vs = Within (sizes-of R (label R l)) vs
 
   abbrev arguments-at : ℕ → Reader (List ℕ)
-  arguments-at l = elements-of (R .width) (sizes-of R (label R l))
+  arguments-at l = elements-of (R .edition .width) (sizes-of R (label R l))
 
   abbrev mask : Reader Mask
   mask = mask-of 4 (length (R .labels))
 
   abbrev guard : Reader Cond
-  guard = read-cond (R .width) (guard-scope (attributes R) 0)
+  guard = read-cond (R .edition .width) (guard-scope (attributes R) 0)
 
   module _ (e : Reader Term) (h : Sounds spelled (well-formed R) e) (t : List ℕ) where
     -- What stands behind a code that is this kind's.
@@ -110,8 +110,8 @@ module _ (R : RuleSet) where
 
     action-at : TermAt 21 TermKind.action
     unfolding action-of words
-    action-at = by-number-sound (arguments-words (R .width)) ArgumentsOf perform Refusal.reference (length (R .labels)) arguments-at spelled (well-formed R) 21
-        (λ l. elements-sound (R .width) (sizes-of R (label R l))) (λ l vs. refl) (λ l vs p q. (p, q)) t
+    action-at = by-number-sound (arguments-words (R .edition .width)) ArgumentsOf perform Refusal.reference (length (R .labels)) arguments-at spelled (well-formed R) 21
+        (λ l. elements-sound (R .edition .width) (sizes-of R (label R l))) (λ l vs. refl) (λ l vs p q. (p, q)) t
 
     parallel-at : TermAt 25 TermKind.parallel
     unfolding words
@@ -121,8 +121,8 @@ module _ (R : RuleSet) where
 
     guard-at : TermAt 26 TermKind.guard
     unfolding words
-    guard-at = two-sound (cond-words (R .width)) GuardScope spelled (well-formed R) spelled (well-formed R) Guard (26 ∷ []) guard e
-        (cond-sound (R .width) (guard-scope (attributes R) 0)) h (λ C E. refl) (λ C E p q. (p, q)) t
+    guard-at = two-sound (cond-words (R .edition .width)) GuardScope spelled (well-formed R) spelled (well-formed R) Guard (26 ∷ []) guard e
+        (cond-sound (R .edition .width) (guard-scope (attributes R) 0)) h (λ C E. refl) (λ C E p q. (p, q)) t
 
     term-at : (n : ℕ) → TermAt n (term-kind n)
     unfolding words
@@ -146,19 +146,19 @@ module _ (R : RuleSet) where
   terms-sound zero s = tt
   terms-sound (suc n) s = term-step-sound (terms R n) (terms-sound n) s
 
-pub term-sound : (R : RuleSet) → Sounds (words (R .width)) (well-formed R) (read-term R)
+pub term-sound : (R : RuleSet) → Sounds (words (R .edition .width)) (well-formed R) (read-term R)
 unfolding read-term
 term-sound R s = terms-sound R (length s) s
 
 -- ── completeness ──
 
-module _ (R : RuleSet) (positive : 1 ≤ R .width) where
+module _ (R : RuleSet) (positive : 1 ≤ R .edition .width) where
   -- What the reader to a depth of n takes: no more words than n.
   abbrev TermTo : ℕ → Term → Type 0
-  TermTo n E = well-formed R E × (size (R .width) E ≤ n)
+  TermTo n E = well-formed R E × (size (R .edition .width) E ≤ n)
 
   module _ (n : ℕ) (e : Reader Term) (t : Takes (spelled R) (TermTo n) e) where
-    two-terms : (k : Term → Term → Term) (E F : Term) (rest : List ℕ) → well-formed R E × well-formed R F → size (R .width) E + size (R .width) F ≤ n
+    two-terms : (k : Term → Term → Term) (E F : Term) (rest : List ℕ) → well-formed R E × well-formed R F → size (R .edition .width) E + size (R .edition .width) F ≤ n
         → giving (λ p. k (p .0) (p .1)) (both e e ((spelled R E ++ spelled R F) ++ rest)) ≡ taken (k E F) rest
     two-terms k E F rest s l = two-takes (spelled R) (TermTo n) (spelled R) (TermTo n) k e e t t E F rest (s .0, omega arith) (s .1, omega arith)
 
@@ -166,64 +166,64 @@ module _ (R : RuleSet) (positive : 1 ≤ R .width) where
     unfolding words size giving action-of
     term-step-takes Done rest h = refl
     term-step-takes Internal rest h = refl
-    term-step-takes (Perform a) rest h = by-number-takes (arguments-words (R .width)) (ArgumentsOf R) perform Refusal.reference (length (R .labels)) (arguments-at R) (a .label)
-        (elements-take (R .width) positive (sizes-of R (label R (a .label)))) (a .arguments) rest (h .0 .0) (h .0 .1)
+    term-step-takes (Perform a) rest h = by-number-takes (arguments-words (R .edition .width)) (ArgumentsOf R) perform Refusal.reference (length (R .labels)) (arguments-at R) (a .label)
+        (elements-take (R .edition .width) positive (sizes-of R (label R (a .label)))) (a .arguments) rest (h .0 .0) (h .0 .1)
     term-step-takes (Sequence E F) rest h = two-terms Sequence E F rest (h .0) (omega (arith, h .1))
     term-step-takes (Choice E F) rest h = two-terms Choice E F rest (h .0) (omega (arith, h .1))
     term-step-takes (Star E) rest h = ap (giving Star) (t E rest (h .0, omega (arith, h .1)))
     term-step-takes (Parallel Δ E F) rest h = two-takes (λ Δ. Δ) (mask-fits R) (spell-both (spelled R) (TermTo n) (spelled R) (TermTo n)) (Both (spelled R) (TermTo n) (spelled R) (TermTo n))
         (λ Δ p. Parallel Δ (p .0) (p .1)) (mask R) (both e e) (mask-takes 4 (length (R .labels))) (both-takes (spelled R) (TermTo n) (spelled R) (TermTo n) e e t t)
         Δ (E, F) rest (h .0 .0) ((h .0 .1, omega (arith, h .1)), (h .0 .2, omega (arith, h .1)))
-    term-step-takes (Guard C E) rest h = two-takes (cond-words (R .width)) (GuardScope R) (spelled R) (TermTo n) Guard (guard R) e
-        (cond-takes (R .width) positive (guard-scope (attributes R) 0)) t C E rest (h .0 .0) (h .0 .1, omega (arith, h .1))
+    term-step-takes (Guard C E) rest h = two-takes (cond-words (R .edition .width)) (GuardScope R) (spelled R) (TermTo n) Guard (guard R) e
+        (cond-takes (R .edition .width) positive (guard-scope (attributes R) 0)) t C E rest (h .0 .0) (h .0 .1, omega (arith, h .1))
 
   terms-take : (n : ℕ) → Takes (spelled R) (TermTo n) (terms R n)
   unfolding terms
-  terms-take zero E rest h = let z : ⊥ = omega (arith, size-pos (R .width) E, h .1) in absurd z
+  terms-take zero E rest h = let z : ⊥ = omega (arith, size-pos (R .edition .width) E, h .1) in absurd z
   terms-take (suc n) E rest h = term-step-takes n (terms R n) (terms-take n) E rest h
 
-pub term-takes : (R : RuleSet) → 1 ≤ R .width → Takes (words (R .width)) (well-formed R) (read-term R)
+pub term-takes : (R : RuleSet) → 1 ≤ R .edition .width → Takes (words (R .edition .width)) (well-formed R) (read-term R)
 unfolding read-term
-term-takes R p E rest h = terms-take R p (length (words (R .width) E ++ rest)) E rest (h, omega (arith, length-append (words (R .width) E) rest, words-length R E h))
+term-takes R p E rest h = terms-take R p (length (words (R .edition .width) E ++ rest)) E rest (h, omega (arith, length-append (words (R .edition .width) E) rest, words-length R E h))
 
 -- With nothing behind it.
-alone-taken : (R : RuleSet) → 1 ≤ R .width → (E : Term) → well-formed R E → read-term R (words (R .width) E) ≡ taken E []
-alone-taken R p E h = ap (read-term R) (sym (append-nil (words (R .width) E))) ∙ term-takes R p E [] h
+alone-taken : (R : RuleSet) → 1 ≤ R .edition .width → (E : Term) → well-formed R E → read-term R (words (R .edition .width) E) ≡ taken E []
+alone-taken R p E h = ap (read-term R) (sym (append-nil (words (R .edition .width) E))) ∙ term-takes R p E [] h
 
 abbrev read-off : Read Term → Term
 read-off (refused k) = Done
 read-off (taken E u) = E
 
-pub words-injective : (R : RuleSet) → 1 ≤ R .width → (E F : Term) → well-formed R E → well-formed R F → words (R .width) E ≡ words (R .width) F → E ≡ F
+pub words-injective : (R : RuleSet) → 1 ≤ R .edition .width → (E F : Term) → well-formed R E → well-formed R F → words (R .edition .width) E ≡ words (R .edition .width) F → E ≡ F
 words-injective R p E F h i e = ap read-off (sym (alone-taken R p E h) ∙ (ap (read-term R) e ∙ alone-taken R p F i))
 
 -- ── refusal 10 ──
 
-module _ (L : Limits) (R : RuleSet) (ws : List ℕ) where
+module _ (R : RuleSet) (ws : List ℕ) where
   abbrev AcceptedTerm : Option Term → Type 0
   AcceptedTerm none = Unit
-  AcceptedTerm (some E) = (ws ≡ words (R .width) E) × Running L R E
+  AcceptedTerm (some E) = (ws ≡ words (R .edition .width) E) × Running R E
 
-  within-limits : (E : Term) → ws ≡ words (R .width) E → well-formed R E → (b c : Bool) → (T b → reach (R .width) E ≤ L .reach) → (T c → breadth E ≤ L .breadth) → AcceptedTerm (pick (b && c) (some E) none)
+  within-limits : (E : Term) → ws ≡ words (R .edition .width) E → well-formed R E → (b c : Bool) → (T b → reach (R .edition .width) E ≤ Limits.reach) → (T c → breadth E ≤ Limits.breadth) → AcceptedTerm (pick (b && c) (some E) none)
   within-limits E e p true true g b = (e, record { form = p; reach-limit = g tt; breadth-limit = b tt })
   within-limits E e p true false g b = tt
   within-limits E e p false c g b = tt
 
-  term-accepted : (r : Read Term) → Sound (words (R .width)) (well-formed R) ws r → AcceptedTerm (term-alone L (R .width) r)
+  term-accepted : (r : Read Term) → Sound (words (R .edition .width)) (well-formed R) ws r → AcceptedTerm (term-alone (R .edition .width) r)
   term-accepted (refused k) h = tt
-  term-accepted (taken E []) h = within-limits E (h .0 ∙ append-nil (words (R .width) E)) (h .1) (leb (reach (R .width) E) (L .reach)) (leb (breadth E) (L .breadth))
-      (leb→le (reach (R .width) E) (L .reach)) (leb→le (breadth E) (L .breadth))
+  term-accepted (taken E []) h = within-limits E (h .0 ∙ append-nil (words (R .edition .width) E)) (h .1) (leb (reach (R .edition .width) E) Limits.reach) (leb (breadth E) Limits.breadth)
+      (leb→le (reach (R .edition .width) E) Limits.reach) (leb→le (breadth E) Limits.breadth)
   term-accepted (taken E (v ∷ vs)) h = tt
 
-running-alone : (L : Limits) (R : RuleSet) (E : Term) → Running L R E → term-alone L (R .width) (taken E []) ≡ some E
-running-alone L R E h = pick-true _ _ (leb (reach (R .width) E) (L .reach) && leb (breadth E) (L .breadth))
-    (T-and (leb (reach (R .width) E) (L .reach)) (leb (breadth E) (L .breadth)) (le→leb (reach (R .width) E) (L .reach) (h .reach-limit)) (le→leb (breadth E) (L .breadth) (h .breadth-limit)))
+running-alone : (R : RuleSet) (E : Term) → Running R E → term-alone (R .edition .width) (taken E []) ≡ some E
+running-alone R E h = pick-true _ _ (leb (reach (R .edition .width) E) Limits.reach && leb (breadth E) Limits.breadth)
+    (T-and (leb (reach (R .edition .width) E) Limits.reach) (leb (breadth E) Limits.breadth) (le→leb (reach (R .edition .width) E) Limits.reach (h .reach-limit)) (le→leb (breadth E) Limits.breadth (h .breadth-limit)))
 
-pub given-term-exact : (L : Limits) (R : RuleSet) → 1 ≤ R .width → (ws : List ℕ) (E : Term) → (given-term L R ws ≡ some E) ↔ ((ws ≡ words (R .width) E) × Running L R E)
+pub given-term-exact : (R : RuleSet) → 1 ≤ R .edition .width → (ws : List ℕ) (E : Term) → (given-term R ws ≡ some E) ↔ ((ws ≡ words (R .edition .width) E) × Running R E)
 unfolding given-term
-given-term-exact L R p ws E = (
-  (λ e. subst (AcceptedTerm L R ws) e (term-accepted L R ws (read-term R ws) (term-sound R ws))),
-  (λ x. ap (λ us. term-alone L (R .width) (read-term R us)) (x .0) ∙ (ap (term-alone L (R .width)) (alone-taken R p E (x .1 .form)) ∙ running-alone L R E (x .1))),
+given-term-exact R p ws E = (
+  (λ e. subst (AcceptedTerm R ws) e (term-accepted R ws (read-term R ws) (term-sound R ws))),
+  (λ x. ap (λ us. term-alone (R .edition .width) (read-term R us)) (x .0) ∙ (ap (term-alone (R .edition .width)) (alone-taken R p E (x .1 .form)) ∙ running-alone R E (x .1))),
 )
 
 -- ── refusal 11 ──
@@ -231,9 +231,9 @@ given-term-exact L R p ws E = (
 module _ (R : RuleSet) (ws : List ℕ) where
   abbrev AcceptedEvent : Option Action → Type 0
   AcceptedEvent none = Unit
-  AcceptedEvent (some ρ) = (ws ≡ words (R .width) (term-of-action ρ)) × well-formed-action R ρ
+  AcceptedEvent (some ρ) = (ws ≡ words (R .edition .width) (term-of-action ρ)) × well-formed-action R ρ
 
-  leaf-accepted : (E : Term) → ws ≡ words (R .width) E → well-formed R E → AcceptedEvent (leaf-of E)
+  leaf-accepted : (E : Term) → ws ≡ words (R .edition .width) E → well-formed R E → AcceptedEvent (leaf-of E)
   leaf-accepted Done e p = tt
   leaf-accepted Internal e p = (e, tt)
   leaf-accepted (Perform a) e p = (e, p)
@@ -243,9 +243,9 @@ module _ (R : RuleSet) (ws : List ℕ) where
   leaf-accepted (Parallel Δ E F) e p = tt
   leaf-accepted (Guard C E) e p = tt
 
-  event-accepted : (r : Read Term) → Sound (words (R .width)) (well-formed R) ws r → AcceptedEvent (leaf-alone r)
+  event-accepted : (r : Read Term) → Sound (words (R .edition .width)) (well-formed R) ws r → AcceptedEvent (leaf-alone r)
   event-accepted (refused k) h = tt
-  event-accepted (taken E []) h = leaf-accepted E (h .0 ∙ append-nil (words (R .width) E)) (h .1)
+  event-accepted (taken E []) h = leaf-accepted E (h .0 ∙ append-nil (words (R .edition .width) E)) (h .1)
   event-accepted (taken E (v ∷ vs)) h = tt
 
 leaf-back : (ρ : Action) → leaf-of (term-of-action ρ) ≡ some ρ
@@ -256,7 +256,7 @@ leaf-form : (R : RuleSet) (ρ : Action) → well-formed-action R ρ → well-for
 leaf-form R internal p = tt
 leaf-form R (visible a) p = p
 
-pub given-event-exact : (R : RuleSet) → 1 ≤ R .width → (ws : List ℕ) (ρ : Action) → (given-event R ws ≡ some ρ) ↔ ((ws ≡ words (R .width) (term-of-action ρ)) × well-formed-action R ρ)
+pub given-event-exact : (R : RuleSet) → 1 ≤ R .edition .width → (ws : List ℕ) (ρ : Action) → (given-event R ws ≡ some ρ) ↔ ((ws ≡ words (R .edition .width) (term-of-action ρ)) × well-formed-action R ρ)
 unfolding given-event
 given-event-exact R p ws ρ = (
   (λ e. subst (AcceptedEvent R ws) e (event-accepted R ws (read-term R ws) (term-sound R ws))),
