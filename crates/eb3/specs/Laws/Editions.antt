@@ -1,5 +1,6 @@
--- What the laws ask of an edition (`Proper`), and that every edition that is defined has it (`edition-proper`). What all of them have in common
--- so far is said below, a law for each: an edition that differed would take that law away.
+-- What proofs use of an edition (document 01, "Values and conditions", "Blocks and the rule stream", items 1 and 4, refusal 3): `Proper`, which every
+-- edition that is defined has (`edition-proper`), and what all of them have in common so far, a law for each: an edition that differed would take that
+-- law away.
 use mathlib.Core.Path.{_≡_, refl, ap, sym, subst}
 use mathlib.Core.Bool.{Bool, true, false}
 use mathlib.Core.Option.{Option, none, some}
