@@ -4,15 +4,16 @@ use mathlib.Core.Path.{_≡_}
 use mathlib.Core.Logic.{_↔_}
 use mathlib.Core.List.{List, [], _∷_, _++_}
 use mathlib.Core.Option.{some}
-use Prim.Native.Nat.{ℕ, _-_, _*_, _≤_, _<_}
+use Prim.Native.Nat.{ℕ, _+_, _-_, _*_, _≤_, _<_}
 use lib.ListN.{length, getD, replicate}
 use Rattle.eb3.specs.Generic.Lists.{Within}
 use Rattle.eb3.specs.Generic.Positions.{Enumeration}
-use Rattle.eb3.specs.Values.{Value, AtMost}
+use Rattle.eb3.specs.Values.{Value, undefined, AtMost}
 use Rattle.eb3.specs.Expressions.{Undefined, no-reading, environment, evaluate-data}
 use Rattle.eb3.specs.Terms.{Term, Action, VisibleAction}
 use Rattle.eb3.specs.Derivations.{DataState}
 use Rattle.eb3.specs.Attributes.{Trace, domain, attribute-value, value-at}
+use Rattle.eb3.specs.Cells.{offset, total-cells, cell-index, cell-at, initial-cells, renew}
 use Rattle.eb3.specs.Semantics.{Situation, situation, system}
 use Rattle.eb3.specs.TransitionSystems.{Transition}
 use Rattle.eb3.specs.Editions.{edition-1}
@@ -50,6 +51,14 @@ pub record Admitted (rules : List ℕ) (R : RuleSet) : Type 1 where
   pub value-last : (f : ℕ) → f < length (R .functions) → (xs : List ℕ) (a : VisibleAction) (H : Trace)
       → attribute-value (attributes R) (a ∷ H) f xs ≡ evaluate-data (getD (function-rule R f .at-label) (a .label) Undefined) (environment (R .edition .top) (xs ++ a .arguments) (value-at (attributes R) (a ∷ H)) (value-at (attributes R) H))
   pub value-bounded : (f : ℕ) → f < length (R .functions) → (H : Trace) → well-formed-trace R H → (xs : List ℕ) → Within (domain (attributes R) f) xs → AtMost (R .edition .top) (attribute-value (attributes R) H f xs)
+  -- A cell, of function f at xs, of the start's memory and of one that a visible action renews: now reads the new cells, before the old ones.
+  pub cell-start : (f : ℕ) → f < length (R .functions) → (xs : List ℕ) → Within (domain (attributes R) f) xs
+      → getD (initial-cells (attributes R)) (offset (attributes R) f + cell-index (domain (attributes R) f) xs) undefined
+      ≡ evaluate-data (function-rule R f .at-start) (environment (R .edition .top) xs (cell-at (attributes R) (initial-cells (attributes R))) no-reading)
+  pub cell-renewed : (f : ℕ) → f < length (R .functions) → (xs : List ℕ) → Within (domain (attributes R) f) xs → (M : List Value) (a : VisibleAction)
+      → getD (renew (attributes R) M a) (offset (attributes R) f + cell-index (domain (attributes R) f) xs) undefined
+      ≡ evaluate-data (getD (function-rule R f .at-label) (a .label) Undefined) (environment (R .edition .top) (xs ++ a .arguments) (cell-at (attributes R) (renew (attributes R) M a)) (cell-at (attributes R) M))
+  pub cell-counts : (M : List Value) (a : VisibleAction) → (length (initial-cells (attributes R)) ≡ total-cells (attributes R)) × (length (renew (attributes R) M a) ≡ total-cells (attributes R))
   -- A given term is accepted exactly if it spells a running term within the limits, an event exactly if it spells a leaf; and they are read as that.
   pub term-accepted : (ws : List ℕ) (E : Term) → (given-term R ws ≡ some E) ↔ ((ws ≡ words (R .edition .width) E) × Running R E)
   pub event-accepted : (ws : List ℕ) (ρ : Action) → (given-event R ws ≡ some ρ) ↔ ((ws ≡ words (R .edition .width) (term-of-action ρ)) × well-formed-action R ρ)

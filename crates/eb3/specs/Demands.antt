@@ -33,10 +33,10 @@ pub record Roomy (S : Sizes) (term memory : List ℕ) : Type 0 where
   pub term-room : S .reach ≤ word-count term
   pub memory-room : S .cells ≤ cell-room memory
 
--- Demand 1. A refusal is one of the operation's numbers, and writes nothing.
+-- Demand 1. A refusal is one of the operation's numbers, and leaves each buffer as it was given.
 pub record RefusedAs {X : Type 0} (ks : List ℕ) (term memory : List ℕ) (w : Written X) : Type 0 where
   pub number : (k : ℕ) → w .answer ≡ refused k → T (one-of ks k)
-  pub nothing-written : (k : ℕ) → w .answer ≡ refused k → w ≡ unwritten term memory k
+  pub nothing-written : (k : ℕ) → w .answer ≡ refused k → (w .term ≡ term) × (w .memory ≡ memory)
 
 pub record Demand-1-refusals (rules numbers term memory event next-term next-memory spare-term spare-memory : List ℕ) (k : ℕ) : Type 0 where
   pub admit-refused : (j : ℕ) → admit rules ≡ refused j → T (one-of Refusal.of-admission j)
@@ -47,7 +47,7 @@ pub record Demand-1-refusals (rules numbers term memory event next-term next-mem
   pub run-refused : RefusedAs Refusal.of-start term memory (run rules numbers term memory spare-term spare-memory)
 
 -- The table's order: what admission refuses every operation refuses alike, whatever else is given; a wrong term comes before a wrong event, both before
--- space, and space before a move that is not offered. (Of 1 to 8 the order is that of the tests in Blocks.open-blocks and Admission.admission.)
+-- space, and space before a move that is not offered. (The order of 1 to 8 is said by Refuses in the crate demanded.)
 pub record Demand-1-order (rules numbers term memory event next-term next-memory spare-term spare-memory : List ℕ) (k : ℕ) : Type 0 where
   pub admission-first : (j : ℕ) → admission rules ≡ refused j
       → (admit rules ≡ refused j) × (start rules term memory ≡ unwritten term memory j) × (count rules term memory ≡ refused j)

@@ -7,10 +7,12 @@ pub mod Values
 pub mod Terms
 pub mod Masks
 pub mod Moves
+pub mod Clauses
 pub mod Derivations
 pub mod Semantics
 -- Attribute values and cells; the machines agree.
 pub mod Attributes
+pub mod Meanings
 pub mod Cells
 pub mod TransitionSystems
 pub mod Machines
@@ -23,6 +25,8 @@ pub mod RuleSets
 pub mod Elements
 pub mod CellCounts
 pub mod Unfolding
+pub mod UnfoldingClauses
+pub mod Instantiation
 pub mod SourceTerms
 pub mod SourceDerivations
 pub mod SourceOrder
@@ -31,6 +35,7 @@ pub mod Running
 -- Readers: sound, complete, and by which numbers they refuse.
 pub mod Spelling
 pub mod RuleSpelling
+pub mod Codes
 pub mod Reading
 pub mod ReadingCombined
 pub mod ExpressionReading
@@ -45,6 +50,7 @@ pub mod Signatures
 pub mod Answers
 pub mod Bytes
 pub mod Memory
+pub mod Numbers
 pub mod Blocks
 pub mod Admission
 pub mod Judging
@@ -54,6 +60,7 @@ pub mod Operations
 pub mod Admitted
 pub mod DemandThree
 pub mod DemandTwo
+pub mod Numbering
 pub mod DemandOne
 pub mod Order
 pub mod Start

@@ -19,22 +19,26 @@ pub mod Terms
 pub mod Sizes
 pub mod Moves
 pub mod Derivations
+pub mod Clauses
 -- "Memory and the history machine": attribute functions over a trace; cells; Sem_T and Sem_M; both machines.
 pub mod Attributes
 pub mod Cells
 pub mod TransitionSystems
 pub mod Semantics
+pub mod Meanings
 pub mod Machines
 -- "Blocks and the rule stream" and "Unfolding": rule sets as written, their unfolding, the call rule, measures without unfolding, and what a rule
 -- set may say.
 pub mod RuleSets
 pub mod Unfolding
+pub mod UnfoldingClauses
 pub mod SourceTerms
 pub mod Measures
 pub mod WellFormedness
 -- Words: how terms and rule sets are spelled and read, word by word, with the refusal of the first offending word.
 pub mod Spelling
 pub mod RuleSpelling
+pub mod Codes
 pub mod Reading
 pub mod ExpressionReading
 pub mod TermReading
@@ -42,6 +46,7 @@ pub mod RuleReading
 -- Bytes: words in buffers, blocks and their sums, memories; from any bytes to a rule set or a refusal.
 pub mod Bytes
 pub mod Memory
+pub mod Numbers
 pub mod Answers
 pub mod Blocks
 pub mod Files

@@ -29,13 +29,13 @@ use Rattle.eb3.specs.Blocks.{block-bytes, content-bytes, content-words, 
 use Rattle.eb3.specs.Admission.{all-zero, ends-right, ended, within-limits, admission}
 
 -- The words after the last used one are zero.
-zeros-are : (ws : List ℕ) → T (all-zero ws) → ws ≡ replicate (length ws) 0
+pub zeros-are : (ws : List ℕ) → T (all-zero ws) → ws ≡ replicate (length ws) 0
 unfolding all-zero
 zeros-are [] t = refl
 zeros-are (w ∷ ws) t = λ i. eqb→eq w 0 (T-fst (eqb w 0) (all-zero ws) t) i ∷ zeros-are ws (T-snd (eqb w 0) (all-zero ws) t) i
 
 -- Words 0 and 1 are there, since they are not 0.
-two-words : (s : List ℕ) (a b : ℕ) → 1 ≤ a → 1 ≤ b → getD s 0 0 ≡ a → getD s 1 0 ≡ b → s ≡ a ∷ b ∷ drop 2 s
+pub two-words : (s : List ℕ) (a b : ℕ) → 1 ≤ a → 1 ≤ b → getD s 0 0 ≡ a → getD s 1 0 ≡ b → s ≡ a ∷ b ∷ drop 2 s
 two-words [] a b h k e f = let z : ⊥ = omega arith in absurd z
 two-words (v ∷ []) a b h k e f = let z : ⊥ = omega arith in absurd z
 two-words (v ∷ w ∷ s) a b h k e f = λ i. e i ∷ f i ∷ s
@@ -103,10 +103,10 @@ module _ (rules : List ℕ) where
       let q : o .words ≡ drop 2 (stream rules) = ap (drop 2) (sym (w .front)) in
       λ i. record { edition = p i; words = q i }
 
-  abbrev Taken : Edition → List ℕ → RuleSet → Type 0
+  abbrev pub Taken : Edition → List ℕ → RuleSet → Type 0
   Taken L words R = ((n : ℕ) × (n < content-words) × (words ≡ rules-words R ++ replicate n 0)) × FormOf L R
 
-  read-whole : (L : Edition) → Defined L → (words : List ℕ) (R : RuleSet) → ended (read-rules L words) ≡ answered R → Taken L words R
+  pub read-whole : (L : Edition) → Defined L → (words : List ℕ) (R : RuleSet) → ended (read-rules L words) ≡ answered R → Taken L words R
   unfolding ended
   read-whole L defined words R e = go (read-rules L words) (rules-sound L defined words) e
     where

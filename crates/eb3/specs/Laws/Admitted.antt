@@ -11,6 +11,8 @@ use Rattle.eb3.specs.Terms.{Term}
 use Rattle.eb3.specs.Derivations.{DataState}
 use Rattle.eb3.specs.Attributes.{AttributeFunction, number-of-functions, value-at}
 use Rattle.eb3.specs.Laws.Attributes.{value-empty, value-last, value-at-most}
+use Rattle.eb3.specs.Cells.{cell-at, initial-cells, renew}
+use Rattle.eb3.specs.Laws.Cells.{cells-counted, start-cell, renewed-cell}
 use Rattle.eb3.specs.Expressions.{Undefined, no-reading, environment, evaluate-data}
 use Rattle.eb3.specs.Semantics.{Situation, situation, system}
 use Rattle.eb3.specs.RuleSets.{RuleSet, label, main-process, attributes}
@@ -85,6 +87,11 @@ module _ (rules : List ℕ) (R : RuleSet) (a : admission rules ≡ answered R) w
             ∙ ap (λ (F : AttributeFunction). evaluate-data (getD (F .at-label) (e .label) Undefined) (environment (R .edition .top) (xs ++ e .arguments) (value-at (attributes R) (e ∷ H)) (value-at (attributes R) H))) (function-is R f d);
         value-bounded = λ f d H w xs h. value-at-most (attributes R) (λ l. length (label R l)) (expressions-in-scope R (good .form)) (parameters-small R (good .form)) H
             (trace-small R (good .form) H w) f (there f d) xs h;
+        cell-start = λ f d xs w. start-cell (attributes R) (λ l. length (label R l)) (expressions-in-scope R (good .form)) f (there f d) xs w
+            ∙ ap (λ (F : AttributeFunction). evaluate-data (F .at-start) (environment (R .edition .top) xs (cell-at (attributes R) (initial-cells (attributes R))) no-reading)) (function-is R f d);
+        cell-renewed = λ f d xs w M e. renewed-cell (attributes R) (λ l. length (label R l)) (expressions-in-scope R (good .form)) f (there f d) xs w M e
+            ∙ ap (λ (F : AttributeFunction). evaluate-data (getD (F .at-label) (e .label) Undefined) (environment (R .edition .top) (xs ++ e .arguments) (cell-at (attributes R) (renew (attributes R) M e)) (cell-at (attributes R) M))) (function-is R f d);
+        cell-counts = cells-counted (attributes R);
         term-accepted = given-term-exact R (form-proper (good .form) .constants .0);
         event-accepted = given-event-exact R (form-proper (good .form) .constants .0);
       }

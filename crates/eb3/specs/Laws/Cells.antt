@@ -4,7 +4,7 @@ use mathlib.Core.Path.{_≡_, refl, ap, sym, _∙_}
 use mathlib.Core.Bool.{cond}
 use mathlib.Core.List.{List, [], _∷_, _++_, map}
 use mathlib.Core.Logic.{_≢_}
-use mathlib.Core.Option.{Option, some}
+use mathlib.Core.Option.{Option, none, some}
 use Prim.Native.Nat.{ℕ, zero, suc, _+_, _*_, _≤_, _<_}
 use native.Mathlib.Nat.{mul-le-mul-right}
 use native.Mathlib.Decide.{ℕ-discrete, decLt}
@@ -15,10 +15,10 @@ use lib.Seq.{getD-append-add}
 use Rattle.eb3.specs.Generic.Booleans.{cond-true, cond-false}
 use Rattle.eb3.specs.Generic.Lists.{Within}
 use Rattle.eb3.specs.Values.{Value, undefined, number, AtMost}
-use Rattle.eb3.specs.Expressions.{Reading}
+use Rattle.eb3.specs.Expressions.{Undefined, Reading, no-reading, environment, evaluate-data}
 use Rattle.eb3.specs.Terms.{VisibleAction}
 use Rattle.eb3.specs.Attributes.{Attributes, function, domain, number-of-functions, Trace, last-action, apply-in-domain, expression, variables-in-scope, evaluate, now-below, before-values, attribute-value, value-at}
-use Rattle.eb3.specs.Scopes.{Scope, data-in-scope, ExpressionsInScope}
+use Rattle.eb3.specs.Scopes.{Scope, data-in-scope, start-scope, label-scope, ExpressionsInScope}
 use Rattle.eb3.specs.Laws.Attributes.{apply-cong, apply-undefined, apply-empty-domain, apply-numbers, now-below-is, now-below-beyond, no-domain-beyond, data-cong, AllAtMost, TraceAtMost, ReadingAtMost, ActionAtMost, apply-at-most, evaluate-at-most, value-at-most}
 use Rattle.eb3.specs.Cells.{cell-count, cell-index, offset, total-cells, cell-at, concat-tabulate, tabulate, cells-up-to, initial-cells, renew, cells-after, values-up-to, all-values}
 
@@ -170,6 +170,32 @@ module _ (A : Attributes) (o : Option VisibleAction) (b : Reading) where
   renewed i f xs cells l w P p s equal =
       data-cong A P (variables-in-scope xs o) (cell-at A cells) (now-below A o b f) b (λ g h. prefix-cells f cells equal g (omega arith)) (expression (function A f) o) s
       ∙ sym (cell-value i f xs l w)
+
+  -- A cell of the finished memory, now reading that memory itself.
+  pub finished-cell : (i f : ℕ) (xs : List ℕ) → f < i → Within (domain A f) xs → (P : Scope) → P .now ≤ f → data-in-scope (expression (function A f) o) P
+      → getD (cells-up-to A o b i) (offset A f + cell-index (domain A f) xs) undefined ≡ evaluate A o (cell-at A (cells-up-to A o b i)) b f xs
+  unfolding evaluate
+  finished-cell i f xs l w P p s =
+      cell-value i f xs l w
+      ∙ data-cong A P (variables-in-scope xs o) (now-below A o b f) (cell-at A (cells-up-to A o b i)) b
+      (λ g h v. now-below-is A o b f g (omega arith) v ∙ (sym (now-below-is A o b i g (omega arith) v) ∙ sym (cell-at-now A o b i g v))) (expression (function A f) o) s
+
+pub cells-counted : (A : Attributes) (M : List Value) (a : VisibleAction) → (length (initial-cells A) ≡ total-cells A) × (length (renew A M a) ≡ total-cells A)
+unfolding initial-cells renew
+cells-counted A M a = (length-cells A none no-reading (number-of-functions A), length-cells A (some a) (cell-at A M) (number-of-functions A))
+
+-- Document 01: at start the empty-trace expressions fill the cells; a visible action computes all anew, now reading new cells, before old ones.
+module _ (A : Attributes) (arity : ℕ → ℕ) (scoped : ExpressionsInScope A arity) (f : ℕ) (defined : f < number-of-functions A) (xs : List ℕ) (w : Within (domain A f) xs) where
+  pub start-cell : getD (initial-cells A) (offset A f + cell-index (domain A f) xs) undefined
+      ≡ evaluate-data (function A f .at-start) (environment (A .top) xs (cell-at A (initial-cells A)) no-reading)
+  unfolding initial-cells evaluate
+  start-cell = finished-cell A none no-reading (number-of-functions A) f xs defined w (start-scope A f) (omega arith) (scoped .at-start f defined)
+
+  pub renewed-cell : (cells : List Value) (a : VisibleAction) → getD (renew A cells a) (offset A f + cell-index (domain A f) xs) undefined
+      ≡ evaluate-data (getD (function A f .at-label) (a .label) Undefined) (environment (A .top) (xs ++ a .arguments) (cell-at A (renew A cells a)) (cell-at A cells))
+  unfolding renew evaluate
+  renewed-cell cells a =
+      finished-cell A (some a) (cell-at A cells) (number-of-functions A) f xs defined w (label-scope A f (arity (a .label))) (omega arith) (scoped .at-label f (a .label) defined)
 
 -- Where a value stands.
 pub value-cell : (A : Attributes) (H : Trace) (f : ℕ) → f < number-of-functions A → (xs : List ℕ) → Within (domain A f) xs

@@ -44,7 +44,7 @@ module _ (ks : List ℕ) (term memory : List ℕ) {X : Type 0} where
   done-as w x e = record { number = λ k f. absurd (not-both k x (sym f ∙ e)); nothing-written = λ k f. absurd (not-both k x (sym f ∙ e)) }
 
   refused-as : (k : ℕ) → T (one-of ks k) → RefusedAs {X = X} ks term memory (unwritten term memory k)
-  refused-as k h = record { number = λ j e. subst (λ n. T (one-of ks n)) (refused-injective {X = X} k j e) h; nothing-written = λ j e. ap (unwritten term memory) (refused-injective {X = X} k j e) }
+  refused-as k h = record { number = λ j e. subst (λ n. T (one-of ks n)) (refused-injective {X = X} k j e) h; nothing-written = λ j e. (refl, refl) }
 
   writing-as : {Y : Type 0} (a : Answer Y) (f : Y → Written X) → Within ks a → ((y : Y) → RefusedAs ks term memory (f y)) → RefusedAs ks term memory (writing term memory a f)
   writing-as (refused k) f w h = refused-as k w

@@ -30,7 +30,7 @@ use Rattle.eb3.specs.Laws.RuleSpelling.{rules-small}
 use Rattle.eb3.specs.Laws.Spelling.{Small, small-append}
 use Rattle.eb3.specs.Generic.AllLists.{All}
 
-eq→eqb : (m n : ℕ) → m ≡ n → T (eqb m n)
+pub eq→eqb : (m n : ℕ) → m ≡ n → T (eqb m n)
 eq→eqb m n e = subst (λ x. T (eqb m x)) e (eqb-refl m)
 
 -- ── one block ──
@@ -152,7 +152,7 @@ zeros-good zero = tt
 zeros-good (suc m) = zeros-good m
 
 -- What is left behind the last used word is less than a block's content, and zero.
-ends-good : (m : ℕ) → m < content-words → T (ends-right (replicate m 0))
+pub ends-good : (m : ℕ) → m < content-words → T (ends-right (replicate m 0))
 ends-good m h = T-and (ltb (length (replicate m 0)) content-words) (all-zero (replicate m 0)) (lt→ltb (length (replicate m 0)) content-words (omega (arith, length-replicate {A = ℕ} m 0))) (zeros-good m)
 
 zeros-small : (m : ℕ) → Small (replicate m 0)

@@ -63,13 +63,13 @@ abbrev AtLabel : Edition → List ℕ → ℕ → List ℕ → Data → Type 0
 AtLabel L counts i ds a = data-in-scope a (at-label-scope L counts i (length ds))
 
 module _ (L : Edition) (domains : ℕ) (labels : List (List ℕ)) where
-  abbrev FunctionRead : List ℕ → ℕ → Function → Type 0
+  abbrev pub FunctionRead : List ℕ → ℕ → Function → Type 0
   FunctionRead counts i F = ParametersRead domains counts i (F .parameters) × (AtStart L counts i (F .at-start) × AllFor (AtLabel L counts i) labels (F .at-label))
 
   abbrev FunctionsRead : List Function → Type 0
   FunctionsRead Fs = (length Fs ≤ Limits.functions) × ((counts : List ℕ) × CountsRead L (length Fs) counts × AllFrom (FunctionRead counts) 0 Fs)
 
-  function-sound : (counts : List ℕ) (i : ℕ) → Sounds (function-words (L .width)) (FunctionRead counts i) (read-function L domains labels counts i)
+  pub function-sound : (counts : List ℕ) (i : ℕ) → Sounds (function-words (L .width)) (FunctionRead counts i) (read-function L domains labels counts i)
   unfolding read-function function-words
   function-sound counts i t = two-sound (concat-map one-word) (ParametersRead domains counts i) (spell-both D At (concat-map D) Ls) (Both D At (concat-map D) Ls) (function-words (L .width)) (FunctionRead counts i)
       (λ ds p. function-from (ds, p)) [] (repeat (count-for counts i) number) (both start each)
@@ -133,7 +133,7 @@ module _ (R : RuleSet) (counts : List ℕ) (counted : length counts ≡ length (
       go (yes l) = sym (ap length (domain-is R f l) ∙ (length-map (function-rule R f .parameters) (domain-size R) ∙ function-at f l .0 .0))
       go (no l) = List·getD-eq-default counts 1 (omega arith) ∙ sym (ap length (no-domain-beyond (attributes R) f (omega (arith, functions-counted R))))
 
-  arities-are : count-for counts ≡ arities (attributes R)
+  pub arities-are : count-for counts ≡ arities (attributes R)
   arities-are = fun-ext arity-is
 
   start-scope-is : (f : ℕ) → at-start-scope (R .edition) counts f ≡ start-scope (attributes R) f

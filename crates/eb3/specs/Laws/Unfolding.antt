@@ -1,4 +1,5 @@
--- The equations of unfolding that document 01 states in words ("Unfolding, size and breadth"; source 000's S_M-11 and quantification).
+-- What calls and quantifiers unfold to (document 01, "Unfolding, size and breadth"; source 000's S_M-11 and quantification); the other codes are in
+-- UnfoldingClauses.
 use mathlib.Core.Path.{_≡_, refl, _∙_}
 use mathlib.Core.Bool.{cond}
 use mathlib.Core.List.{List, [], _∷_, _++_, map}
