@@ -34,7 +34,10 @@
  *   Answers     `refusal` is EB3_DONE, or the number of a refusal: then the other fields are 0 and
  *               no slice was written, the spare ones of eb3_run included.
  *   Room        Buffers of the sizes that eb3_admit reports are enough for every term and memory
- *               that moves lead to from the start: no move enlarges what a term needs.
+ *               that moves lead to from the start: no move enlarges what a term needs. So a host
+ *               that starts, and then moves in two pairs of such buffers by turns, meets no
+ *               refusal but EB3_REFUSED_NOT_OFFERED, and comes to what eb3_run leaves (proved:
+ *               docs/PROMISES.md).
  *   Bytes       Words and cells are 16 bits, the low byte first. Bytes behind what an operation
  *               writes keep their values. An odd last byte is ignored and kept; only a given term
  *               or event is refused for having one.
