@@ -1,7 +1,7 @@
 -- What a file is admitted as, and by which number it is refused, as conditions on its bytes (document 01, "Blocks and the rule stream" and the table's
 -- rows 1 to 8); and that admission answers exactly so (`AdmissionExact`, proved in Laws/Verdicts).
 use mathlib.Core.Path.{_≡_}
-use mathlib.Core.Logic.{_⊎_, _↔_}
+use mathlib.Core.Logic.{_↔_}
 use mathlib.Core.List.{List, [], _∷_, _++_}
 use mathlib.Core.Option.{some}
 use Prim.Native.Nat.{ℕ, _+_, _*_, _/_, _%_, _≤_, _<_}

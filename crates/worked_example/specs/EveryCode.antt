@@ -4,7 +4,7 @@
 use mathlib.Core.Path.{_≡_, refl}
 use mathlib.Core.List.{List, [], _∷_, _++_}
 use Prim.Native.Nat.{ℕ, _/_, _%_}
-use lib.ListN.{length, take, drop, replicate}
+use lib.ListN.{take, drop, replicate}
 use Rattle.eb3.specs.Generic.Lists.{same-list, concat-map}
 use Rattle.eb3.specs.Values.{encode, decode, bounded, add, subtract, equal, less}
 use Rattle.eb3.specs.Expressions.{Data, Undefined, Constant, Variable, Add, Subtract, If, Now, Before, Nil, Cons, Equal, Less, And, Or, Not, True, variables, evaluate-data}

@@ -1,10 +1,9 @@
--- Every successor of an accepted term is accepted again (`accepted-again`).
+-- Every successor of an accepted term is accepted again (`accepted-again`; document 01, "Unfolding, size and breadth": no move enlarges G or W, and refusal 10).
 use mathlib.Core.Path.{_≡_, refl, ap, sym, _∙_}
 use mathlib.Core.Bool.{Bool, true, false, _&&_}
 use mathlib.Core.List.{List}
 use mathlib.Core.Option.{Option, none, some}
 use Prim.Native.Nat.{ℕ}
-use native.Mathlib.Omega.{arith}
 use lib.ListN.{getElem?}
 use Rattle.eb3.specs.Refusal
 use Rattle.eb3.specs.Terms.{Term}
@@ -24,7 +23,7 @@ use Rattle.eb3.specs.Laws.TermReading.{given-term-exact}
 use Rattle.eb3.specs.Bytes.{words-in, written}
 use Rattle.eb3.specs.Answers.{answered, Moved, Written, unwritten}
 use Rattle.eb3.specs.Laws.Answers.{not-both, answered-injective, pick-answered}
-use Rattle.eb3.specs.Laws.Admission.{admitted}
+use Rattle.eb3.specs.Laws.Admission.{or-refused-answered, admitted}
 use Rattle.eb3.specs.Operations.{sizes-needed, term-fits, memory-fits, even, term-in, cells-given, listed, writing, moved, chosen, move}
 use Rattle.eb3.specs.Answers.{or-refused}
 use Rattle.eb3.specs.Laws.Operations.{term-back}
@@ -32,15 +31,11 @@ use Rattle.eb3.specs.Demands.{cut}
 use Rattle.demanded.specs.Laws.Stepping.{cut-written}
 use Rattle.demanded.specs.Stepping.{Accepted-again-holds}
 
-or-answered : {X : Type 0} (k : ℕ) (o : Option X) (x : X) → or-refused k o ≡ answered x → o ≡ some x
-or-answered k none x e = absurd (not-both k x e)
-or-answered {X} k (some y) x e = ap {B = Option X} some (answered-injective y x e)
-
 -- An accepted term is a running term.
 accepted-running : (R : RuleSet) → WellFormed R → (term : List ℕ) (E : Term) → term-in R term ≡ answered E → Running R E
 accepted-running R good term E e =
     let p = pick-answered (even term) (or-refused Refusal.term (given-term R (words-in term))) Refusal.term E e in
-    given-term-exact R (form-proper (good .form) .constants .0) (words-in term) E .0 (or-answered Refusal.term (given-term R (words-in term)) E (p .1)) .1
+    given-term-exact R (form-proper (good .form) .constants .0) (words-in term) E .0 (or-refused-answered Refusal.term (given-term R (words-in term)) E (p .1)) .1
 
 module _ (R : RuleSet) (memory next-term next-memory : List ℕ) (m : Moved) where
   -- What answered was a move that is listed.

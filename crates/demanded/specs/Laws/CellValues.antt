@@ -1,4 +1,4 @@
--- After Run every cell has its value (`cell-values`).
+-- After Run every cell has its value (`cell-values`; document 01, "Memory and the history machine").
 use mathlib.Core.Path.{_≡_, refl, ap, sym, _∙_, subst}
 use mathlib.Core.List.{List, [], _∷_, _++_, map}
 use Prim.Native.Nat.{ℕ, zero, suc, _+_, _*_, _≤_, _<_}
@@ -9,7 +9,7 @@ use Rattle.eb3.specs.Generic.Lists.{Within}
 use Rattle.eb3.specs.Values.{Value, undefined, encode}
 use Rattle.eb3.specs.Attributes.{domain, Trace, attribute-value}
 use Rattle.eb3.specs.Cells.{cell-count, cell-index, offset, total-cells, all-values}
-use Rattle.eb3.specs.Laws.Cells.{length-values, value-cell, ValuesAtMost, values-at-most}
+use Rattle.eb3.specs.Laws.Cells.{length-values, value-cell, values-at-most}
 use Rattle.eb3.specs.Semantics.{Sem-T}
 use Rattle.eb3.specs.Machines.{machine, history-run}
 use Rattle.eb3.specs.Laws.Machines.{chain-run}

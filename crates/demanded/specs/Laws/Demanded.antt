@@ -1,4 +1,4 @@
--- The demands characterise the operations: ours meet them (`ours`), and any six that meet them are ours (`theirs`).
+-- The demands fix the operations (document 01, "Operations"): ours meet them (`ours`), and any six that meet them are ours (`theirs`); `the-engine` is both.
 use mathlib.Core.Path.{_≡_, refl, ap, sym, _∙_, subst}
 use mathlib.Core.Bool.{Bool, _&&_}
 use mathlib.Core.List.{List, [], _++_}
@@ -38,7 +38,7 @@ use Rattle.eb3.specs.Generic.PositionsUnique.{same-number, list-unique}
 use Rattle.demanded.specs.Laws.Verdicts.{at-most-or, Verdict, verdict, admits-answer, refuses-answer}
 use Rattle.demanded.specs.Laws.Numberings.{numbered-there, FirstDerived, first-derived, none-first, some-first}
 use Rattle.demanded.specs.Laws.Given.{written-is, cells-written, not-true, room?, start-in-room, start-room, move-in-room, move-room?, run-in-room, run-room, run-room?, term?, event?, term-given, event-given, no-term-given, no-event-given}
-use Rattle.demanded.specs.Admitting.{G, W, Admits}
+use Rattle.demanded.specs.Admitting.{G, Admits}
 use Rattle.demanded.specs.Ours.{our-operations, Ours}
 use Rattle.demanded.specs.Demanded.{only-refused, C, cells-of, GivenTerm, GivenEvent, Room, MoveRoom, RunRoom, Derived, Outcomes, Numbering, derived-outcome, HistoryRun, run-outcome, ScratchDemands, AdmitDemands, StartDemands, CountDemands, MoveDemands, PresentDemands, RunDemands, Operations, Demanded, Same}
 

@@ -1,11 +1,10 @@
--- What is given and the room there is, decided; and how the operations read and write, in the terms of Demanded.
+-- What is given and the room there is, decided (document 01, "Operations", refusals 9 to 11); and how the operations read and write, in the terms of Demanded.
 use mathlib.Core.Path.{_≡_, refl, ap, sym, _∙_}
 use mathlib.Core.Bool.{Bool, true, false, _&&_}
 use mathlib.Core.List.{List, [], _∷_, _++_, map}
 use mathlib.Core.Logic.{_⊎_, inl, inr}
 use mathlib.Core.Option.{Option, none, some, Option·none-ne-some}
 use Prim.Native.Nat.{ℕ, _*_, _/_, _%_, _≤_}
-use native.Mathlib.Omega.{arith}
 use lib.Dec.{T, eqb, leb, eqb→eq, leb→le, le→leb}
 use lib.ListN.{length, drop}
 use Rattle.eb3.specs.Generic.Lists.{concat-map}

@@ -1,4 +1,5 @@
--- The history machine of Demanded is that of eb3 (Machines): it comes to one end, and always to one.
+-- The history machine of Demanded is that of eb3 (Machines): from every list of numbers it comes to an end, and to one only (document 01, "Memory and the history
+-- machine").
 use mathlib.Core.Path.{_≡_, ap, sym, subst}
 use mathlib.Core.List.{List, [], _∷_}
 use mathlib.Core.Logic.{_⊎_, inl, inr}

@@ -1,4 +1,4 @@
--- A host's steps are the run (`one-more`, `run-then-move`, `steps-are-the-run`).
+-- A host's steps are the run (`one-more`, `run-then-move`, `steps-are-the-run`; document 01, "Operations": Start, Move and Run).
 use mathlib.Core.Path.{_≡_, refl, ap, sym, _∙_, subst}
 use mathlib.Core.List.{List, [], _∷_, _++_, map, append-assoc, append-nil}
 use mathlib.Core.Option.{Option, none, some}
@@ -36,10 +36,10 @@ use Rattle.eb3.specs.Answers.{refused, answered, and-then, Sizes, Moved, Ran, W
 use Rattle.eb3.specs.Laws.Answers.{not-both, answered-injective, refused-injective}
 use Rattle.eb3.specs.Admission.{admission}
 use Rattle.eb3.specs.Laws.Admission.{admitted}
-use Rattle.eb3.specs.Operations.{main-reach, sizes-needed, term-in, cells-given, writing, moved, start, count, move, run}
+use Rattle.eb3.specs.Operations.{main-reach, sizes-needed, term-in, cells-given, writing, moved, count, run}
 use Rattle.eb3.specs.Answers.{or-refused}
 use Rattle.eb3.specs.Laws.Operations.{term-back, values-back}
-use Rattle.eb3.specs.Demands.{Roomy, last-term, last-trace, history-moves, values-words, run-result, cut, after}
+use Rattle.eb3.specs.Demands.{Roomy, last-term, last-trace, history-moves, values-words, run-result, cut}
 use Rattle.eb3.specs.Laws.DemandThree.{admit-reports, there, count-there, move-there, renewed-there, run-is, h}
 use Rattle.eb3.specs.Laws.DemandOne.{start-writes}
 use Rattle.demanded.specs.Stepping.{Host, host-after-start, host-start, host-of, more-visible, more-internal, taken, not-taken, stepped, host-move, host-step, host-run, SameAsRun, RoomyHost, One-more-holds, Run-then-move-holds, Steps-are-the-run-holds}

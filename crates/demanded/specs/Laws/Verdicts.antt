@@ -1,20 +1,20 @@
--- Admission's answers are exactly what a file is admitted as or refused by (Admitting: `Admits`, `Refuses`, `AdmissionExact`).
+-- Admission's answers are exactly what a file is admitted as or refused by (Admitting: `Admits`, `Refuses`, `AdmissionExact`; document 01, "Blocks and the rule
+-- stream" and refusals 1 to 8).
 use mathlib.Core.Path.{_≡_, refl, ap, sym, _∙_, subst}
-use mathlib.Core.Bool.{Bool, true, false, _&&_, _||_}
+use mathlib.Core.Bool.{Bool, true, false, _&&_}
 use mathlib.Core.List.{List, [], _∷_, _++_}
-use mathlib.Core.Logic.{_⊎_, inl, inr, _↔_}
-use mathlib.Core.Option.{Option, none, some}
+use mathlib.Core.Logic.{_⊎_, inl, inr}
+use mathlib.Core.Option.{none, some}
 use Prim.Native.Nat.{ℕ, zero, suc, _+_, _*_, _/_, _%_, _≤_, _<_}
 use native.Mathlib.Omega.{arith}
 use lib.Dec.{T, eqb, leb, eqb→eq, leb→le, le→leb}
 use lib.ListN.{length, getD, take, drop, replicate}
 use lib.Seq.{drop-drop}
-use Rattle.eb3.specs.Generic.Booleans.{T-and, T-fst, T-snd}
+use Rattle.eb3.specs.Generic.Booleans.{T-and, T-fst, T-snd, T-or}
 use Rattle.eb3.specs.Generic.Lists.{one-of}
-use Rattle.eb3.specs.Editions.{Edition, edition-1, edition-of}
+use Rattle.eb3.specs.Editions.{edition-1, edition-of}
 use Rattle.eb3.specs.Laws.Editions.{edition-1-defined}
 use Rattle.eb3.specs.RuleSets.{RuleSet}
-use Rattle.eb3.specs.RuleSpelling.{rules-words}
 use Rattle.eb3.specs.Reading.{Read, pick}
 use Rattle.eb3.specs.Laws.Reading.{pick-true, pick-false}
 use Rattle.eb3.specs.RuleReading.{read-rules}
@@ -27,7 +27,7 @@ use Rattle.eb3.specs.Admission.{ends-right, ended, within-limits, admission}
 use Rattle.eb3.specs.Laws.Admission.{two-words, read-whole}
 use Rattle.eb3.specs.Laws.Files.{eq→eqb, ends-good}
 use Rattle.first_word.specs.Laws.StreamRefusals.{refused-by-first}
-use Rattle.demanded.specs.Admitting.{Whole, sums-over, block, block-sums, BlockRight, BlocksRight, EditionRight, Holds, G, W, Admits, Refuses, by-length, by-block, by-edition, by-word, by-size, by-breadth, AdmissionExact}
+use Rattle.demanded.specs.Admitting.{Whole, sums-over, block, BlockRight, BlocksRight, EditionRight, Holds, G, W, Admits, Refuses, by-length, by-block, by-edition, by-word, by-size, by-breadth, AdmissionExact}
 
 pub at-most-or : (m n : ℕ) → (m ≤ n) ⊎ (n < m)
 at-most-or zero n = inl (omega arith)
@@ -258,18 +258,14 @@ module _ (rules : List ℕ) where
 
   -- ── exact ──
 
-  either-of : {X : Type 0} (a b : Bool) → T (a || b) → (T a → X) → (T b → X) → X
-  either-of true b t f g = f tt
-  either-of false b t f g = g t
-
   -- The reader's numbers.
   by-three : (a : Answer RuleSet) (k : ℕ) → ended (read-rules edition-1 words) ≡ a → a ≡ refused k → (4 ≤ k) × (k ≤ 6)
   unfolding one-of ended
   by-three a k h e = go (read-rules edition-1 words) (rules-refuse edition-1 words) (h ∙ e)
     where
       of-three : (j : ℕ) → T (one-of (4 ∷ 5 ∷ 6 ∷ []) j) → (4 ≤ j) × (j ≤ 6)
-      of-three j t = either-of (eqb j 4) _ t (λ u. let e : j ≡ 4 = eqb→eq j 4 u in (omega arith, omega arith))
-          (λ t. either-of (eqb j 5) _ t (λ u. let e : j ≡ 5 = eqb→eq j 5 u in (omega arith, omega arith)) (λ t. either-of (eqb j 6) _ t (λ u. let e : j ≡ 6 = eqb→eq j 6 u in (omega arith, omega arith)) (λ t. absurd t)))
+      of-three j t = T-or (eqb j 4) _ t (λ u. let e : j ≡ 4 = eqb→eq j 4 u in (omega arith, omega arith))
+          (λ t. T-or (eqb j 5) _ t (λ u. let e : j ≡ 5 = eqb→eq j 5 u in (omega arith, omega arith)) (λ t. T-or (eqb j 6) _ t (λ u. let e : j ≡ 6 = eqb→eq j 6 u in (omega arith, omega arith)) (λ t. absurd t)))
 
       ends : (b : Bool) (R : RuleSet) → pick b (answered R) (refused 4) ≡ refused k → (4 ≤ k) × (k ≤ 6)
       ends true R e = absurd (not-both k R (sym e))

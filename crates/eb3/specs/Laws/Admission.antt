@@ -29,7 +29,7 @@ use Rattle.eb3.specs.Blocks.{block-bytes, content-bytes, content-words, 
 use Rattle.eb3.specs.Admission.{all-zero, ends-right, ended, within-limits, admission}
 
 -- The words after the last used one are zero.
-pub zeros-are : (ws : List ℕ) → T (all-zero ws) → ws ≡ replicate (length ws) 0
+zeros-are : (ws : List ℕ) → T (all-zero ws) → ws ≡ replicate (length ws) 0
 unfolding all-zero
 zeros-are [] t = refl
 zeros-are (w ∷ ws) t = λ i. eqb→eq w 0 (T-fst (eqb w 0) (all-zero ws) t) i ∷ zeros-are ws (T-snd (eqb w 0) (all-zero ws) t) i
@@ -65,7 +65,7 @@ stream-length rules t =
 abbrev pub Spelled : List ℕ → RuleSet → Type 0
 Spelled rules R = (n : ℕ) × (n < content-words) × (stream rules ≡ stream-words (block-count rules) R ++ replicate n 0)
 
-or-refused-answered : {X : Type 0} (k : ℕ) (o : Option X) (x : X) → or-refused k o ≡ answered x → o ≡ some x
+pub or-refused-answered : {X : Type 0} (k : ℕ) (o : Option X) (x : X) → or-refused k o ≡ answered x → o ≡ some x
 or-refused-answered k none x e = absurd (not-both k x e)
 or-refused-answered k (some y) x e = ap some (answered-injective y x e)
 

@@ -1,4 +1,5 @@
--- The clauses hold (`size-clauses`, `move-clauses`, `list-clauses`).
+-- The clauses of size, reach, breadth and moves hold (`size-clauses`, `move-clauses`, `list-clauses`; document 01, "Unfolding, size and breadth" and "Moves, in
+-- order").
 use mathlib.Core.Path.{_≡_, refl, ap, sym, _∙_, subst}
 use mathlib.Core.Bool.{Bool, true, false, _&&_, cond}
 use mathlib.Core.List.{List, [], _∷_}
@@ -8,7 +9,7 @@ use native.Mathlib.Nat.{mul-suc}
 use lib.Dec.{T, eqb, eqb→eq}
 use lib.ListN.{length}
 use Rattle.eb3.specs.Generic.AllLists.{All}
-use Rattle.eb3.specs.Generic.Booleans.{T-and, T-fst, T-snd}
+use Rattle.eb3.specs.Generic.Booleans.{T-and, T-fst, T-snd, cond-false}
 use Rattle.eb3.specs.Generic.Lists.{filter}
 use Rattle.eb3.specs.Expressions.{Cond}
 use Rattle.eb3.specs.Terms.{Term, Done, Internal, Perform, Sequence, Choice, Star, Parallel, Guard, Mask, Action, internal, visible, VisibleAction, bit, in-mask, same-action, done?}
@@ -92,10 +93,6 @@ is-done (Star E) t = absurd t
 is-done (Parallel Δ E F) t = absurd t
 is-done (Guard C E) t = absurd t
 
-else : {A : Type 0} (b : Bool) (x y : A) → (T b → ⊥) → cond b x y ≡ y
-else true x y n = absurd (n tt)
-else false x y n = refl
-
 pub move-clauses : (g : Cond → Bool) (E F : Term) (C : Cond) (Δ : Mask) (a : VisibleAction) → MoveClauses g E F C Δ a
 unfolding moves done? in-mask
 move-clauses g E F C Δ a = record {
@@ -103,11 +100,11 @@ move-clauses g E F C Δ a = record {
   internal-step = refl;
   action = refl;
   sequence-done = refl;
-  sequence = λ n. else (done? E) _ _ (λ t. n (is-done E t));
+  sequence = λ n. cond-false _ _ (done? E) (λ t. n (is-done E t));
   choice = refl;
   star = refl;
   parallel-done = refl;
-  parallel = λ n. else (done? E && done? F) _ _ (λ t. n (is-done E (T-fst (done? E) (done? F) t), is-done F (T-snd (done? E) (done? F) t)));
+  parallel = λ n. cond-false _ _ (done? E && done? F) (λ t. n (is-done E (T-fst (done? E) (done? F) t), is-done F (T-snd (done? E) (done? F) t)));
   guard-holds = λ e. ap (λ b. cond b (moves g E) []) e;
   guard-fails = λ e. ap (λ b. cond b (moves g E) []) e;
   internal-outside = refl;

@@ -1,4 +1,5 @@
--- The codes are these (`number-codes`, `expression-codes`, `term-codes`, `rule-codes`, `section-words`).
+-- The codes are these (`number-codes`, `expression-codes`, `term-codes`, `rule-codes`, `section-words`; document 01, "Values and conditions" and "Blocks and the rule
+-- stream").
 use mathlib.Core.Path.{refl}
 use mathlib.Core.List.{List}
 use Prim.Native.Nat.{ℕ}

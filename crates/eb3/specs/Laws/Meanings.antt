@@ -1,4 +1,4 @@
--- The meanings hold (`data-meanings`, `condition-meanings`, `domain-meanings`, `environment-meanings`, `reading-meanings`, `state-meanings`, `step-states`).
+-- Document 01, "Values and conditions" and "Memory and the history machine": the meanings hold (`data-meanings`, `condition-meanings`, `domain-meanings`, `environment-meanings`, `reading-meanings`, `state-meanings`, `step-states`).
 use mathlib.Core.Path.{_≡_, refl, ap}
 use mathlib.Core.Option.{some, Option·some-injective, Option·none-ne-some}
 use mathlib.Core.Bool.{Bool, true, false, not, _&&_, _||_, cond}

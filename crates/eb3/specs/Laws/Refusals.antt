@@ -50,7 +50,7 @@ by-kind : OfStream Refusal.kind
 unfolding one-of
 by-kind = tt
 
-picked : {A : Type 0} (P : A → Type 0) (b : Bool) (x y : A) → P x → P y → P (pick b x y)
+pub picked : {A : Type 0} (P : A → Type 0) (b : Bool) (x y : A) → P x → P y → P (pick b x y)
 picked P true x y p q = p
 picked P false x y p q = q
 

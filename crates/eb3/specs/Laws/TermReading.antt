@@ -187,7 +187,7 @@ unfolding read-term
 term-takes R p E rest h = terms-take R p (length (words (R .edition .width) E ++ rest)) E rest (h, omega (arith, length-append (words (R .edition .width) E) rest, words-length R E h))
 
 -- With nothing behind it.
-alone-taken : (R : RuleSet) → 1 ≤ R .edition .width → (E : Term) → well-formed R E → read-term R (words (R .edition .width) E) ≡ taken E []
+pub alone-taken : (R : RuleSet) → 1 ≤ R .edition .width → (E : Term) → well-formed R E → read-term R (words (R .edition .width) E) ≡ taken E []
 alone-taken R p E h = ap (read-term R) (sym (append-nil (words (R .edition .width) E))) ∙ term-takes R p E [] h
 
 abbrev read-off : Read Term → Term
@@ -252,7 +252,7 @@ leaf-back : (ρ : Action) → leaf-of (term-of-action ρ) ≡ some ρ
 leaf-back internal = refl
 leaf-back (visible a) = refl
 
-leaf-form : (R : RuleSet) (ρ : Action) → well-formed-action R ρ → well-formed R (term-of-action ρ)
+pub leaf-form : (R : RuleSet) (ρ : Action) → well-formed-action R ρ → well-formed R (term-of-action ρ)
 leaf-form R internal p = tt
 leaf-form R (visible a) p = p
 

@@ -1,4 +1,4 @@
--- The clauses of unfolding hold (`terms-unfolded`, `expressions-unfolded`, `entries`).
+-- The clauses of unfolding hold (`terms-unfolded`, `expressions-unfolded`, `entries`; document 01, "Unfolding, size and breadth").
 use mathlib.Core.Path.{refl}
 use mathlib.Core.List.{List}
 use Prim.Native.Nat.{ℕ}

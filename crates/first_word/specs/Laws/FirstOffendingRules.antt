@@ -1,17 +1,17 @@
 -- The reader of a rule stream refuses by the number of the first offending word and accepts where no word offends (document 01, "Operations": 4, 5
 -- and 6 by the first offending word of the stream, at one word 4 before 5 before 6): `first-offending-word`.
-use mathlib.Core.Path.{_≡_, refl, ap, sym, _∙_, subst}
+use mathlib.Core.Path.{_≡_, refl, ap, sym, _∙_}
 use mathlib.Core.Bool.{Bool, true, false, _&&_}
 use mathlib.Core.List.{List, [], _∷_, _++_, map, append-nil, append-assoc}
-use mathlib.Core.Option.{Option, none, some}
-use Prim.Native.Nat.{ℕ, zero, suc, _+_, _≤_, _<_}
+use mathlib.Core.Option.{Option}
+use Prim.Native.Nat.{ℕ, zero, suc, _+_, _≤_}
 use native.Mathlib.Omega.{arith}
-use lib.Dec.{T, eqb, ltb, leb, ltb→lt, lt→ltb}
-use lib.ListN.{length, getD, replicate, length-map, length-replicate}
+use lib.Dec.{ltb, leb}
+use lib.ListN.{length, replicate, length-map}
 use Rattle.eb3.specs.Refusal
 use Rattle.eb3.specs.Limits
 use Rattle.eb3.specs.Editions.{Edition}
-use Rattle.eb3.specs.Scopes.{Scope, arities}
+use Rattle.eb3.specs.Scopes.{arities}
 use Rattle.eb3.specs.Scopes
 use Rattle.eb3.specs.Expressions.{Data}
 use Rattle.eb3.specs.RuleSets.{RuleTerm, Function, Process, RuleSet, attributes}
@@ -20,16 +20,14 @@ use Rattle.eb3.specs.Generic.Lists.{concat-map}
 use Rattle.eb3.specs.Generic.AllLists.{AllFrom}
 use Rattle.eb3.specs.Reading.{Read, refused, taken, Reader, pick, giving, then, both, number-of, count-of, repeat, counted, for-each, series}
 use Rattle.eb3.specs.ExpressionReading.{read-data}
-use Rattle.eb3.specs.RuleReading.{read-domains, read-labels, read-parameter-counts, count-for, at-start-scope, at-label-scope, function-from, read-function, read-functions, read-rule-term, parameter-limit, read-process, with-process, read-processes, without-processes, read-rules}
-use Rattle.eb3.specs.Answers.{Answer}
-use Rattle.eb3.specs.Admission.{all-zero, ends-right, ended}
-use Rattle.eb3.specs.Laws.Reading.{Sound, Sounds, series-sound}
+use Rattle.eb3.specs.RuleReading.{read-domains, read-labels, read-parameter-counts, count-for, at-start-scope, at-label-scope, function-from, read-function, read-functions, read-rule-term, parameter-limit, read-process, read-processes, without-processes, read-rules}
+use Rattle.eb3.specs.Laws.Reading.{Sound, series-sound}
 use Rattle.eb3.specs.Laws.RuleSets.{functions-counted}
 use Rattle.eb3.specs.Laws.ParameterCounts.{CountsRead, counts-sound}
 use Rattle.eb3.specs.Laws.RuleReading.{FunctionRead, function-sound, arities-are}
-use Rattle.first_word.specs.FirstOffendingWord.{Declared, nothing-declared, Owner, of-label, of-process, Due, domain-count, domain-size, label-count, function-count, process-count, parameter-count, parameter, function-parameter-count, function-parameter, data-code, term-code, guard-scope, label-scope, empty-trace-scope, parameters-of, by-form, by-reference, from-to, judge, Next, follow, declare, parameters, declare-functions, parameter-counts, expressions, functions-from, processes-due, padding, verdict, sections, first-offending}
-use Rattle.first_word.specs.Laws.FirstOffendingWord.{followed, followed-giving, followed-then, followed-pick, under, nothing-due, Follows, giving-follows, both-follows, number-follows, data-follows}
-use Rattle.first_word.specs.Laws.FirstOffendingTerms.{rules, declared, lower, rule-term-follows}
+use Rattle.first_word.specs.FirstOffendingWord.{Declared, nothing-declared, Owner, of-label, of-process, Due, domain-count, domain-size, label-count, function-count, process-count, parameter-count, parameter, function-parameter-count, function-parameter, data-code, guard-scope, label-scope, empty-trace-scope, parameters-of, by-form, by-reference, from-to, judge, Next, follow, declare, parameters, declare-functions, parameter-counts, expressions, functions-from, processes-due, padding, verdict, first-offending}
+use Rattle.first_word.specs.Laws.FirstOffendingWord.{followed, followed-giving, followed-then, followed-pick, nothing-due, Follows, giving-follows, both-follows, number-follows, data-follows}
+use Rattle.first_word.specs.Laws.FirstOffendingTerms.{rules, declared, rule-term-follows}
 
 pub followed-alike : {A : Type 0} (r : Read A) (g g′ : A → List ℕ → Option ℕ) → ((a : A) (u : List ℕ) → g a u ≡ g′ a u) → followed r g ≡ followed r g′
 unfolding followed

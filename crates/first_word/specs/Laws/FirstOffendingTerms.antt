@@ -1,24 +1,23 @@
--- The readers of masks, arguments and rule terms follow the verdict word by word.
-use mathlib.Core.Path.{_≡_, refl, ap, sym, _∙_, subst}
+-- The readers of masks, arguments and rule terms follow the verdict word by word (document 01, "Blocks and the rule stream", term codes; refusals 4, 5 and 6).
+use mathlib.Core.Path.{_≡_, refl, ap, _∙_, subst}
 use mathlib.Core.Bool.{Bool, true, false}
 use mathlib.Core.List.{List, [], _∷_, _++_, map}
-use mathlib.Core.Option.{Option, none, some}
+use mathlib.Core.Option.{Option, some}
 use Prim.Native.Nat.{ℕ, zero, suc, _-_, _^_, _≤_, min}
 use native.Mathlib.Omega.{arith}
-use lib.Dec.{T, eqb, ltb, leb}
+use lib.Dec.{eqb, ltb, leb}
 use lib.ListN.{length, getD}
 use Rattle.eb3.specs.Refusal
 use Rattle.eb3.specs.Limits
 use Rattle.eb3.specs.Editions.{Edition}
-use Rattle.eb3.specs.Scopes.{Scope}
 use Rattle.eb3.specs.Scopes
-use Rattle.eb3.specs.RuleSets.{Argument, constant-argument, variable-argument, RuleTerm, rule-internal, rule-perform, rule-sequence, rule-choice, rule-star, rule-parallel, rule-guard, choice-over, parallel-over, call, Function, Process, RuleSet, domain-size, label, no-process, process, attributes}
+use Rattle.eb3.specs.RuleSets.{Argument, constant-argument, variable-argument, RuleTerm, rule-internal, rule-perform, rule-sequence, rule-choice, rule-star, rule-parallel, rule-guard, choice-over, parallel-over, call, Function, Process, RuleSet, no-process, attributes}
 use Rattle.eb3.specs.Reading.{Read, refused, taken, Reader, pick, giving, then, both, number-of, by-number, number-in}
 use Rattle.eb3.specs.ExpressionReading.{read-cond}
 use Rattle.eb3.specs.TermReading.{mask-of}
-use Rattle.eb3.specs.RuleReading.{argument-of, arguments-of, rule-action-of, call-of, rule-mask-of, choice-over-of, parallel-over-of, RuleKind, rule-kind, rule-by, rule-step, rule-terms, read-rule-term}
-use Rattle.first_word.specs.FirstOffendingWord.{Declared, Due, condition-code, term-code, label-number, process-number, choice-domain, parallel-domain, mask-word, argument-code, argument-constant, argument-variable, guard-scope, mask-words, mask, term-operands, argument-operands, arguments, judge, follow, verdict}
-use Rattle.first_word.specs.Laws.FirstOffendingWord.{followed, followed-giving, followed-then, followed-pick, alike, under, Follows, giving-follows, both-follows, by-number-follows, number-follows, coded, code-judged, no-words, number-follows-in, condition-follows}
+use Rattle.eb3.specs.RuleReading.{argument-of, arguments-of, rule-action-of, call-of, rule-mask-of, choice-over-of, parallel-over-of, RuleKind, rule-kind, rule-by, rule-terms, read-rule-term}
+use Rattle.first_word.specs.FirstOffendingWord.{Declared, Due, condition-code, term-code, label-number, process-number, choice-domain, parallel-domain, mask-word, argument-code, argument-constant, argument-variable, guard-scope, mask-words, mask, term-operands, argument-operands, arguments, judge, verdict}
+use Rattle.first_word.specs.Laws.FirstOffendingWord.{followed, alike, Follows, giving-follows, both-follows, by-number-follows, number-follows, coded, code-judged, no-words, number-follows-in, condition-follows}
 
 pub mask-follows : (L : Edition) (D : Declared) (n k labels : ℕ) → Follows L D n (mask-of k labels) (λ gs. mask-words k labels ++ gs)
 unfolding mask-of verdict judge followed

@@ -1,12 +1,12 @@
--- The readers of expressions follow the verdict word by word: whatever is due after them, and however many zeros may stand at the end.
-use mathlib.Core.Path.{_≡_, refl, ap, sym, _∙_, subst}
-use mathlib.Core.Bool.{Bool, true, false, _&&_}
-use mathlib.Core.List.{List, [], _∷_, _++_, map}
+-- The readers of expressions (document 01, "Values and conditions") follow the verdict word by word: whatever is due after them, and however many zeros may stand at the end.
+use mathlib.Core.Path.{_≡_, refl, ap, sym, _∙_}
+use mathlib.Core.Bool.{Bool, true, false}
+use mathlib.Core.List.{List, [], _∷_, _++_}
 use mathlib.Core.Option.{Option, none, some}
-use Prim.Native.Nat.{ℕ, zero, suc, _+_, _-_, _*_, _^_, _≤_, _<_, min}
+use Prim.Native.Nat.{ℕ, zero, suc, _+_, _-_, _*_, _≤_}
 use native.Mathlib.Omega.{arith}
 use lib.Dec.{T, eqb, ltb, leb}
-use lib.ListN.{length, getD, replicate}
+use lib.ListN.{length, replicate}
 use Rattle.eb3.specs.Refusal
 use Rattle.eb3.specs.Limits
 use Rattle.eb3.specs.Editions.{Edition}
@@ -14,7 +14,7 @@ use Rattle.eb3.specs.Scopes.{Scope}
 use Rattle.eb3.specs.Expressions.{Data, Undefined, Constant, Variable, Add, Subtract, If, Now, Before, Args, Nil, Cons, Cond, Equal, Less, And, Or, Not, True}
 use Rattle.eb3.specs.Reading.{Read, refused, taken, Reader, pick, giving, then, both, number-of, by-number, number-in}
 use Rattle.eb3.specs.ExpressionReading.{DataKind, CondKind, Readers, data-kind, cond-kind, constant-of, args-of, data-by, cond-by, data-step, cond-step, readers, read-data, read-cond}
-use Rattle.first_word.specs.FirstOffendingWord.{Declared, Due, data-code, condition-code, constant, variable-number, function-number, data-operands, condition-operands, is-code, operands, Tests, by-form, with-last, tests, judge, follow, padding, verdict}
+use Rattle.first_word.specs.FirstOffendingWord.{Declared, Due, data-code, condition-code, constant, variable-number, function-number, data-operands, condition-operands, is-code, operands, by-form, with-last, judge, padding, verdict}
 
 -- A verdict by which some word offends.
 abbrev pub Offends : Option ℕ → Type 0

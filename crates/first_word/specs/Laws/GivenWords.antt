@@ -21,7 +21,7 @@ use Rattle.eb3.specs.ExpressionReading.{read-cond}
 use Rattle.eb3.specs.TermReading.{mask-of, element-of, elements-of, perform, TermKind, term-kind, action-of, term-by, terms, read-term, term-of-action}
 use Rattle.eb3.specs.WellFormedness.{well-formed, well-formed-action}
 use Rattle.eb3.specs.Laws.Reading.{Sound}
-use Rattle.eb3.specs.Laws.TermReading.{term-sound, term-takes}
+use Rattle.eb3.specs.Laws.TermReading.{term-sound, alone-taken, leaf-form}
 use Rattle.first_word.specs.FirstOffendingWord.{Declared, Due, condition-code, running-code, running-label, element-code, element-constant, parameters-of, guard-scope, mask, running-operands, judge, padding, verdict}
 use Rattle.first_word.specs.GivenWords.{declared-by, first-stray, GivenWords}
 use Rattle.first_word.specs.Laws.FirstOffendingWord.{Offends, followed, followed-pick, alike, nothing-due, Follows, giving-follows, both-follows, by-number-follows, coded, code-judged, no-words, number-follows-in, condition-follows}
@@ -160,9 +160,7 @@ module _ (R : RuleSet) where
   module _ (positive : 1 ≤ L .width) where
     none-stray : (E : Term) → well-formed R E → first-stray R (words (L .width) E) ≡ none
     unfolding followed padding
-    none-stray E h =
-        let s : List ℕ = words (L .width) E in
-        stray-is s ∙ ap alone (ap (read-term R) (sym (append-nil s)) ∙ term-takes R positive E [] h)
+    none-stray E h = stray-is (words (L .width) E) ∙ ap alone (alone-taken R positive E h)
 
     one-term : (ws : List ℕ) → Spelled ws ↔ (first-stray R ws ≡ none)
     one-term ws = (λ x. ap (first-stray R) (x .1) ∙ none-stray (x .0) (x .2), λ e. spelled-alone ws (read-term R ws) (term-sound R ws) (sym (stray-is ws) ∙ e))
@@ -174,10 +172,6 @@ module _ (R : RuleSet) where
 
   abbrev SpelledEvent : List ℕ → Type 0
   SpelledEvent ws = (ρ : Action) × (ws ≡ words (L .width) (term-of-action ρ)) × well-formed-action R ρ
-
-  leaf-form : (ρ : Action) → well-formed-action R ρ → well-formed R (term-of-action ρ)
-  leaf-form internal h = tt
-  leaf-form (visible a) h = h
 
   leaf-code : (ρ : Action) → Leaf (words (L .width) (term-of-action ρ))
   unfolding words
@@ -201,7 +195,7 @@ module _ (R : RuleSet) where
 
   one-leaf : 1 ≤ L .width → (ws : List ℕ) → SpelledEvent ws ↔ ((first-stray R ws ≡ none) × Leaf ws)
   one-leaf positive ws = (
-    (λ x. (one-term positive ws .0 (term-of-action (x .0), x .1, leaf-form (x .0) (x .2)), subst Leaf (sym (x .1)) (leaf-code (x .0)))),
+    (λ x. (one-term positive ws .0 (term-of-action (x .0), x .1, leaf-form R (x .0) (x .2)), subst Leaf (sym (x .1)) (leaf-code (x .0)))),
     (λ y. let x : Spelled ws = one-term positive ws .1 (y .0) in subst SpelledEvent (sym (x .1)) (leaf-spelled (x .0) (x .2) (subst Leaf (x .1) (y .1)))),
   )
 

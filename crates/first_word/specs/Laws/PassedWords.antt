@@ -1,38 +1,23 @@
--- What holds of what is declared and due (FirstOffendingWord) stays so after a word that passes: `step`. Domains have elements, parameters have
+-- For refusals 4, 5 and 6 (document 01, "Operations"): what holds of what is declared and due (FirstOffendingWord) stays so after a word that passes: `step`. Domains have elements, parameters have
 -- domains, only the next word due may be one that nothing can meet. For constants of one word.
-use mathlib.Core.Path.{_≡_, refl, ap, sym, _∙_, subst}
+use mathlib.Core.Path.{_≡_, refl}
 use mathlib.Core.Bool.{Bool, true, false, _&&_}
 use mathlib.Core.Logic.{_⊎_, inl, inr}
 use mathlib.Core.List.{List, [], _∷_, _++_, map}
 use mathlib.Core.Option.{Option, none, some}
-use Prim.Native.Nat.{ℕ, zero, suc, _+_, _^_, _≤_, _<_, min}
+use Prim.Native.Nat.{ℕ, zero, suc, _+_, _≤_}
 use native.Mathlib.Omega.{arith}
-use lib.Dec.{T, eqb, ltb, leb, ltb→lt, lt→ltb, leb→le, le→leb}
+use lib.Dec.{T, eqb, ltb, leb, ltb→lt, leb→le}
 use lib.ListN.{length, getD, replicate, length-append}
 use Rattle.eb3.specs.Limits
 use Rattle.eb3.specs.Editions.{Edition}
 use Rattle.eb3.specs.Scopes.{Scope}
-use Rattle.eb3.specs.Reading.{pick}
+use Rattle.eb3.specs.Generic.Booleans.{T-fst}
+use Rattle.eb3.specs.Laws.Refusals.{picked}
 use Rattle.eb3.specs.Generic.AllLists.{All, all-at, all-map}
-use Rattle.first_word.specs.FirstOffendingWord.{Declared, nothing-declared, Owner, of-label, of-process, Due, domain-count, domain-size, label-count, function-count, process-count, parameter-count, parameter, function-parameter-count, function-parameter, data-code, condition-code, constant, variable-number, function-number, term-code, label-number, process-number, choice-domain, parallel-domain, mask-word, argument-code, argument-constant, argument-variable, running-code, running-label, element-code, element-constant, Tests, passed, by-form, tests, judge, Next, follow, declare, parameters, declare-functions, parameter-counts, parameters-of, label-scope, expressions, functions-from, processes-due, arguments, data-operands, condition-operands, term-operands, argument-operands, operands, is-code, mask-words, mask, padding, padding-place, verdict, place, sections, first-offending, first-place, with-last}
+use Rattle.first_word.specs.FirstOffendingWord.{Declared, Owner, of-label, of-process, Due, domain-count, domain-size, label-count, function-count, process-count, parameter-count, parameter, function-parameter-count, function-parameter, data-code, condition-code, constant, variable-number, function-number, term-code, label-number, process-number, choice-domain, parallel-domain, mask-word, argument-code, argument-constant, argument-variable, running-code, running-label, element-code, element-constant, Tests, passed, tests, judge, Next, follow, declare, parameters, declare-functions, parameter-counts, parameters-of, label-scope, expressions, functions-from, processes-due, arguments, data-operands, condition-operands, term-operands, argument-operands, operands, mask-words, mask}
 
 -- ── tests ──
-
-pub both-true : (b c : Bool) → T b → T c → T (b && c)
-both-true true c p q = q
-both-true false c p q = p
-
-pub first-true : (b c : Bool) → T (b && c) → T b
-first-true true c h = tt
-first-true false c h = h
-
-pub second-true : (b c : Bool) → T (b && c) → T c
-second-true true c h = h
-second-true false c h = absurd h
-
-pub either : {A : Type 0} (P : A → Type 0) (b : Bool) (x y : A) → P x → P y → P (pick b x y)
-either P true x y p q = p
-either P false x y p q = q
 
 pub judge-passed : (x : Tests) (v : Option ℕ) → T (passed x) → judge x v ≡ v
 unfolding judge
@@ -196,48 +181,48 @@ tail-data D scope (l ∷ ls) = (((tt, tt, refl), tt), tail-data D scope ls)
 module _ (L : Edition) (one : L .width ≡ 1) where
   pub data-fine : (D : Declared) (P : Scope) (c : ℕ) → OperandsFine D (data-operands L P c)
   data-fine D P c =
-      either Q (eqb c 0) _ _ tt
-      (either Q (eqb c 1) _ _ ((tt, tt, one), tt)
-      (either Q (eqb c 2) _ _ ((tt, tt, refl), tt)
-      (either Q (eqb c 3) _ _ ((tt, tt, refl), (((tt, tt, refl), tt), tt))
-      (either Q (eqb c 4) _ _ ((tt, tt, refl), (((tt, tt, refl), tt), tt))
-      (either Q (eqb c 5) _ _ ((tt, tt, refl), (((tt, tt, refl), tt), (((tt, tt, refl), tt), tt)))
-      (either Q (eqb c 6) _ _ ((tt, tt, refl), tt)
-      (either Q (eqb c 7) _ _ (either Q (ltb 0 (P .before)) _ _ ((tt, tt, refl), tt) tt) tt)))))))
+      picked Q (eqb c 0) _ _ tt
+      (picked Q (eqb c 1) _ _ ((tt, tt, one), tt)
+      (picked Q (eqb c 2) _ _ ((tt, tt, refl), tt)
+      (picked Q (eqb c 3) _ _ ((tt, tt, refl), (((tt, tt, refl), tt), tt))
+      (picked Q (eqb c 4) _ _ ((tt, tt, refl), (((tt, tt, refl), tt), tt))
+      (picked Q (eqb c 5) _ _ ((tt, tt, refl), (((tt, tt, refl), tt), (((tt, tt, refl), tt), tt)))
+      (picked Q (eqb c 6) _ _ ((tt, tt, refl), tt)
+      (picked Q (eqb c 7) _ _ (picked Q (ltb 0 (P .before)) _ _ ((tt, tt, refl), tt) tt) tt)))))))
     where
       Q : Option (List Due) → Type 0
       Q = OperandsFine D
 
   pub condition-fine : (D : Declared) (P : Scope) (c : ℕ) → OperandsFine D (condition-operands P c)
   condition-fine D P c =
-      either Q (eqb c 8) _ _ ((tt, tt, refl), (((tt, tt, refl), tt), tt))
-      (either Q (eqb c 9) _ _ ((tt, tt, refl), (((tt, tt, refl), tt), tt))
-      (either Q (eqb c 10) _ _ ((tt, tt, refl), (((tt, tt, refl), tt), tt))
-      (either Q (eqb c 11) _ _ ((tt, tt, refl), (((tt, tt, refl), tt), tt))
-      (either Q (eqb c 12) _ _ ((tt, tt, refl), tt)
-      (either Q (eqb c 13) _ _ tt tt)))))
+      picked Q (eqb c 8) _ _ ((tt, tt, refl), (((tt, tt, refl), tt), tt))
+      (picked Q (eqb c 9) _ _ ((tt, tt, refl), (((tt, tt, refl), tt), tt))
+      (picked Q (eqb c 10) _ _ ((tt, tt, refl), (((tt, tt, refl), tt), tt))
+      (picked Q (eqb c 11) _ _ ((tt, tt, refl), (((tt, tt, refl), tt), tt))
+      (picked Q (eqb c 12) _ _ ((tt, tt, refl), tt)
+      (picked Q (eqb c 13) _ _ tt tt)))))
     where
       Q : Option (List Due) → Type 0
       Q = OperandsFine D
 
   pub term-fine : (D : Declared) (lower : List (List ℕ)) (Γ : List ℕ) → All (Elements D) lower → (c : ℕ) → OperandsFine D (term-operands L D lower Γ c)
   term-fine D lower Γ q c =
-      either Q (eqb c 20) _ _ tt
-      (either Q (eqb c 21) _ _ ((tt, tt, refl), tt)
-      (either Q (eqb c 22) _ _ ((q, tt, refl), (((q, tt, refl), tt), tt))
-      (either Q (eqb c 23) _ _ ((q, tt, refl), (((q, tt, refl), tt), tt))
-      (either Q (eqb c 24) _ _ ((q, tt, refl), tt)
-      (either Q (eqb c 25) _ _ (dues-of-tail D (mask D ++ (term-code lower Γ ∷ term-code lower Γ ∷ [])) (tail-append D (mask D) (term-code lower Γ ∷ term-code lower Γ ∷ []) (tail-mask D 4 (length (D .labels))) (((q, tt, refl), tt), (((q, tt, refl), tt), tt))))
-      (either Q (eqb c 26) _ _ ((tt, tt, refl), (((q, tt, refl), tt), tt))
-      (either Q (eqb c 27) _ _ (either Q (ltb (length Γ) Limits.variables) _ _ ((q, tt, refl), tt) tt)
-      (either Q (eqb c 28) _ _ (either Q (ltb (length Γ) Limits.variables) _ _ ((q, tt, refl), tt) tt)
-      (either Q (eqb c 29) _ _ ((q, tt, refl), tt) tt)))))))))
+      picked Q (eqb c 20) _ _ tt
+      (picked Q (eqb c 21) _ _ ((tt, tt, refl), tt)
+      (picked Q (eqb c 22) _ _ ((q, tt, refl), (((q, tt, refl), tt), tt))
+      (picked Q (eqb c 23) _ _ ((q, tt, refl), (((q, tt, refl), tt), tt))
+      (picked Q (eqb c 24) _ _ ((q, tt, refl), tt)
+      (picked Q (eqb c 25) _ _ (dues-of-tail D (mask D ++ (term-code lower Γ ∷ term-code lower Γ ∷ [])) (tail-append D (mask D) (term-code lower Γ ∷ term-code lower Γ ∷ []) (tail-mask D 4 (length (D .labels))) (((q, tt, refl), tt), (((q, tt, refl), tt), tt))))
+      (picked Q (eqb c 26) _ _ ((tt, tt, refl), (((q, tt, refl), tt), tt))
+      (picked Q (eqb c 27) _ _ (picked Q (ltb (length Γ) Limits.variables) _ _ ((q, tt, refl), tt) tt)
+      (picked Q (eqb c 28) _ _ (picked Q (ltb (length Γ) Limits.variables) _ _ ((q, tt, refl), tt) tt)
+      (picked Q (eqb c 29) _ _ ((q, tt, refl), tt) tt)))))))))
     where
       Q : Option (List Due) → Type 0
       Q = OperandsFine D
 
   pub argument-fine : (D : Declared) (Γ : List ℕ) (d : ℕ) → Element D d → (c : ℕ) → OperandsFine D (argument-operands L Γ d c)
-  argument-fine D Γ d h c = either Q (eqb c 1) _ _ ((tt, (h, tt), one), tt) (either Q (eqb c 2) _ _ ((tt, tt, refl), tt) tt)
+  argument-fine D Γ d h c = picked Q (eqb c 1) _ _ ((tt, (h, tt), one), tt) (picked Q (eqb c 2) _ _ ((tt, tt, refl), tt) tt)
     where
       Q : Option (List Due) → Type 0
       Q = OperandsFine D
@@ -278,7 +263,7 @@ module _ (L : Edition) (one : L .width ≡ 1) where
   pub step : (D : Declared) (d : Due) (w : ℕ) → Fine D d → Sane D → Started D d → T (passed (tests L D d w)) → Stepped D (follow L D d w)
   step D domain-count w h s o p = let z : ⊥ = omega (arith, h .2) in absurd z
   step D domain-size w h s o p =
-      let l : 1 ≤ w = leb→le 1 w (first-true (leb 1 w) (leb w Limits.domain-size) (first-true (leb 1 w && leb w Limits.domain-size) true p)) in
+      let l : 1 ≤ w = leb→le 1 w (T-fst (leb 1 w) (leb w Limits.domain-size) (T-fst (leb 1 w && leb w Limits.domain-size) true p)) in
       record {
         sane = (all-append (λ n. 1 ≤ n) (D .domains) (w ∷ []) (s .0) (l, tt), all-map (Elements D) (Elements E) up (D .labels) (s .1), all-map (Elements D) (Elements E) up (D .processes) (s .2));
         grows = (grown (D .domains) w, omega (arith, length-append (D .domains) (w ∷ [])));
@@ -292,12 +277,12 @@ module _ (L : Edition) (one : L .width ≡ 1) where
       up : (ds : List ℕ) → Elements D ds → Elements E ds
       up ds h = all-map (Element D) (Element E) (grown (D .domains) w) ds h
   step D label-count w h s o p = same-declared D _ s o (dues-of-tail D (replicate w (parameter-count of-label Limits.label-parameters)) (tail-replicate D w (parameter-count of-label Limits.label-parameters) (tt, tt, refl) tt))
-  step D function-count w h s o p = either (Stepped D) (L .counts-written) _ _ (counts-stepped D w w [] s o) (functions-stepped D w (replicate w 1) s o)
+  step D function-count w h s o p = picked (Stepped D) (L .counts-written) _ _ (counts-stepped D w w [] s o) (functions-stepped D w (replicate w 1) s o)
   step D (function-parameter-count n k counts) w h s o p = counts-stepped D n k (counts ++ (w ∷ [])) s o
   step D process-count w h s o p = same-declared D _ s o (dues-of-tail D (processes-due w) (tail-processes D w))
   step D (parameter-count b limit) w h s o p = parameters-stepped D b w [] s o tt
   step D (parameter b n ds) w h s o p =
-      parameters-stepped D b n (ds ++ (w ∷ [])) s o (all-append (Element D) ds (w ∷ []) (h .1) (all-at (λ n. 1 ≤ n) (D .domains) (s .0) w 0 (ltb→lt w (length (D .domains)) (first-true (ltb w (length (D .domains))) true p)), tt))
+      parameters-stepped D b n (ds ++ (w ∷ [])) s o (all-append (Element D) ds (w ∷ []) (h .1) (all-at (λ n. 1 ≤ n) (D .domains) (s .0) w 0 (ltb→lt w (length (D .domains)) (T-fst (ltb w (length (D .domains))) true p)), tt))
   step D function-parameter w h s o p = same-declared D [] s o tt
   step D (data-code P) w h s o p = same-declared D _ s o (operands-fine D (data-operands L P w) (data-fine D P w))
   step D (condition-code P) w h s o p = same-declared D _ s o (operands-fine D (condition-operands P w) (condition-fine D P w))
@@ -308,9 +293,9 @@ module _ (L : Edition) (one : L .width ≡ 1) where
   step D (function-number limit P) w h s o p = same-declared D _ s o (dues-of-tail D (replicate (P .arity w) (data-code P)) (tail-replicate D (P .arity w) (data-code P) (tt, tt, refl) tt))
   step D (term-code lower Γ) w h s o p = same-declared D _ s o (operands-fine D (term-operands L D lower Γ w) (term-fine D lower Γ (h .0) w))
   step D (label-number Γ) w h s o p =
-      same-declared D _ s o (dues-of-tail D (arguments Γ (getD (D .labels) w [])) (tail-arguments D Γ (getD (D .labels) w []) (all-at (Elements D) (D .labels) (s .1) w [] (ltb→lt w (length (D .labels)) (first-true (ltb w (length (D .labels))) true p)))))
+      same-declared D _ s o (dues-of-tail D (arguments Γ (getD (D .labels) w [])) (tail-arguments D Γ (getD (D .labels) w []) (all-at (Elements D) (D .labels) (s .1) w [] (ltb→lt w (length (D .labels)) (T-fst (ltb w (length (D .labels))) true p)))))
   step D (process-number lower Γ) w h s o p =
-      same-declared D _ s o (dues-of-tail D (arguments Γ (getD lower w [])) (tail-arguments D Γ (getD lower w []) (all-at (Elements D) lower (h .0) w [] (ltb→lt w (length lower) (first-true (ltb w (length lower)) true p)))))
+      same-declared D _ s o (dues-of-tail D (arguments Γ (getD lower w [])) (tail-arguments D Γ (getD lower w []) (all-at (Elements D) lower (h .0) w [] (ltb→lt w (length lower) (T-fst (ltb w (length lower)) true p)))))
   step D (choice-domain lower Γ) w h s o p = same-declared D _ s o ((h .0, tt, refl), tt)
   step D (parallel-domain lower Γ) w h s o p = same-declared D _ s o (dues-of-tail D (mask D ++ (term-code lower (Γ ++ (w ∷ [])) ∷ [])) (tail-append D (mask D) (term-code lower (Γ ++ (w ∷ [])) ∷ []) (tail-mask D 4 (length (D .labels))) (((h .0, tt, refl), tt), tt)))
   step D (mask-word n) w h s o p = same-declared D [] s o tt

@@ -1,7 +1,7 @@
 -- "4, 5 and 6 by the first offending word of the stream, at one word 4 before 5 before 6" (document 01, "Operations"): a rule stream is refused by
 -- k exactly if the first offending word's number is k, and accepted exactly if none offends; the words after that word do not matter: `stream-refusals`.
 use mathlib.Core.Path.{_≡_, refl, ap, sym, _∙_, subst}
-use mathlib.Core.Bool.{Bool, true, false, _&&_, _||_}
+use mathlib.Core.Bool.{Bool, true, false, _&&_}
 use mathlib.Core.Logic.{_↔_}
 use mathlib.Core.List.{List, [], _∷_, _++_, map}
 use mathlib.Core.Option.{Option, none, some}
@@ -20,9 +20,10 @@ use Rattle.eb3.specs.RuleReading.{read-rules}
 use Rattle.eb3.specs.Answers.{Answer, refused, answered, and-then}
 use Rattle.eb3.specs.Blocks.{whole-blocks, block-count, stream, blocks-right, edition-in, Opened, open-blocks}
 use Rattle.eb3.specs.Admission.{all-zero, ends-right, ended, within-limits, admission}
-use Rattle.first_word.specs.FirstOffendingWord.{Declared, nothing-declared, Due, Tests, passed, tests, judge, follow, padding, padding-place, with-last, verdict, place, sections, first-offending, first-place}
+use Rattle.first_word.specs.FirstOffendingWord.{Declared, nothing-declared, Due, Tests, passed, tests, judge, follow, padding, padding-place, with-last, verdict, place, sections, first-offending}
 use Rattle.first_word.specs.StreamRefusals.{StreamRefusals, AdmissionRefusals}
 use Rattle.eb3.specs.Laws.Reading.{picked, pick-false}
+use Rattle.eb3.specs.Generic.Booleans.{T-or}
 use Rattle.eb3.specs.Laws.Refusals.{Within, and-then-within, or-refused-within, refused-within}
 use Rattle.eb3.specs.Laws.Admission.{opened}
 use Rattle.eb3.specs.Laws.Editions.{edition-proper}
@@ -189,19 +190,15 @@ unfolding within-limits one-of
 limits-within R =
     picked (Within (7 ∷ 8 ∷ [])) (leb (reach (R .edition .width) (unfold-main R)) Limits.reach) _ _ (λ a. picked (Within (7 ∷ 8 ∷ [])) (leb (breadth (unfold-main R)) Limits.breadth) _ _ (λ b. tt) tt) tt
 
-either-of : {X : Type 0} (a b : Bool) → T (a || b) → (T a → X) → (T b → X) → X
-either-of true b t f g = f tt
-either-of false b t f g = g t
-
 -- No number of 4 to 6 is one of these.
 not-opened : (k : ℕ) → 4 ≤ k → T (one-of (1 ∷ 2 ∷ 3 ∷ []) k) → ⊥
 unfolding one-of
-not-opened k h t = either-of (eqb k 1) _ t (λ u. let e : k ≡ 1 = eqb→eq k 1 u in omega arith)
-    (λ t. either-of (eqb k 2) _ t (λ u. let e : k ≡ 2 = eqb→eq k 2 u in omega arith) (λ t. either-of (eqb k 3) _ t (λ u. let e : k ≡ 3 = eqb→eq k 3 u in omega arith) (λ t. t)))
+not-opened k h t = T-or (eqb k 1) _ t (λ u. let e : k ≡ 1 = eqb→eq k 1 u in omega arith)
+    (λ t. T-or (eqb k 2) _ t (λ u. let e : k ≡ 2 = eqb→eq k 2 u in omega arith) (λ t. T-or (eqb k 3) _ t (λ u. let e : k ≡ 3 = eqb→eq k 3 u in omega arith) (λ t. t)))
 
 not-limits : (k : ℕ) → k ≤ 6 → T (one-of (7 ∷ 8 ∷ []) k) → ⊥
 unfolding one-of
-not-limits k h t = either-of (eqb k 7) _ t (λ u. let e : k ≡ 7 = eqb→eq k 7 u in omega arith) (λ t. either-of (eqb k 8) _ t (λ u. let e : k ≡ 8 = eqb→eq k 8 u in omega arith) (λ t. t))
+not-limits k h t = T-or (eqb k 7) _ t (λ u. let e : k ≡ 7 = eqb→eq k 7 u in omega arith) (λ t. T-or (eqb k 8) _ t (λ u. let e : k ≡ 8 = eqb→eq k 8 u in omega arith) (λ t. t))
 
 -- The second of three tests in a row refuses by k, where the first and the third do not.
 second-refuses : {X Y Z : Type 0} (k : ℕ) (a : Answer X) (f : X → Answer Y) (g : Y → Answer Z) → ((j : ℕ) → a ≡ refused j → j ≡ k → ⊥) → ((y : Y) → g y ≡ refused k → ⊥)

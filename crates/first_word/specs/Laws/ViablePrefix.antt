@@ -1,34 +1,35 @@
--- The first offending word is found as early as can be: where some word may stand at a place, the words before it begin an accepted stream
+-- The first offending word (document 01, "Operations") is found as early as can be: where some word may stand at a place, the words before it begin an accepted stream
 -- (`viable`), so a well-formed rule set's spelling (`spelled`). It is not so where none may: a code whose number has nothing to name passes
 -- (Laws/StreamRefusals, `no-variable-after`). For constants of one word.
-use mathlib.Core.Path.{_≡_, refl, ap, sym, _∙_, subst}
+use mathlib.Core.Path.{_≡_, refl, sym, _∙_, subst}
 use mathlib.Core.Bool.{Bool, true, false, _&&_}
-use mathlib.Core.Logic.{_⊎_, inl, inr}
-use mathlib.Core.List.{List, [], _∷_, _++_, map}
-use mathlib.Core.Option.{Option, none, some}
+use mathlib.Core.Logic.{inl, inr}
+use mathlib.Core.List.{List, [], _∷_, _++_}
+use mathlib.Core.Option.{none, some}
 use Prim.Native.Nat.{ℕ, zero, suc, _+_, _^_, _≤_, _<_, min}
 use native.Mathlib.Omega.{arith}
-use lib.Dec.{T, eqb, ltb, leb, ltb→lt, lt→ltb, leb→le, le→leb}
+use lib.Dec.{T, eqb, ltb, leb, ltb→lt, lt→ltb, le→leb}
 use lib.ListN.{length, getD, replicate}
 use lib.Pow.{pow-pos}
 use Rattle.eb3.specs.Limits
 use Rattle.eb3.specs.Editions.{Edition, edition-1, Defined}
-use Rattle.eb3.specs.Scopes.{Scope}
 use Rattle.eb3.specs.Reading.{pick}
-use Rattle.eb3.specs.Generic.AllLists.{All, all-at, all-map}
-use Rattle.first_word.specs.FirstOffendingWord.{Declared, nothing-declared, Owner, of-label, of-process, Due, domain-count, domain-size, label-count, function-count, process-count, parameter-count, parameter, function-parameter-count, function-parameter, data-code, condition-code, constant, variable-number, function-number, term-code, label-number, process-number, choice-domain, parallel-domain, mask-word, argument-code, argument-constant, argument-variable, running-code, running-label, element-code, element-constant, Tests, passed, by-form, tests, judge, Next, follow, declare, parameters, declare-functions, parameter-counts, parameters-of, label-scope, expressions, functions-from, processes-due, arguments, data-operands, condition-operands, term-operands, argument-operands, operands, is-code, mask-words, mask, padding, padding-place, verdict, place, sections, first-offending, first-place, with-last}
+use Rattle.eb3.specs.Generic.Booleans.{T-and, T-fst}
+use Rattle.eb3.specs.Laws.Refusals.{picked}
+use Rattle.eb3.specs.Generic.AllLists.{all-at}
+use Rattle.first_word.specs.FirstOffendingWord.{Declared, nothing-declared, Owner, of-label, of-process, Due, domain-count, domain-size, label-count, function-count, process-count, parameter-count, parameter, function-parameter-count, function-parameter, data-code, condition-code, constant, variable-number, function-number, term-code, label-number, process-number, choice-domain, parallel-domain, mask-word, argument-code, argument-constant, argument-variable, running-code, running-label, element-code, element-constant, passed, by-form, tests, Next, follow, declare, parameters, declare-functions, parameter-counts, functions-from, mask, padding, padding-place, verdict, place, first-offending, first-place, with-last}
 use Rattle.eb3.specs.RuleSets.{RuleSet}
 use Rattle.eb3.specs.RuleSpelling.{rules-words}
 use Rattle.eb3.specs.WellFormedness.{Form}
 use Rattle.eb3.specs.Reading.{Read, refused, taken}
 use Rattle.eb3.specs.RuleReading.{read-rules}
-use Rattle.eb3.specs.Admission.{all-zero, ended}
+use Rattle.eb3.specs.Admission.{ended}
 use Rattle.eb3.specs.Laws.Reading.{Sound}
 use Rattle.eb3.specs.Laws.RuleReading.{FormOf, rules-sound}
 use Rattle.eb3.specs.Laws.Editions.{edition-proper}
 use Rattle.first_word.specs.Laws.FirstOffendingWord.{Offends}
 use Rattle.first_word.specs.Laws.StreamRefusals.{refusal, first-offending-word}
-use Rattle.first_word.specs.Laws.PassedWords.{both-true, first-true, either, judge-passed, Facts, facts, Element, Elements, Sane, Fine, Tail, Dues, Opened, Grows, tail-grows, dues-of-tail, tail-append, dues-append, all-append, tail-replicate, tail-arguments, Stepped, Started, has-domain, tail-mask, declared-stepped, step, functions-stepped, tail-functions}
+use Rattle.first_word.specs.Laws.PassedWords.{judge-passed, facts, Element, Elements, Sane, Fine, Tail, Dues, Opened, Grows, tail-grows, dues-of-tail, tail-append, dues-append, all-append, tail-replicate, tail-arguments, Stepped, Started, has-domain, tail-mask, declared-stepped, step, functions-stepped, tail-functions}
 
 -- An accepted stream spells a rule set of the required form.
 pub spelled : (L : Edition) → Defined L → (words : List ℕ) → first-offending L words ≡ none → (R : RuleSet) × (rest : List ℕ) × (words ≡ rules-words R ++ rest) × Form R
@@ -54,7 +55,7 @@ module _ (L : Edition) (one : L .width ≡ 1) where
   opened D (d ∷ gs) h = inr h
 
   count-passed : (lo hi w : ℕ) → lo ≤ w → w ≤ hi → T (passed (by-form (leb lo w && leb w hi)))
-  count-passed lo hi w p q = both-true (leb lo w && leb w hi) true (both-true (leb lo w) (leb w hi) (le→leb lo w p) (le→leb w hi q)) tt
+  count-passed lo hi w p q = T-and (leb lo w && leb w hi) true (T-and (leb lo w) (leb w hi) (le→leb lo w p) (le→leb w hi q)) tt
 
   module _ (many : 1 ≤ L .function-parameters) where
     -- What is after can be met, whatever was declared.
@@ -80,14 +81,14 @@ module _ (L : Edition) (one : L .width ≡ 1) where
     finish D domain-count gs h q s o r = absurd q
     finish D domain-size gs h q s o r = alone D domain-size gs 1 h s o (count-passed 1 Limits.domain-size 1 (omega arith) (omega arith)) refl r
     finish D label-count gs h q s o r = ends-step D label-count gs 1 (count-passed 1 Limits.labels 1 (omega arith) (omega arith)) (head-ends D of-label Limits.label-parameters gs s (has-domain (length (D .domains)) o) r)
-    finish D function-count gs h q s o r = alone D function-count gs 0 h s o (count-passed 0 Limits.functions 0 (omega arith) (omega arith)) (either (λ (N : Next). N .due ≡ []) (L .counts-written) _ _ refl refl) r
+    finish D function-count gs h q s o r = alone D function-count gs 0 h s o (count-passed 0 Limits.functions 0 (omega arith) (omega arith)) (picked (λ (N : Next). N .due ≡ []) (L .counts-written) _ _ refl refl) r
     finish D (function-parameter-count n k counts) gs h q s o r = absurd q
     finish D process-count gs h q s o r = ends-step D process-count gs 1 (count-passed 1 Limits.processes 1 (omega arith) (omega arith)) (head-ends D of-process 0 gs s (has-domain (length (D .domains)) o) r)
     finish D (parameter-count b limit) gs h q s o r = head-ends D b limit gs s (has-domain (length (D .domains)) o) r
     finish D (parameter b n ds) gs h q s o r = absurd q
     finish D function-parameter gs h q s o r =
         let l : 0 < length (D .domains) = has-domain (length (D .domains)) o in
-        alone D function-parameter gs 0 h s o (both-true (ltb 0 (length (D .domains))) true (lt→ltb 0 (length (D .domains)) l) tt) refl r
+        alone D function-parameter gs 0 h s o (T-and (ltb 0 (length (D .domains))) true (lt→ltb 0 (length (D .domains)) l) tt) refl r
     finish D (data-code P) gs h q s o r = alone D (data-code P) gs 0 h s o tt refl r
     finish D (condition-code P) gs h q s o r = alone D (condition-code P) gs 13 h s o tt refl r
     finish D (constant top n vs) gs h q s o r = absurd q
@@ -98,13 +99,13 @@ module _ (L : Edition) (one : L .width ≡ 1) where
     finish D (process-number lower Γ) gs h q s o r = absurd q
     finish D (choice-domain lower Γ) gs h q s o r = absurd q
     finish D (parallel-domain lower Γ) gs h q s o r = absurd q
-    finish D (mask-word n) gs h q s o r = alone D (mask-word n) gs 0 h s o (both-true (ltb 0 (2 ^ min n 16)) true (lt→ltb 0 (2 ^ min n 16) (pow-pos (min n 16))) tt) refl r
+    finish D (mask-word n) gs h q s o r = alone D (mask-word n) gs 0 h s o (T-and (ltb 0 (2 ^ min n 16)) true (lt→ltb 0 (2 ^ min n 16) (pow-pos (min n 16))) tt) refl r
     finish D (argument-code Γ d) gs h q s o r =
         ends-step D (argument-code Γ d) gs 1 tt (subst (λ n. Ends D (argument-constant d n [] ∷ gs)) (sym one)
         (alone D (argument-constant d 1 []) gs 0 (tt, h .1, refl) s o (zero-fits d (h .1 .0)) refl r))
       where
         zero-fits : (d : ℕ) → Element D d → T (passed (tests L D (argument-constant d 1 []) 0))
-        zero-fits d e = both-true (leb (with-last [] 0) (L .top)) (true && ltb (with-last [] 0) (getD (D .domains) d 0)) (le→leb 0 (L .top) (omega arith)) (lt→ltb 0 (getD (D .domains) d 0) e)
+        zero-fits d e = T-and (leb (with-last [] 0) (L .top)) (true && ltb (with-last [] 0) (getD (D .domains) d 0)) (le→leb 0 (L .top) (omega arith)) (lt→ltb 0 (getD (D .domains) d 0) e)
     finish D (argument-constant d n vs) gs h q s o r = absurd q
     finish D (argument-variable Γ d) gs h q s o r = absurd q
     finish D running-code gs h q s o r = absurd q
@@ -136,7 +137,7 @@ module _ (L : Edition) (one : L .width ≡ 1) where
         let st : Stepped D (declare D of-process es) = declared-stepped L one D of-process es s (inr o) h in
         alone (declare D of-process es .declared) (term-code (D .processes) es) gs 20 (s .2, tt, refl) (st .sane) (inr (st .started)) tt refl (λ E q o g. r E q o g)
     parameters-end (suc n) D b es gs s o h r =
-        ends-step D (parameter b n es) gs 0 (both-true (ltb 0 (length (D .domains))) true (lt→ltb 0 (length (D .domains)) o) tt)
+        ends-step D (parameter b n es) gs 0 (T-and (ltb 0 (length (D .domains))) true (lt→ltb 0 (length (D .domains)) o) tt)
         (parameters-end n D b (es ++ (0 ∷ [])) gs s o (all-append (Element D) es (0 ∷ []) h (all-at (λ n. 1 ≤ n) (D .domains) (s .0) 0 0 o, tt)) r)
 
     counts-end : (k : ℕ) (D : Declared) (n : ℕ) (counts : List ℕ) (gs : List Due) → Sane D → 1 ≤ length (D .domains) → Tail D gs
@@ -155,7 +156,7 @@ module _ (L : Edition) (one : L .width ≡ 1) where
     live D process-count ds w h s o p t = finish D process-count ds h tt s o (rest-of D ds t)
     live D (parameter-count b limit) ds w h s o p t = finish D (parameter-count b limit) ds h tt s o (rest-of D ds t)
     live D (parameter b n es) ds w h s o p t =
-        let l : w < length (D .domains) = ltb→lt w (length (D .domains)) (first-true (ltb w (length (D .domains))) true p) in
+        let l : w < length (D .domains) = ltb→lt w (length (D .domains)) (T-fst (ltb w (length (D .domains))) true p) in
         ends-step D (parameter b n es) ds w p
         (parameters-end n D b (es ++ (w ∷ [])) ds s (has-domain (length (D .domains)) o) (all-append (Element D) es (w ∷ []) (h .1) (all-at (λ n. 1 ≤ n) (D .domains) (s .0) w 0 l, tt)) (rest-of D ds t))
     live D (function-parameter-count n k counts) ds w h s o p t = ends-step D (function-parameter-count n k counts) ds w p (counts-end k D n (counts ++ (w ∷ [])) ds s (has-domain (length (D .domains)) o) t)
@@ -169,9 +170,9 @@ module _ (L : Edition) (one : L .width ≡ 1) where
     live D (function-number limit P) ds w h s o p t = through D (function-number limit P) ds w h s o p t (tail-replicate D (P .arity w) (data-code P) (tt, tt, refl) tt)
     live D (term-code lower Γ) ds w h s o p t = finish D (term-code lower Γ) ds h tt s o (rest-of D ds t)
     live D (label-number Γ) ds w h s o p t = through D (label-number Γ) ds w h s o p t
-        (tail-arguments D Γ (getD (D .labels) w []) (all-at (Elements D) (D .labels) (s .1) w [] (ltb→lt w (length (D .labels)) (first-true (ltb w (length (D .labels))) true p))))
+        (tail-arguments D Γ (getD (D .labels) w []) (all-at (Elements D) (D .labels) (s .1) w [] (ltb→lt w (length (D .labels)) (T-fst (ltb w (length (D .labels))) true p))))
     live D (process-number lower Γ) ds w h s o p t = through D (process-number lower Γ) ds w h s o p t
-        (tail-arguments D Γ (getD lower w []) (all-at (Elements D) lower (h .0) w [] (ltb→lt w (length lower) (first-true (ltb w (length lower)) true p))))
+        (tail-arguments D Γ (getD lower w []) (all-at (Elements D) lower (h .0) w [] (ltb→lt w (length lower) (T-fst (ltb w (length lower)) true p))))
     live D (choice-domain lower Γ) ds w h s o p t = through D (choice-domain lower Γ) ds w h s o p t (((h .0, tt, refl), tt), tt)
     live D (parallel-domain lower Γ) ds w h s o p t = through D (parallel-domain lower Γ) ds w h s o p t (tail-append D (mask D) (term-code lower (Γ ++ (w ∷ [])) ∷ []) (tail-mask D 4 (length (D .labels))) (((h .0, tt, refl), tt), tt))
     live D (mask-word n) ds w h s o p t = finish D (mask-word n) ds h tt s o (rest-of D ds t)
@@ -225,7 +226,7 @@ module _ (L : Edition) (one : L .width ≡ 1) where
     unfolding place verdict
     viable [] e w f = ends-step nothing-declared domain-count after-domains 1 (count-passed 1 Limits.domains 1 (omega arith) (omega arith))
         (complete (domain-size ∷ after-domains) nothing-declared (tt, tt, tt) (inl tt) (((tt, tt, refl), tt), tail-after))
-    viable (zero ∷ t) e w f = absurd (first-true (leb 1 0) (leb 0 Limits.domains) (first-true (leb 1 0 && leb 0 Limits.domains) true (counted-on (passed (tests L nothing-declared domain-count 0)) (place L t nothing-declared after-domains) (length t) e .0)))
+    viable (zero ∷ t) e w f = absurd (T-fst (leb 1 0) (leb 0 Limits.domains) (T-fst (leb 1 0 && leb 0 Limits.domains) true (counted-on (passed (tests L nothing-declared domain-count 0)) (place L t nothing-declared after-domains) (length t) e .0)))
     viable (suc m ∷ t) e w f =
         let gs : List Due = replicate (suc m) domain-size ++ after-domains in
         let c : T (passed (tests L nothing-declared domain-count (suc m))) × (place L t nothing-declared gs ≡ length t) = counted-on (passed (tests L nothing-declared domain-count (suc m))) (place L t nothing-declared gs) (length t) e in
