@@ -4,6 +4,8 @@
 //! Document 01, "Operations" and "A C host on the controller calls every operation with numbers and byte
 //! slices". Nothing checks these declarations against the engine's source but the tests.
 
+#[cfg(before)]
+pub mod before;
 mod operations;
 mod running;
 
@@ -38,10 +40,14 @@ pub fn admit_nothing() -> AdmitReply {
     unsafe { eb3_admit(std::ptr::null(), 0) }
 }
 
-/// Admit: the sizes, or the refusal's number. A refusal that carries anything but its number, or a
-/// number that is none of Admit's, is a fault of the engine.
+/// Admit: the sizes, or the refusal's number.
 pub fn admit(rules: &[u8]) -> Answer {
-    let reply = admit_reply(rules);
+    answer_of(admit_reply(rules))
+}
+
+/// A refusal that carries anything but its number, or a number that is none of Admit's, is a fault of
+/// the engine.
+fn answer_of(reply: AdmitReply) -> Answer {
     if reply.refusal == 0 {
         return Ok(Sizes {
             cells: reply.cells,

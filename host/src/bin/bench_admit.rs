@@ -2,7 +2,8 @@
 //!
 //! Run it in a release build (`cargo run --release --bin bench_admit`). Each sample times a batch of
 //! calls; the figures are medians over the samples, plain and engine taking turns. Without the static
-//! library the plain reader stands alone.
+//! library the plain reader stands alone; with that of another revision (`host/before`) it takes its turn
+//! too, under "before".
 
 use std::hint::black_box;
 use std::time::{Duration, Instant};
@@ -20,12 +21,16 @@ type Admit = fn(&[u8]) -> Answer;
 const ENGINE: Option<Admit> = Some(host::engine::admit);
 #[cfg(not(cabinet))]
 const ENGINE: Option<Admit> = None;
+#[cfg(all(cabinet, before))]
+const BEFORE: Option<Admit> = Some(host::engine::before::admit);
+#[cfg(not(all(cabinet, before)))]
+const BEFORE: Option<Admit> = None;
 
 fn main() {
     on_large_stack(|| {
         println!(
-            "{:40} {:>7} {:>10} {:>10} {:>7}",
-            "admit, microseconds a call", "blocks", "plain", "engine", "ratio"
+            "{:40} {:>7} {:>10} {:>10} {:>7} {:>10} {:>7}",
+            "admit, microseconds a call", "blocks", "plain", "engine", "ratio", "before", "ratio"
         );
         for (name, bytes) in inputs() {
             row(name, &bytes);
@@ -56,25 +61,34 @@ fn inputs() -> Vec<(&'static str, Vec<u8>)> {
 
 fn row(name: &str, bytes: &[u8]) {
     let answer = plain::admit(bytes);
-    let mut plain_times = Vec::new();
-    let mut engine_times = Vec::new();
+    let readers = [Some(plain::admit as Admit), ENGINE, BEFORE];
+    let mut times = [(); 3].map(|()| Vec::with_capacity(SAMPLES));
     let calls = calls_in_a_batch(plain::admit, bytes);
     for _ in 0..SAMPLES {
-        plain_times.push(sample(plain::admit, bytes, calls));
-        if let Some(engine) = ENGINE {
-            engine_times.push(sample(engine, bytes, calls));
+        for (reader, times) in readers.iter().zip(&mut times) {
+            if let Some(admit) = reader {
+                times.push(sample(*admit, bytes, calls));
+            }
         }
     }
-    let plain = median(&mut plain_times);
-    let (engine, ratio) = match ENGINE {
-        Some(admit) => {
-            assert_eq!(answer, admit(bytes), "{name}: plain (left) and engine (right) differ");
-            let engine = median(&mut engine_times);
-            (format!("{engine:.3}"), format!("{:.2}", engine / plain))
-        }
-        None => ("-".to_string(), "-".to_string()),
+    for admit in readers.into_iter().flatten() {
+        assert_eq!(answer, admit(bytes), "{name}: plain (left) and engine (right) differ");
+    }
+    let [plain, engine, before] = times.map(|mut times| median(&mut times));
+    let figure = |time: Option<f64>| time.map_or("-".to_string(), |time| format!("{time:.3}"));
+    let ratio = |over: Option<f64>, under: Option<f64>| match (over, under) {
+        (Some(over), Some(under)) => format!("{:.2}", over / under),
+        _ => "-".to_string(),
     };
-    println!("{name:40} {:>7} {plain:>10.3} {engine:>10} {ratio:>7}", bytes.len() / 512);
+    println!(
+        "{name:40} {:>7} {:>10} {:>10} {:>7} {:>10} {:>7}",
+        bytes.len() / 512,
+        figure(plain),
+        figure(engine),
+        ratio(engine, plain),
+        figure(before),
+        ratio(engine, before)
+    );
 }
 
 fn calls_in_a_batch(admit: Admit, bytes: &[u8]) -> u32 {
@@ -95,7 +109,7 @@ fn sample(admit: Admit, bytes: &[u8], calls: u32) -> f64 {
     start.elapsed().as_secs_f64() * 1e6 / f64::from(calls)
 }
 
-fn median(times: &mut [f64]) -> f64 {
+fn median(times: &mut [f64]) -> Option<f64> {
     times.sort_by(f64::total_cmp);
-    times[times.len() / 2]
+    times.get(times.len() / 2).copied()
 }
