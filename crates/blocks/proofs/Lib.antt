@@ -3,3 +3,4 @@ mod Sums
 mod Right
 mod Joining
 mod Cases
+mod Remainders

@@ -34,11 +34,31 @@ fn small(x: u8) -> u16
     x as u16
 }
 
-// A sum brought under 255.
+// A sum with the remainder of x: what x has above bit 32, added to what it has below. 2^32 is 255 * 16843009 + 1, so that
+// taking 2^32 away and adding 1 keeps the remainder. A number below 2^32 stays as it is.
+fn fold(x: u64) -> u64
+    ensures { λ r. ⌜ (r ≡ x / 4294967296 + x % 4294967296) × (r % 255 ≡ x % 255) ⌝ }
+{
+    let high = x >> 32;
+    high + (x - 4294967296 * high)
+}
+
+// The remainder by 255, by a product and a shift. With z = 255 * a + b and b < 255, and with 255 * 16843009 = 2^32 - 1, the
+// product (z + 1) * 16843009 is 2^32 * a + ((b + 1) * 16843009 - a). While a is at most 16843009, the part in brackets is
+// not negative, and it is below 2^32, since b + 1 is at most 255. So the shift by 32 leaves a, and z - 255 * a is b.
+fn remainder_255(z: u64) -> u64
+    requires { ⌜ z < 4294967550 ⌝ }
+    ensures { λ r. ⌜ r ≡ z % 255 ⌝ }
+{
+    z - 255 * (((z + 1) * 16843009) >> 32)
+}
+
+// A sum brought under 255, without a branch or a division. Two folds bring any x below 2^32; a block's sums, at most
+// 130,050 and 33,227,775, are below it from the start.
 pub fn under_255(x: u64) -> u64
     ensures { λ r. ⌜ r ≡ x % 255 ⌝ }
 {
-    x % 255
+    remainder_255(fold(fold(x)))
 }
 
 // What eight bytes add: to a, and to b besides eight times the a before them. In 16 bits, and with

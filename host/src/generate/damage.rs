@@ -137,6 +137,7 @@ fn headers(file: &[u8], take: Taker) {
     swapped[..2 * BLOCK_BYTES].rotate_left(BLOCK_BYTES);
     take(Case::new("two blocks swapped", swapped, Expected::Refused(BLOCK)));
     sums_of_255(take);
+    large_sums(take);
 }
 
 /// A sum that is 0 is stored as 0: 255 is another byte.
@@ -154,6 +155,38 @@ fn sums_of_255(take: Taker) {
                 let mut bytes = file.clone();
                 bytes[place] = 255;
                 take(Case::new("sum 0 stored as 255", bytes, Expected::Refused(BLOCK)));
+            }
+        }
+    }
+}
+
+/// A block number 0 whose sum B, no remainder taken, is `sum`: each byte as large as the sum still allows, and the last
+/// one counts once.
+fn block_with_sum(sum: usize) -> Vec<u8> {
+    let mut block = vec![0; BLOCK_BYTES];
+    let mut left = sum;
+    for (place, byte) in block.iter_mut().enumerate().skip(HEADER_BYTES) {
+        let times = BLOCK_BYTES - place;
+        *byte = (left / times).min(255) as u8;
+        left -= usize::from(*byte) * times;
+    }
+    assert_eq!(0, left, "no block has a sum of {sum}");
+    repair(&mut block);
+    block
+}
+
+/// Sums B around each power of two, up to the largest. A block that is right goes on to refusal 3, since its first word
+/// is not 1; one with a sum that is 1 more or less is refused 2.
+fn large_sums(take: Taker) {
+    let largest = 255 * (1..=BLOCK_BYTES - HEADER_BYTES).sum::<usize>();
+    let powers = (11..=24).map(|power| 1 << power);
+    for middle in powers.chain([largest]) {
+        for sum in middle - 300..=(middle + 300).min(largest) {
+            let block = block_with_sum(sum);
+            for (change, refusal) in [(0, EDITION), (1, BLOCK), (255, BLOCK)] {
+                let mut bytes = block.clone();
+                bytes[3] = bytes[3].wrapping_add(change);
+                take(Case::new(format!("sum B of {sum}, plus {change}"), bytes, Expected::Refused(refusal)));
             }
         }
     }
