@@ -55,7 +55,7 @@ take k = visible (record { label = 0; arguments = k ∷ [] })
 abbrev bring : ℕ → Action
 bring k = visible (record { label = 1; arguments = k ∷ [] })
 
-abbrev key : ℕ → Term
+abbrev pub key : ℕ → Term
 key k = Star (Sequence (Guard (Equal (Now 0 (Cons (Constant k) Nil)) (Constant 0)) (Perform (record { label = 0; arguments = k ∷ [] }))) (Perform (record { label = 1; arguments = k ∷ [] })))
 
 abbrev both : Term
