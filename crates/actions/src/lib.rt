@@ -1,4 +1,6 @@
 // Actions as numbers: read off a running term, and tested against a mask (document 01, "Moves, in order").
+#![tactic(auto)]
+
 ghost use Rattle.std.specs.Prelude.{◌≡◌, Bool, List, [], ◌∷◌, ◌++◌, ℕ, ◌+◌, ◌*◌, ◌-◌, ◌≤◌, ◌<◌, length, get_or};
 ghost use Rattle.eb3.specs.Terms.{VisibleAction, visible};
 ghost use Rattle.actions.specs.Codes.{arguments_code, action_code, Small, ActionAt};

@@ -1,5 +1,7 @@
 // The operations, as Rattle functions that answer enums (document 01, "Operations"). Each contract is an equation with
 // the specification's operation, for every input.
+#![tactic(auto)]
+
 ghost use Rattle.std.specs.Prelude.{◌≡◌, Bool, List, [], ◌∷◌, ◌++◌, ℕ, ◌+◌, ◌*◌, ◌≤◌, ◌<◌, length, take, drop};
 ghost use Rattle.eb3.specs.RuleReading.{read_rules};
 ghost use Rattle.eb3.specs.Blocks.{stream};
@@ -17,7 +19,7 @@ use rules::{Rules, read};
 use scan::last;
 use weights::{Limits, Weight};
 
-#[derive(Drop)]
+#[derive(Clone, Copy)]
 pub enum Admitted {
     Sizes(Limits),
     Refused(u8),

@@ -1,5 +1,7 @@
 // Masks and arguments of process terms, and the tables that they are judged by (document 01, "Blocks and the rule
 // stream", item 5: four mask words; arguments are codes 1 or 2, of the parameter's domain).
+#![tactic(auto)]
+
 ghost use Rattle.std.specs.Prelude.{◌≡◌, Bool, List, [], ◌∷◌, ◌++◌, ℕ, ◌+◌, ◌-◌, ◌*◌, ◌%◌, ◌^◌, ◌≤◌, ◌<◌, min, drop, take, get_or, length};
 ghost use Rattle.eb3.specs.Sizes.{zero_mask};
 ghost use Rattle.eb3.specs.RuleSets.{RuleSet, domain_size};

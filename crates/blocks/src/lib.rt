@@ -1,5 +1,7 @@
 // Blocks: their numbers and sums, and the stream that their contents make (document 01, "Blocks and the rule
 // stream"; refusals 1 to 3).
+#![tactic(auto)]
+
 ghost use Rattle.std.specs.Prelude.{◌≡◌, Bool, List, [], ◌∷◌, ◌++◌, ℕ, ◌+◌, ◌*◌, ◌/◌, ◌%◌, ◌≤◌, ◌<◌, length, take, drop, get_or};
 ghost use Rattle.eb3.specs.Bytes.{words_in};
 ghost use Rattle.eb3.specs.Blocks.{Sums, sums, block_right, blocks_right, contents, stream, open_blocks};
@@ -7,14 +9,14 @@ ghost use Rattle.eb3.specs.Laws.Blocks.{plain_sums};
 ghost use Rattle.blocks.specs.Opening.{as_sums, edition_test, opening};
 
 // What opening a file gives: how many blocks there are, or the number of a refusal.
-#[derive(Drop)]
+#[derive(Clone, Copy)]
 pub enum Opened {
     Blocks(usize),
     Refused(u8),
 }
 
 // Both sums of a block, before or after their remainders are taken.
-#[derive(Drop)]
+#[derive(Clone, Copy)]
 pub struct Pair {
     pub a: u64,
     pub b: u64,

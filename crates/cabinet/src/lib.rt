@@ -1,4 +1,6 @@
 // The engine as a C host calls it, with numbers and byte slices only (eb3.h).
+#![tactic(auto)]
+
 ghost use Rattle.std.specs.Prelude.{◌≡◌};
 ghost use Rattle.eb3.specs.Operations.{admit, start, count, move, present, run, ScratchAfter};
 ghost use Rattle.cabinet.specs.Exported.{sizes, started, counted, exported_step, moved, ran};
@@ -13,7 +15,7 @@ use engine::stepping::{Moved as Stepped, make_move, present};
 const DONE: u32 = 0;
 
 #[repr(C)]
-#[derive(Drop)]
+#[derive(Clone, Copy)]
 pub struct Sizes {
     pub refusal: u32,
     pub cells: u32,
@@ -23,21 +25,21 @@ pub struct Sizes {
 }
 
 #[repr(C)]
-#[derive(Drop)]
+#[derive(Clone, Copy)]
 pub struct Started {
     pub refusal: u32,
     pub size: u32,
 }
 
 #[repr(C)]
-#[derive(Drop)]
+#[derive(Clone, Copy)]
 pub struct Counted {
     pub refusal: u32,
     pub moves: u32,
 }
 
 #[repr(C)]
-#[derive(Drop)]
+#[derive(Clone, Copy)]
 pub struct Moved {
     pub refusal: u32,
     pub size: u32,
@@ -49,7 +51,7 @@ pub struct Moved {
 }
 
 #[repr(C)]
-#[derive(Drop)]
+#[derive(Clone, Copy)]
 pub struct Ran {
     pub refusal: u32,
     pub size: u32,

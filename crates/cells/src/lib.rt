@@ -1,5 +1,7 @@
 // The cells of a store: computed anew by the functions' expressions, put there from a memory, and written into one
 // (document 01, "Memory and the history machine").
+#![tactic(auto)]
+
 ghost use Rattle.std.specs.Prelude.{◌≡◌, ◌+◌, ◌*◌, ◌%◌, ◌≤◌, ◌<◌, length};
 ghost use Rattle.std.proofs.Math.Option.{Option};
 ghost use Rattle.eb3.specs.Expressions.{Reading};

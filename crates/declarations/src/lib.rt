@@ -1,6 +1,8 @@
 // A rule stream's domains, labels and functions, checked, with the tables that later sections are read by and the
 // directory of where each function's expressions stand (document 01, "Blocks and the rule stream", items 2 to 4; refusals
 // 4 and 5).
+#![tactic(auto)]
+
 ghost use Rattle.std.specs.Prelude.{◌≡◌, List, [], ◌∷◌, ◌++◌, ℕ, ◌+◌, ◌-◌, ◌*◌, ◌%◌, ◌≤◌, ◌<◌, drop, take, get_or, set, length};
 ghost use Rattle.std.proofs.Math.Seq.{paste};
 ghost use Rattle.eb3.specs.Reading.{number_of, count_of, repeat, counted};
@@ -15,7 +17,7 @@ use grammar::{Scope, check_data};
 use scan::{Checked, count, first, last, number, wide};
 
 // How many words are left behind some functions, and how many cells they have; or the number of a refusal.
-#[derive(Drop)]
+#[derive(Clone, Copy)]
 pub enum Counted {
     Cells(usize, usize),
     Refused(u8),

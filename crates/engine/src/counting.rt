@@ -16,7 +16,7 @@ use steps::counting::count_moves;
 use steps::storing::load_store;
 
 // The number of moves, or the number of a refusal.
-#[derive(Drop)]
+#[derive(Clone, Copy)]
 pub enum Counted {
     Moves(u32),
     Refused(u8),

@@ -1,5 +1,7 @@
 // The operations behind Admit, as Rattle functions that answer enums (document 01, "Operations"). Each contract is an equation with
 // the specification's operation, for every input.
+#![tactic(auto)]
+
 pub mod counting;
 pub mod running;
 pub mod starting;

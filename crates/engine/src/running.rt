@@ -10,7 +10,7 @@ use blocks::{Opened, open};
 use mains::{Totals, run_main};
 
 // What a run ended with, or the number of a refusal.
-#[derive(Drop)]
+#[derive(Clone, Copy)]
 pub enum Ran {
     Ended(Totals),
     Refused(u8),

@@ -12,7 +12,7 @@ use cells::{fill, lay, save};
 use unfold::unfold_main;
 
 // The start term's size, or the number of a refusal.
-#[derive(Drop)]
+#[derive(Clone, Copy)]
 pub enum Started {
     Size(u32),
     Refused(u8),

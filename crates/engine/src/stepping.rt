@@ -37,7 +37,7 @@ use steps::renewing::renew;
 use steps::storing::load_store;
 
 // The successor's size in words and the action: visible 1 with its label and arguments, or all 0.
-#[derive(Drop)]
+#[derive(Clone, Copy)]
 pub struct Step {
     pub size: u32,
     pub visible: u32,
@@ -48,7 +48,7 @@ pub struct Step {
 }
 
 // What a move did, or the number of a refusal.
-#[derive(Drop)]
+#[derive(Clone, Copy)]
 pub enum Moved {
     Made(Step),
     Refused(u8),

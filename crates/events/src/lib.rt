@@ -1,4 +1,6 @@
 // An event given to Present: one running leaf of the rule set, whose action's number is told (document 01, "Operations"; refusal 11).
+#![tactic(auto)]
+
 ghost use Rattle.std.specs.Prelude.{◌≡◌};
 ghost use Rattle.eb3.specs.RuleSets.{RuleSet};
 ghost use Rattle.eb3.specs.WellFormedness.{Form};
@@ -11,7 +13,7 @@ use scan::{behind, first};
 use terms::{Given, given_term};
 
 // The action's number, or that the words are no event of this rule set.
-#[derive(Drop)]
+#[derive(Clone, Copy)]
 pub enum Event {
     Action(u32),
     Stranger,

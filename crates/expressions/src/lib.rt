@@ -1,6 +1,8 @@
 // The two evaluators, over data and over conditions, calling each other (document 01, "Values and conditions": a data
 // expression may hold a condition, and a condition holds data expressions). They serve functions' expressions and guards
 // alike; each answers its value and the words left behind the expression, so that nothing is scanned twice.
+#![tactic(auto)]
+
 ghost use Rattle.std.specs.Prelude.{◌≡◌, ◌&&◌, ◌||◌, [], ◌∷◌, ◌≤◌, ◌<◌, length, drop, get_or};
 ghost use Rattle.eb3.specs.Values.{decode, encode, add, subtract, equal, less};
 ghost use Rattle.expressions.specs.Stores.{stored, reading_in, before_place};

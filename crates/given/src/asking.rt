@@ -12,7 +12,7 @@ use events::{Event, given_event};
 use scan::front;
 
 // A move's number, or the number of an event's action; or an event that is none.
-#[derive(Drop)]
+#[derive(Clone, Copy)]
 pub enum Asked {
     Wanted(usize),
     Stranger,

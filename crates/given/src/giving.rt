@@ -13,7 +13,7 @@ use cells::load;
 use terms::given_term;
 
 // The cells of the rule set and the reach of the term, or the number of a refusal.
-#[derive(Drop)]
+#[derive(Clone, Copy)]
 pub enum Given {
     Term(usize, usize),
     Refused(u8),

@@ -2,6 +2,8 @@
 // a code, count or constant out of range is refused 4, a number that is not defined or not allowed there 5.
 // An operand of the same sort is one more expression to come in the row, so that only a condition in data and data in a
 // condition need a call: neither time nor stack goes into the depth of sums or of `not`.
+#![tactic(auto)]
+
 ghost use Rattle.std.specs.Prelude.{◌≡◌, ◌+◌, ◌<◌, ◌≤◌, length};
 ghost use Rattle.eb3.specs.Reading.{repeat};
 ghost use Rattle.eb3.specs.ExpressionReading.{read_data, read_cond};
@@ -13,7 +15,7 @@ use scan::{Checked, wide};
 
 // How many variables there are, and how many functions now and before may name.
 // Where before may name none, its code itself is refused.
-#[derive(Drop)]
+#[derive(Clone, Copy)]
 pub struct Scope {
     pub variables: usize,
     pub now: usize,
@@ -22,7 +24,7 @@ pub struct Scope {
 
 // What stands in front of a row: the row goes on at a place, with so many expressions; an expression of the other sort
 // stands at a place; or a refusal.
-#[derive(Drop)]
+#[derive(Clone, Copy)]
 enum Front {
     On(usize, usize),
     Other(usize),

@@ -1,5 +1,7 @@
 // The moves of a running term, listed by their actions' numbers in a lent array, in order (document 01, "Moves, in order";
 // counting recurses into operand terms, term length falling).
+#![tactic(auto)]
+
 ghost use Rattle.std.specs.Prelude.{◌≡◌, ℕ, ◌+◌, ◌*◌, ◌-◌, ◌≤◌, ◌<◌, List, [], ◌∷◌, ◌++◌, length, take, drop, get_or, ◌&&◌, eqb};
 ghost use Rattle.eb3.specs.Scopes.{Scope};
 ghost use Rattle.eb3.specs.Terms.{Term, done?};

@@ -1,6 +1,8 @@
 // The run of a rule set's main process from the start: its term in words, its cells in a store, the lent buffers written at the end
 // (document 01, "Operations": Run writes the last term, zeros up to main's G, and the cells). Main is unfolded in one spare buffer,
 // of which only whole words are written; the successors of a term with masks are built there, too.
+#![tactic(auto)]
+
 ghost use Rattle.std.specs.Prelude.{◌≡◌, ℕ, ◌≤◌, length, get_or};
 ghost use Rattle.mains.specs.Mains.{RunsMain, Padded, Finished};
 ghost use Rattle.mains.specs.Starts.{RunsBare, RunsMasked};
@@ -18,7 +20,7 @@ use unfold::unfold_main;
 use writing::put_words;
 
 // The last term's size in words, and how many numbers took a visible move, took an internal one, or were refused.
-#[derive(Drop)]
+#[derive(Clone, Copy)]
 pub struct Totals {
     pub size: u32,
     pub visible: u64,

@@ -1,5 +1,7 @@
 // Process terms as they stand in a rule stream, checked and measured in one pass (document 01, "Blocks and the rule
 // stream", item 5; "Unfolding, size and breadth").
+#![tactic(auto)]
+
 ghost use Rattle.std.specs.Prelude.{◌≡◌, Bool, ◌+◌, ◌-◌, ◌≤◌, ◌<◌, drop, take, get_or, length};
 ghost use Rattle.eb3.specs.RuleSets.{rule_sequence, rule_choice, attributes};
 ghost use Rattle.eb3.specs.Scopes.{guard_scope};
@@ -26,7 +28,7 @@ use weights::{
 const VARIABLES: usize = 8;
 
 // How many words are left, and what the term measures; or the number of a refusal.
-#[derive(Drop)]
+#[derive(Clone, Copy)]
 pub enum Weighed {
     Found(usize, Weight),
     Refused(u8),

@@ -1,5 +1,7 @@
 // A rule set's stream behind its first two words, read once from the front: sections 2 to 5, the tables and the directory
 // that they fill, and main's measures (document 01, "Blocks and the rule stream"; refusals 4 to 6).
+#![tactic(auto)]
+
 ghost use Rattle.std.specs.Prelude.{◌≡◌, List, [], ◌∷◌, ◌++◌, ℕ, ◌+◌, ◌-◌, ◌*◌, ◌≤◌, ◌<◌, drop, take, get_or, length, set};
 ghost use Rattle.eb3.specs.RuleReading.{parameter_limit, read_process};
 ghost use Rattle.arguments.specs.Tables.{declared, callee};
@@ -15,7 +17,7 @@ use scan::{Checked, count, first, last};
 use weights::Weight;
 
 // What a rule set comes to: how many words are left behind it, its cells, and main's measures.
-#[derive(Drop)]
+#[derive(Clone, Copy)]
 pub enum Rules {
     Found(usize, usize, Weight),
     Refused(u8),

@@ -17,7 +17,7 @@ use Rattle.eb3.specs.Semantics.{Sem_M, Situation}
 use Rattle.eb3.specs.TransitionSystems.{taken}
 use Rattle.actions.specs.Codes.{action_code}
 use Rattle.listing.specs.Listing.{holding}
-use Rattle.deriving.specs.Derived.{passed}
+use Rattle.derivation.specs.Derived.{passed}
 use Rattle.steps.specs.Storing.{Ruled, StoreRenewed}
 use Rattle.sharing.specs.Shared.{term_of, shared_words}
 use Rattle.sharing.specs.Stepping.{StepTaken, Stepped}

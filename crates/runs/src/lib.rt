@@ -1,6 +1,8 @@
 // The memory machine run by a list of numbers, its term in words and its cells in a store (document 01, "Memory and the history
 // machine"; "Operations": Run: numbers not offered are counted and passed over). Nothing is admitted or checked again between
 // two numbers, so that each costs what its step costs.
+#![tactic(auto)]
+
 ghost use Rattle.std.specs.Prelude.{◌≡◌, ◌+◌, ◌*◌, ◌≤◌, ◌<◌, length, get_or};
 ghost use Rattle.eb3.specs.Bytes.{words_in};
 ghost use Rattle.runs.specs.Running.{StepsOnce, counted, Runs};
@@ -13,7 +15,7 @@ use steps::moving::{Taken, take_move_in};
 use steps::renewing::renew;
 
 // What a number did: how many words the term has after a visible or an internal move, or that there was no such move.
-#[derive(Drop)]
+#[derive(Clone, Copy)]
 pub enum Done {
     Visible(usize),
     Internal(usize),
@@ -21,7 +23,7 @@ pub enum Done {
 }
 
 // The size of the last term in words, and how many numbers did what.
-#[derive(Drop)]
+#[derive(Clone, Copy)]
 pub struct Tally {
     pub size: usize,
     pub visible: u64,

@@ -1,10 +1,12 @@
 // Reading words from the front: how many words are left behind what was read, or the number of a refusal
 // (document 01, "Operations": 4, 5 and 6 by the first offending word of the stream).
+#![tactic(auto)]
+
 ghost use Rattle.std.specs.Prelude.{◌≡◌, ℕ, ◌<◌, ◌≤◌, List, drop, get_or, length, take};
 ghost use Rattle.eb3.specs.Reading.{number_of, count_of};
 ghost use Rattle.scan.specs.Checking.{checked, last_of};
 
-#[derive(Drop)]
+#[derive(Clone, Copy)]
 pub enum Checked {
     Left(usize),
     Refused(u8),

@@ -7,7 +7,7 @@ use libc::STDIN_FILENO;
 use scan::wide;
 
 // The number of a move, or the end of the input.
-#[derive(Drop)]
+#[derive(Clone, Copy)]
 pub enum Input {
     Number(u16),
     End,

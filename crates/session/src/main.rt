@@ -1,6 +1,8 @@
 // Prints a session (document 01, "Examples"): reads a rule set and the numbers of moves from standard input, and prints the state at
 // the start, each choice, and the state after each move taken. What is proved here is that the program is safe and ends; what
 // it prints are answers of the engine, and tested.
+#![tactic(auto)]
+
 ghost use Rattle.std.specs.Prelude.{◌≡◌, ◌*◌, ◌<◌, take};
 
 mod input;
@@ -17,7 +19,7 @@ use scan::wide;
 use states::print_state;
 
 // Where a session stands: the moves taken, the words of the term, the cells of the memory, and whether they are in the other buffers.
-#[derive(Drop)]
+#[derive(Clone, Copy)]
 struct Place {
     taken: u64,
     size: usize,
@@ -40,7 +42,7 @@ impl Place {
 }
 
 // What came of a choice: the move was taken, and the term then has so many words; it was refused; or nothing more can be printed.
-#[derive(Drop)]
+#[derive(Clone, Copy)]
 enum Choice {
     Taken(usize),
     Refused,

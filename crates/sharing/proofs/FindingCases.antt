@@ -11,7 +11,7 @@ use Rattle.eb3.specs.Moves.{moves}
 use Rattle.expressions.specs.Answering.{answer}
 use Rattle.listing.specs.Listing.{holding}
 use Rattle.listing.specs.Operands.{answer_is, front_form}
-use Rattle.deriving.specs.Derived.{passed, full, move_count}
+use Rattle.derivation.specs.Derived.{passed, full, move_count}
 use Rattle.sharing.specs.Shared.{Shared, Ended, Then, term_of, part_word, shared_words, Stands}
 use Rattle.sharing.specs.Finding.{part, resumed, FoundRight, Found, PartFound}
 use Rattle.sharing.proofs.FindingMoves.{moves_next, count_first}

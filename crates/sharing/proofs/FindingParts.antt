@@ -16,7 +16,7 @@ use Rattle.listing.specs.Listing.{TermAt, holding, room}
 use Rattle.listing.specs.FitLaws.{fits_length}
 use Rattle.listing.specs.Operands.{answer_is}
 use Rattle.paths.specs.Paths.{path}
-use Rattle.deriving.specs.Derived.{passed, full, move_count}
+use Rattle.derivation.specs.Derived.{passed, full, move_count}
 use Rattle.sharing.specs.Shared.{part_word, PartAt}
 use Rattle.sharing.specs.RoomLaws.{unmasked_room}
 use Rattle.sharing.specs.Seeking.{Sought, Outcome}

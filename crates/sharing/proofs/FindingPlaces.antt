@@ -12,7 +12,7 @@ use Rattle.eb3.specs.Moves.{Move, move, moves}
 use Rattle.eb3.specs.Sizes.{size}
 use Rattle.expressions.specs.Answering.{answer}
 use Rattle.listing.specs.Listing.{holding}
-use Rattle.deriving.specs.Derived.{passed, move_count}
+use Rattle.derivation.specs.Derived.{passed, move_count}
 use Rattle.sharing.specs.Shared.{Shared, Then, Beside, term_of, part_word, shared_words, PartAt, Stands}
 use Rattle.sharing.specs.Finding.{Moving, Place, FoundRight}
 use Rattle.sharing.proofs.FindingMoves.{entry_sequence, entry_left, entry_right}

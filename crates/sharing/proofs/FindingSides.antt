@@ -15,8 +15,8 @@ use Rattle.scan.specs.Laws.{last_behind, last_len}
 use Rattle.expressions.specs.Answering.{answer}
 use Rattle.listing.specs.Listing.{holding}
 use Rattle.listing.specs.Operands.{answer_is, answered_left, answered_count}
-use Rattle.deriving.specs.Derived.{passed, full, move_count}
-use Rattle.deriving.specs.AnswerLaws.{by_order}
+use Rattle.derivation.specs.Derived.{passed, full, move_count}
+use Rattle.derivation.specs.AnswerLaws.{by_order}
 use Rattle.sharing.specs.Shared.{Shared, Ended, Beside, term_of, shared_words, Stands}
 use Rattle.sharing.specs.Finding.{joined, Found}
 use Rattle.sharing.proofs.FindingMoves.{moves_joined, count_sides}

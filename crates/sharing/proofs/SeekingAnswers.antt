@@ -12,9 +12,9 @@ use Rattle.eb3.specs.Sizes.{size}
 use Rattle.listing.specs.Listing.{TermAt, holding, room}
 use Rattle.paths.specs.Paths.{path}
 use Rattle.paths.specs.PathLaws.{path_length}
-use Rattle.deriving.specs.Derived.{passed, full, move_count, Derived}
-use Rattle.deriving.specs.Arms.{Decided}
-use Rattle.deriving.specs.AnswerLaws.{by_order, never_full, place_room}
+use Rattle.derivation.specs.Derived.{passed, full, move_count, Derived}
+use Rattle.derivation.specs.Arms.{Decided}
+use Rattle.derivation.specs.AnswerLaws.{by_order, never_full, place_room}
 use Rattle.sharing.specs.Shared.{Unmasked}
 use Rattle.sharing.specs.Seeking.{Bounded, Outcome, Sought}
 

@@ -19,7 +19,7 @@ use Rattle.listing.specs.CodeLaws.{codes_parallel, combined_zero}
 use Rattle.listing.specs.ShownLaws.{zero_within}
 use Rattle.paths.specs.Paths.{shown, path, path_in_turn, path_by, idle, alone, paired, numbers, locate}
 use Rattle.paths.specs.ShownLaws.{shown_all}
-use Rattle.deriving.specs.Derived.{move_count}
+use Rattle.derivation.specs.Derived.{move_count}
 
 module _ (M : List ℕ) where
   abbrev g : Cond → Bool

@@ -14,7 +14,7 @@ use Rattle.eb3.specs.Sizes.{size}
 use Rattle.listing.specs.Listing.{holding}
 use Rattle.listing.specs.Operands.{answer_is, answered_left, answered_count}
 use Rattle.paths.specs.SeekLaws.{some_within}
-use Rattle.deriving.specs.Derived.{passed}
+use Rattle.derivation.specs.Derived.{passed}
 use Rattle.sharing.specs.Shared.{Shared, term_of, shared_words, Stands}
 use Rattle.sharing.specs.Finding.{Place, FoundRight, Found}
 use Rattle.sharing.specs.Changing.{Changes, RoomFor, ChangedRight, Changed}

@@ -14,7 +14,7 @@ use Rattle.actions.specs.Codes.{action_code}
 use Rattle.listing.specs.Listing.{holding}
 use Rattle.paths.specs.Paths.{path, follow, followed, marked}
 use Rattle.paths.specs.PathLaws.{follow_path}
-use Rattle.deriving.specs.FitLaws.{small_actions}
+use Rattle.derivation.specs.FitLaws.{small_actions}
 use Rattle.sharing.specs.Shared.{Shared, Ended, Part, Then, Beside, term_of, shared_words, PartAt}
 use Rattle.sharing.specs.SharedLaws.{shared_short}
 use Rattle.sharing.specs.Finding.{Moving, part, resumed, joined, Place}

@@ -7,7 +7,7 @@ use Rattle.eb3.specs.Terms.{Term, Done, Action, internal}
 use Rattle.eb3.specs.Sizes.{size}
 use Rattle.actions.specs.Codes.{action_code}
 use Rattle.paths.specs.Paths.{follow, followed, marked}
-use Rattle.deriving.specs.Derived.{passed}
+use Rattle.derivation.specs.Derived.{passed}
 use Rattle.sharing.specs.Shared.{Shared, Ended, Part, Then, Beside, term_of, part_word, shared_words, PartAt, Stands}
 
 -- What stands at the place performs ρ along the path p, which ends there, and is T then: a part of the unfolding, alone or behind done; or done and done in parallel.

@@ -11,7 +11,7 @@ use Rattle.eb3.specs.Sizes.{size}
 use Rattle.expressions.specs.Answering.{answer}
 use Rattle.listing.specs.Listing.{holding}
 use Rattle.paths.specs.Paths.{path}
-use Rattle.deriving.specs.Derived.{passed, full, move_count}
+use Rattle.derivation.specs.Derived.{passed, full, move_count}
 use Rattle.sharing.specs.Shared.{Shared, Ended, Part, Then, Beside, term_of, part_word, shared_words, PartAt, Stands}
 
 -- What moves: move j of a term that stands in the unfolding, whose path is p, where it stands alone or behind done; or a parallel of done and done.

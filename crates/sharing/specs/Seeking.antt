@@ -8,7 +8,7 @@ use Rattle.eb3.specs.Sizes.{size}
 use Rattle.listing.specs.Listing.{TermAt, holding, room}
 use Rattle.listing.specs.Positions.{TwoAt}
 use Rattle.paths.specs.Paths.{path, path_in_turn}
-use Rattle.deriving.specs.Derived.{passed, full, move_count}
+use Rattle.derivation.specs.Derived.{passed, full, move_count}
 use Rattle.sharing.specs.Shared.{Unmasked}
 
 -- What is known of an answer whatever the words are.

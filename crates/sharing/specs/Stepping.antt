@@ -7,7 +7,7 @@ use Rattle.eb3.specs.Moves.{Move, moves}
 use Rattle.eb3.specs.Sizes.{size}
 use Rattle.actions.specs.Codes.{action_code}
 use Rattle.listing.specs.Listing.{holding}
-use Rattle.deriving.specs.Derived.{passed}
+use Rattle.derivation.specs.Derived.{passed}
 use Rattle.sharing.specs.Shared.{Shared, term_of, shared_words, Stands}
 
 -- The successor is held in the first words of d'; so many of them, and 65,536 times the action's number, is the answer.

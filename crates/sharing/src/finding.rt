@@ -4,7 +4,7 @@ ghost use Rattle.std.specs.Prelude.{◌≡◌, ◌+◌, ◌≤◌, ◌<◌, [], 
 ghost use Rattle.sharing.specs.Finding.{Found, PartFound};
 
 use super::seeking::seek;
-use deriving::passing;
+use derivation::passing;
 use scan::{behind, first, last};
 
 // From here on an answer says how much of k is left; from FULL on, that there was no room.

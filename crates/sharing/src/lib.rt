@@ -1,6 +1,8 @@
 // The term of a run held in few words over the start's unfolding, and moved (document 01, "Moves, in order"; "Memory and the history machine"). Parts that
 // have not begun are told by their places in the unfolding, so that a move neither passes over them nor copies them: that is what a run over many
 // numbers costs. It serves terms without masks; whether the unfolding is one is asked once.
+#![tactic(auto)]
+
 ghost use Rattle.std.specs.Prelude.{◌≡◌, ◌≤◌, ◌<◌, length};
 ghost use Rattle.sharing.specs.Changing.{Changed, Joined, PartChanged};
 ghost use Rattle.sharing.specs.Stepping.{Stepped};

@@ -1,10 +1,10 @@
 // The path of move k of a part of the unfolding (document 01, "Moves, in order"). Where the part ends nobody asks, so that the right operand of a sequence, or
 // what stands under a guard that does not hold, is not passed over; only a left operand's end is looked for, by the walk of `deriving`.
 ghost use Rattle.std.specs.Prelude.{◌≡◌, ◌+◌, ◌-◌, ◌≤◌, ◌<◌, [], ◌∷◌, length};
-ghost use Rattle.deriving.specs.Derived.{passed};
+ghost use Rattle.derivation.specs.Derived.{passed};
 ghost use Rattle.sharing.specs.Seeking.{Sought, TwoSought};
 
-use deriving::{decide, decide_right, derive, size_before};
+use derivation::{decide, decide_right, derive, size_before};
 use expressions::eval_cond;
 use listing::{behind_mask, both_done};
 use scan::{behind, first, last};

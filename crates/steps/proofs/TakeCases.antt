@@ -22,11 +22,11 @@ use Rattle.listing.specs.RoomLaws.{room_below_breadth}
 use Rattle.paths.specs.Paths.{path, Followed, follow, followed, marked}
 use Rattle.paths.specs.SeekLaws.{some_within}
 use Rattle.paths.specs.PathLaws.{follow_path}
-use Rattle.deriving.specs.Derived.{passed, full, move_count, Derived}
+use Rattle.derivation.specs.Derived.{passed, full, move_count, Derived}
 use Rattle.successors.specs.declared.Built.{Built}
 use Rattle.successors.specs.Building.{built_words, Building, BuiltRight}
 use Rattle.steps.specs.Counting.{Whole}
-use Rattle.deriving.specs.FitLaws.{small_actions}
+use Rattle.derivation.specs.FitLaws.{small_actions}
 use Rattle.steps.specs.Taking.{PathSought, PathFound, taken_as, built_over, SuccessorFits, Took}
 use Rattle.steps.specs.declared.moving.Taken.TheVariants.{Made, NotOffered}
 

@@ -11,7 +11,7 @@ use Rattle.actions.specs.Codes.{action_code, Small}
 use Rattle.actions.specs.CodesLaws.{same_code}
 use Rattle.listing.specs.Listing.{Fits, code_of, codes}
 use Rattle.paths.specs.SmallLaws.{move_action_small}
-use Rattle.deriving.specs.FitLaws.{small_actions}
+use Rattle.derivation.specs.FitLaws.{small_actions}
 use Rattle.steps.specs.Counting.{first_number}
 
 -- of any list of moves with small actions

@@ -11,7 +11,7 @@ use Rattle.eb3.specs.Bytes.{word_count, written}
 use Rattle.actions.specs.Codes.{action_code}
 use Rattle.listing.specs.Listing.{TermAt, holding, room}
 use Rattle.paths.specs.Paths.{path}
-use Rattle.deriving.specs.Derived.{passed, full, move_count}
+use Rattle.derivation.specs.Derived.{passed, full, move_count}
 use Rattle.steps.specs.Counting.{Whole}
 use Rattle.steps.specs.declared.moving.Taken.{Taken}
 use Rattle.steps.specs.declared.moving.Taken.TheVariants.{Made, NotOffered}

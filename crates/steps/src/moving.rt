@@ -11,11 +11,11 @@ ghost use Rattle.listing.specs.Listing.{holding};
 ghost use Rattle.steps.specs.Counting.{Whole};
 ghost use Rattle.steps.specs.Taking.{PathSought, PathFound, SuccessorFits, Took};
 
-use deriving::derive;
+use derivation::derive;
 use successors::build;
 
 // The action's number and the successor's size in words.
-#[derive(Drop)]
+#[derive(Clone, Copy)]
 pub enum Taken {
     Made(u32, usize),
     NotOffered,

@@ -1,6 +1,8 @@
 // The successor of a move, built along its path within a part of the lent buffer (document 01, "Operations"; "Moves, in order"). What
 // stands behind the moving operand and stays, stands in the same order in the successor: so only the successor's beginning is
 // written on the way, with the number of words at the end of the term that go on from there, and these are copied at once.
+#![tactic(auto)]
+
 ghost use Rattle.std.specs.Prelude.{◌≡◌, true, false, ◌+◌, ◌*◌, ◌≤◌, [], ◌∷◌, length, get_or};
 ghost use Rattle.successors.specs.Building.{Building};
 ghost use Rattle.successors.specs.Parts.{Whole, Unbuilt, Added, Closed, Beginning, Behind, After, with_right, Both};
@@ -17,7 +19,7 @@ pub mod unchanged;
 
 // Whether there was room; the action's number, the words written, the words at the end of the term that go on from there, how many
 // whole terms at the beginning of these are still the successor's, and what is left of the path.
-#[derive(Drop)]
+#[derive(Clone, Copy)]
 pub struct Built {
     pub ok: bool,
     pub action: u32,

@@ -1,5 +1,7 @@
 // The check of a given running term, with its reach and breadth in the same pass (document 01, "Unfolding, size and breadth";
 // refusal 10). An answer is one number, so that no level of nested terms stores one in memory.
+#![tactic(auto)]
+
 ghost use Rattle.std.specs.Prelude.{◌≡◌, ◌/◌, ◌%◌, ◌≤◌, length, get_or};
 ghost use Rattle.eb3.specs.Terms.{Star};
 ghost use Rattle.eb3.specs.RuleSets.{sizes_of};
@@ -19,7 +21,7 @@ use weights::{Limits, Weight, choice, empty, guard, narrow, parallel, sequence, 
 const WRONG: usize = 1152921504606846976;
 
 // A given term's reach and breadth; or that it is no running term within the limits.
-#[derive(Drop)]
+#[derive(Clone, Copy)]
 pub enum Given {
     Running(u32, u32),
     Wrong,

@@ -1,6 +1,8 @@
 // The unfolding of process terms, written into a lent buffer (document 01, "Unfolding, size and breadth"). Each call is
 // replaced by the callee's body, read where the tables say that it stands. The buffer is lent whole, with the word from which on is
 // written, and an answer is one number: so no level of nested terms stores a slice or an answer in memory.
+#![tactic(auto)]
+
 ghost use Rattle.std.specs.Prelude.{◌≡◌, ◌-◌, ◌*◌, ◌≤◌, ◌<◌, ◌∷◌};
 ghost use Rattle.std.proofs.Math.ListN.{length};
 ghost use Rattle.eb3.specs.RuleSets.{RuleSet};

@@ -1,11 +1,13 @@
 // Size, reach and breadth of a term from those of its parts, each cut off at 65,536, which is above both limits; and the
 // limits (document 01, "Unfolding, size and breadth"; refusals 7 and 8).
+#![tactic(auto)]
+
 ghost use Rattle.std.specs.Prelude.{◌≡◌, Bool, ℕ, ◌+◌, ◌*◌, ◌≤◌, ◌<◌, max, min};
 ghost use Rattle.eb3.specs.Unfolding.{right_nest};
 ghost use Rattle.eb3.specs.Measures.{sat, leaf, nothing, sequence_of, choice_of, star_of, parallel_breadth_of, guard_of};
 ghost use Rattle.weights.specs.Weighing.{measure, cap, reported, parallel_by, stars_of};
 
-#[derive(Drop)]
+#[derive(Clone, Copy)]
 pub struct Weight {
     pub size: u32,
     pub reach: u32,
@@ -13,7 +15,7 @@ pub struct Weight {
 }
 
 // The numbers that a rule set is judged by, and those that are reported of one: C, G, W and the start term's size.
-#[derive(Drop)]
+#[derive(Clone, Copy)]
 pub struct Limits {
     pub cells: u32,
     pub reach: u32,

@@ -1,5 +1,7 @@
 // Words written into lent byte buffers, little-endian (document 01, "Values and conditions": a word is 16 bits,
 // little-endian; "Operations").
+#![tactic(auto)]
+
 ghost use Rattle.std.specs.Prelude.{◌≡◌, List, [], ◌∷◌};
 ghost use Rattle.writing.specs.Wrote.{Wrote};
 

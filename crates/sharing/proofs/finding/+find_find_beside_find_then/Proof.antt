@@ -22,7 +22,7 @@ use Rattle.sharing.proofs.finding.+find_find_beside_find_then.Lts-find_beside as
 use Rattle.sharing.proofs.finding.find_then.Reads as find-then
 use Rattle.sharing.proofs.finding.find_then.Kinds as find-then-kinds
 use Rattle.sharing.proofs.finding.+find_find_beside_find_then.Lts-find_then as find-then-lts
-use Rattle.deriving.proofs.passing.Reads as passing-reads
+use Rattle.derivation.proofs.passing.Reads as passing-reads
 use Rattle.scan.proofs.behind.Reads as behind-reads
 use Rattle.scan.proofs.first.Reads as first_reads
 use Rattle.scan.proofs.last.Reads as last-reads

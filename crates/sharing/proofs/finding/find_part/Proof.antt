@@ -9,7 +9,7 @@ use Rattle.sharing.proofs.finding.find_part.Statement.{statement}
 use Rattle.sharing.proofs.finding.find_part.Tie as tie
 use Rattle.sharing.proofs.finding.find_part.Reads as reads
 use Rattle.sharing.proofs.finding.find_part.Lts as lts
-use Rattle.deriving.proofs.passing.Reads as passing-reads
+use Rattle.derivation.proofs.passing.Reads as passing-reads
 use Rattle.scan.proofs.last.Reads as last-reads
 use Rattle.sharing.proofs.seeking.seek.Reads as seek-reads
 

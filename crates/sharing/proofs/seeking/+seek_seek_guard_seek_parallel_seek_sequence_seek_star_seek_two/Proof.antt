@@ -4,7 +4,7 @@ use mathlib.Core.Path.{refl, sym, ◌∙◌}
 use lib.Dec.{lit<}
 use Rattle.scan.specs.Laws.{behind_len, last_len}
 use Rattle.listing.specs.Operands.{front_len, mask_len}
-use Rattle.deriving.specs.AnswerLaws.{sized}
+use Rattle.derivation.specs.AnswerLaws.{sized}
 use Rattle.sharing.proofs.SeekingAnswers.{bounded_single}
 use Rattle.sharing.proofs.SeekingArms.{internal_sought, perform_sought, two_lost, two_left, rest_count, two_right, choice_sought, sequence_right, sequence_left, star_end, star_round, parallel_done, parallel_beside, guard_shut, guard_open, at_front, other_sought}
 use borrow.Author.Rules.{rules}
@@ -31,10 +31,10 @@ use Rattle.sharing.proofs.seeking.+seek_seek_guard_seek_parallel_seek_sequence_s
 use Rattle.sharing.proofs.seeking.seek_two.Reads as seek-two
 use Rattle.sharing.proofs.seeking.seek_two.Kinds as seek-two-kinds
 use Rattle.sharing.proofs.seeking.+seek_seek_guard_seek_parallel_seek_sequence_seek_star_seek_two.Lts-seek_two as seek-two-lts
-use Rattle.deriving.proofs.decide.Reads as decide-reads
-use Rattle.deriving.proofs.decide_right.Reads as decide-right-reads
-use Rattle.deriving.proofs.derive.Reads as derive-reads
-use Rattle.deriving.proofs.size_before.Reads as size-before-reads
+use Rattle.derivation.proofs.decide.Reads as decide-reads
+use Rattle.derivation.proofs.decide_right.Reads as decide-right-reads
+use Rattle.derivation.proofs.derive.Reads as derive-reads
+use Rattle.derivation.proofs.size_before.Reads as size-before-reads
 use Rattle.expressions.proofs.eval_cond.Reads as eval-cond-reads
 use Rattle.listing.proofs.behind_mask.Reads as behind-mask-reads
 use Rattle.listing.proofs.both_done.Reads as both-done-reads

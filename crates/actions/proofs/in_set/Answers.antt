@@ -1,0 +1,9 @@
+use Rattle.actions.proofs.Cases.{cases}
+use borrow.Author.Rules.{rules}
+use Rattle.actions.proofs.in_set.Goals as goal
+
+pub returns-then-code-eq0 : goal.returns-then-code-eq0
+returns-then-code-eq0 c = search cases
+
+pub returns : goal.returns
+returns c = search cases

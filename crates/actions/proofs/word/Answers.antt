@@ -1,0 +1,6 @@
+use borrow.Author.Rules.{rules}
+use Rattle.actions.proofs.Cases.{cases}
+use Rattle.actions.proofs.word.Goals as goal
+
+pub returns : goal.returns
+returns c = search cases

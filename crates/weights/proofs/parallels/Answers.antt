@@ -1,0 +1,18 @@
+use borrow.Author.Rules.{rules}
+use Prim.Native.Nat.{◌-◌}
+use Rattle.eb3.specs.Measures.{sat, nothing}
+use Rattle.weights.specs.Weighing.{measure, cap, parallel_by}
+use Rattle.weights.proofs.Copies.{Copied, no_copy, first_copy, next_copy, all_copies}
+use Rattle.weights.proofs.parallels.Goals as goal
+
+pub returns-then-n-eq0 : goal.returns-then-n-eq0
+returns-then-n-eq0 c = no_copy _ _ _ _ _ c.if-n-eq0.true c.empty.ensures
+
+pub loop-i-init : goal.loop-i-init
+loop-i-init c = search first_copy
+
+pub loop-i-preserved : goal.loop-i-preserved
+loop-i-preserved c = search next_copy
+
+pub returns : goal.returns
+returns c = all_copies _ _ _ _ _ _ c.loop-i.invariant c.loop-i-test.false

@@ -1,0 +1,14 @@
+use mathlib.Core.Path.{◌≡◌, refl}
+use Prim.Native.Nat.{◌*◌, ◌-◌, ◌≤◌}
+use native.Mathlib.Omega.{arith}
+use lib.ListN.{length, take, length-set}
+use borrow.Author.Rules.{rules}
+use Rattle.eb3.specs.Bytes.{written}
+use Rattle.writing.specs.WroteLaws.{room_lacked, words_none, words_next, words_end}
+use Rattle.writing.proofs.put_words.Given as goal
+
+abbrev pub invariant-loop-i : goal.invariant-loop-i
+invariant-loop-i l = (l.i ≤ length l.src) × (2 * length l.src ≤ length l.initial.out) × (length l.out ≡ length l.initial.out) × (l.out ≡ written (take l.i l.src) l.initial.out)
+
+abbrev pub decreases-loop-i : goal.decreases-loop-i
+decreases-loop-i l = length l.src - l.i
