@@ -1,6 +1,6 @@
 -- Request K10 of document 02 is met (`past_in_cells_holds`, and where a host sees bytes only `past_in_bytes_holds`): what Run, Count and Move do depends on
 -- the history by its last term and its cells.
-use Rattle.std.specs.Prelude.{◌≡◌, refl, Bool, true, ◌&&◌, ℕ, suc, ◌+◌, ◌-◌, ◌*◌, ◌/◌, ◌≤◌, T, leb, take, replicate}
+use Rattle.std.specs.Prelude.{◌≡◌, refl, Bool, true, false, ◌&&◌, ℕ, suc, ◌+◌, ◌-◌, ◌*◌, ◌/◌, ◌≤◌, T, leb, take, replicate}
 use Rattle.std.proofs.Math.Path.{ap, sym, subst}
 use Rattle.std.proofs.Common.{◌∙◌, le→leb, length-append, drop_of_length-le}
 use mathlib.Core.List.{List, [], ◌∷◌, ◌++◌, append-nil}
@@ -54,6 +54,7 @@ words_followed (a ∷ b ∷ s) t =
 
 is_true : (b : Bool) → T b → b ≡ true
 is_true true h = refl
+is_true false h = elim h [ ]
 
 module _ (rules : List ℕ) (S : Sizes) (R : RuleSet) (a : admission rules ≡ answered R) (s : sizes_needed R ≡ S) where
   good : WellFormed R

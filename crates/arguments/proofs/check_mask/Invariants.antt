@@ -1,0 +1,11 @@
+use borrow.Author.Rules.{rules}
+use native.Mathlib.Omega.{arith}
+use Prim.Native.Nat.{◌-◌}
+use Rattle.arguments.proofs.Rounds.{Masked, mask_start, mask_short, mask_over, mask_on, mask_end}
+use Rattle.arguments.proofs.check_mask.Given as goal
+
+abbrev pub invariant-loop-i : goal.invariant-loop-i
+invariant-loop-i l = Masked l.k l.n l.t l.i l.left
+
+abbrev pub decreases-loop-i : goal.decreases-loop-i
+decreases-loop-i l = l.k - l.i

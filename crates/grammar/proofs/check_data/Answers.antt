@@ -1,0 +1,6 @@
+use Rattle.grammar.proofs.RowCases.{rows}
+use borrow.Author.Rules.{rules}
+use Rattle.grammar.proofs.check_data.Goals as goal
+
+pub returns : goal.returns
+returns c = search rows

@@ -1,0 +1,12 @@
+use Rattle.grammar.proofs.Cases.{fronts}
+use borrow.Author.Rules.{rules}
+use Rattle.grammar.proofs.operand.Goals as goal
+
+pub returns-then-s-at : goal.returns-then-s-at
+returns-then-s-at c = search fronts
+
+pub returns-then-wide-limit : goal.returns-then-wide-limit
+returns-then-wide-limit c = search fronts
+
+pub returns : goal.returns
+returns c = search fronts
