@@ -76,14 +76,14 @@ module _ (T s : List ℕ) where
         to_end = whole.read ∙ ap (taken whole.value) (nil_form whole.rest (sym whole.left ∙ sym i ∙ o))
 
         reach_is : g ≡ sat cap (reach 1 whole.value)
-        reach_is = j ∙ ap (λ (m : Measure). m.reach) whole.decreases ∙ reach_cut whole.value
+        reach_is = j ∙ ap (λ (m : Measure). m.reach) whole.measured ∙ reach_cut whole.value
 
         pub given_far : 8192 < g → Wrong ≡ given (given_term (declared T) s)
         given_far l = alone_far whole.value (omega (arith, reach_is)) ∙ sym (by_reading _ to_end)
 
         module _ (r : g ≤ 8192) (b : ℕ) (x : b ≡ p / 8589934592) where
           breadth_is : b ≡ sat cap (breadth whole.value)
-          breadth_is = x ∙ ap (λ (m : Measure). m.breadth) whole.decreases ∙ breadth_cut whole.value
+          breadth_is = x ∙ ap (λ (m : Measure). m.breadth) whole.measured ∙ breadth_cut whole.value
 
           pub given_broad : 65535 < b → Wrong ≡ given (given_term (declared T) s)
           given_broad l = alone_broad whole.value (omega (arith, reach_is)) (omega (arith, breadth_is)) ∙ sym (by_reading _ to_end)

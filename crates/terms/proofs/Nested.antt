@@ -125,7 +125,7 @@ module _ (T t : List ℕ) (k : ℕ) (r : List ℕ) (p : ℕ) (fits : length t �
     unfolding starred-of weighed_running
     star_in x g =
         let o = under in
-        let m : unpacked (length t - k - p % 65536) p ≡ measure_running (sat cap) 1 o.value = (λ j. unpacked (sym long j - p % 65536) p) ∙ o.decreases in
+        let m : unpacked (length t - k - p % 65536) p ≡ measure_running (sat cap) 1 o.value = (λ j. unpacked (sym long j - p % 65536) p) ∙ o.measured in
         let z : giving Star (read_term (declared T) t) ≡ taken (stars_around (suc k) o.value) o.rest = all_read ∙ ap (stars_over (suc k)) o.read ∙ stars_taken (suc k) o.value o.rest in
         g ∙ (λ j. packed (o.left j) (stars_of (add-one k j) (m j))) ∙ (λ j. packed (length o.rest) (sym (stars_measured (suc k) o.value) j)) ∙ sym (ap weighed_running z)
 

@@ -77,9 +77,9 @@ module _ (T t : List ℕ) (c p : ℕ) (fits : length t ≤ 8192) (e : p ≡ weig
       pair_in x g =
           let a = first in
           let b = second in
-          let m : unpacked (p % 65536 - q % 65536) q ≡ measure_running (sat cap) 1 b.value = (λ j. unpacked (sym long j - q % 65536) q) ∙ b.decreases in
+          let m : unpacked (p % 65536 - q % 65536) q ≡ measure_running (sat cap) 1 b.value = (λ j. unpacked (sym long j - q % 65536) q) ∙ b.measured in
           let z : both (reads T) (reads T) t ≡ taken (a.value, b.value) b.rest = both_taken (reads T) (reads T) t a.value a.rest b.value b.rest a.read (ap (reads T) rest_is ∙ b.read) in
-          g ∙ (λ j. packed (b.left j) (join-of c (a.decreases j) (m j))) ∙ sym (ap (weighed-pair c) z)
+          g ∙ (λ j. packed (b.left j) (join-of c (a.measured j) (m j))) ∙ sym (ap (weighed-pair c) z)
 
 pub ruleset pairs = (pair_first, pair_second, pair_fits, pair_in)
 
@@ -189,7 +189,7 @@ module _ (T t : List ℕ) (b : ℕ) (p : Checked) (i : b ≡ get_or T 210 0) (e 
       guarded_in x g =
           let a = condition in
           let b = operand in
-          let m : unpacked (n - q % 65536) q ≡ measure_running (sat cap) 1 b.value = (λ j. unpacked (sym words_left j - q % 65536) q) ∙ b.decreases in
+          let m : unpacked (n - q % 65536) q ≡ measure_running (sat cap) 1 b.value = (λ j. unpacked (sym words_left j - q % 65536) q) ∙ b.measured in
           let z : giving (λ s. Guard s.0 s.1) (both conditions (reads T) t) ≡ taken (Guard a.value b.value) b.rest =
           giving_taken _ _ (a.value, b.value) b.rest (both_taken conditions (reads T) t a.value a.rest b.value b.rest a.read (ap (reads T) behind_is ∙ b.read)) in
           g ∙ (λ j. packed (b.left j) (guard_of (sat cap) (size_taken j) (m j))) ∙ sym (ap weighed_running z)

@@ -1,0 +1,9 @@
+use borrow.Author.Rules.{rules}
+use Rattle.declarations.proofs.Cases.{rows}
+use Rattle.declarations.proofs.check_domains.Goals as goal
+
+pub returns-in-Left : goal.returns-in-Left
+returns-in-Left c = search rows
+
+pub returns-in-Refused : goal.returns-in-Refused
+returns-in-Refused c = search rows

@@ -1,0 +1,12 @@
+use mathlib.Core.Path.{ap, ◌∙◌}
+use Rattle.declarations.proofs.FunctionCases.{place_small}
+use Prim.Native.Nat.{◌+◌, ◌*◌}
+use native.Mathlib.Omega.{arith}
+use borrow.Author.Rules.{rules}
+use Rattle.declarations.proofs.row_place.Goals as goal
+
+pub overflow_mul-result : goal.overflow_mul-result
+overflow_mul-result c = omega (arith, place_small c.wide32.result c.args.i (omega arith) (omega arith))
+
+pub returns : goal.returns
+returns c = (ap (λ x. (3 + x) * c.args.i) (c.wide32.ensures.0 ∙ c.entry.ensures), place_small c.wide32.result c.args.i (omega arith) (omega arith))

@@ -1,0 +1,18 @@
+use Prim.Native.Nat.{◌+◌, ◌-◌, ◌≤◌}
+use mathlib.Core.Path.{◌≡◌, refl, sym, ap, ◌∙◌}
+use mathlib.Core.Bool.{true, false}
+use mathlib.Core.List.{◌∷◌}
+use lib.ListN.{length, get_or, length-set}
+use lib.Seq.{slice}
+use Rattle.actions.specs.Sets.{in_set}
+use Rattle.listing.specs.Combining.{outside}
+use Rattle.listing.proofs.Writing.{Writing, writing_start, writing_pass, writing_one, writing_lost, writing_ends, read_kept, test_kept, outside_in, outside_out, outside_end}
+use native.Mathlib.Omega.{arith}
+use borrow.Author.Rules.{rules}
+use Rattle.listing.proofs.combining.put_outside.Given as goal
+
+abbrev pub invariant-loop-i : goal.invariant-loop-i
+invariant-loop-i l = (l.i ≤ l.to) × (l.e ≤ l.at) × (l.at ≤ length l.initial.acts) × (length l.acts ≡ length l.initial.acts) × Writing (outside (in_set l.mask) (slice l.from l.to l.initial.acts)) l.e l.initial.acts l.acts l.at (outside (in_set l.mask) (slice l.i l.to l.initial.acts))
+
+abbrev pub decreases-loop-i : goal.decreases-loop-i
+decreases-loop-i l = l.to - l.i

@@ -1,0 +1,50 @@
+-- The beginning of a successor and its parts, which call one another, meet their contracts. The measure is four times the words of the term at hand, with
+-- less for a part than for what calls it on the same words. Where a part returns, a case of proofs/ says what it answers.
+use mathlib.Core.Path.{sym, ◌∙◌}
+use lib.Seq.{length-take-le}
+use Rattle.scan.specs.Laws.{behind_len, last_len, behind_fewer}
+use Rattle.successors.proofs.Begun.{behind_none, behind_begun, after_head}
+use Rattle.successors.proofs.Cases.{leaf_case, sequence_done, sequence_goes, guard_case, choice_left, choice_short, choice_right, star_ends, round}
+use Rattle.successors.proofs.Parallels.{parallel_short, parallel_ends, parallel_left, parallel_cut, parallel_right, parallel_both, both_made}
+use native.Mathlib.Omega.{arith}
+use borrow.Author.Rules.{rules}
+use lib.ListN.{length}
+use Prim.Native.Nat.{ℕ, ◌+◌, ◌*◌, ◌-◌, ◌<◌}
+use mathlib.Core.List.{List}
+use Rattle.successors.proofs.+begin_begin_after_begin_behind_begin_both_begin_choice_begin_chosen_begin_guard_begin_parallel_begin_right_begin_round_begin_sequence_begin_star.Given as goal
+
+abbrev pub decreases-begin : goal.decreases-begin
+decreases-begin l = 4 * length l.s.now + 3
+
+abbrev pub decreases-begin_after : goal.decreases-begin_after
+decreases-begin_after l = 4 * (length l.s.now - l.n) + 5
+
+abbrev pub decreases-begin_behind : goal.decreases-begin_behind
+decreases-begin_behind l = 4 * length l.u.now + 4
+
+abbrev pub decreases-begin_both : goal.decreases-begin_both
+decreases-begin_both l = 4 * length l.s.now
+
+abbrev pub decreases-begin_choice : goal.decreases-begin_choice
+decreases-begin_choice l = 4 * length l.s.now + 2
+
+abbrev pub decreases-begin_chosen : goal.decreases-begin_chosen
+decreases-begin_chosen l = 4 * length l.s.now + 1
+
+abbrev pub decreases-begin_guard : goal.decreases-begin_guard
+decreases-begin_guard l = 4 * length l.s.now + 2
+
+abbrev pub decreases-begin_parallel : goal.decreases-begin_parallel
+decreases-begin_parallel l = 4 * length l.s.now + 2
+
+abbrev pub decreases-begin_right : goal.decreases-begin_right
+decreases-begin_right l = 4 * length l.s.now + 1
+
+abbrev pub decreases-begin_round : goal.decreases-begin_round
+decreases-begin_round l = 4 * length l.s.now + 1
+
+abbrev pub decreases-begin_sequence : goal.decreases-begin_sequence
+decreases-begin_sequence l = 4 * length l.s.now + 2
+
+abbrev pub decreases-begin_star : goal.decreases-begin_star
+decreases-begin_star l = 4 * length l.s.now + 2

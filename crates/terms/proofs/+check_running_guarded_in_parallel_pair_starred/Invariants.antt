@@ -1,0 +1,25 @@
+use Prim.Native.Nat.{◌+◌, ◌*◌}
+use native.Mathlib.Omega.{arith}
+use lib.ListN.{length}
+use Rattle.scan.specs.Laws.{behind_len, last_len}
+use Rattle.terms.proofs.Nested.{starred_terms}
+use Rattle.terms.proofs.Parts.{pairs, parallels, guards}
+use Rattle.terms.proofs.Codes.{codes}
+use borrow.Author.Rules.{rules}
+use Prim.Native.Nat.{ℕ, ◌<◌}
+use Rattle.terms.proofs.+check_running_guarded_in_parallel_pair_starred.Given as goal
+
+abbrev pub decreases-check_running : goal.decreases-check_running
+decreases-check_running l = 3 * length l.s.now
+
+abbrev pub decreases-guarded : goal.decreases-guarded
+decreases-guarded l = 3 * length l.t.now + 1
+
+abbrev pub decreases-in_parallel : goal.decreases-in_parallel
+decreases-in_parallel l = 3 * length l.t.now + 2
+
+abbrev pub decreases-pair : goal.decreases-pair
+decreases-pair l = 3 * length l.t.now + 1
+
+abbrev pub decreases-starred : goal.decreases-starred
+decreases-starred l = 3 * length l.t.now + 1

@@ -1,0 +1,17 @@
+use Prim.Native.Nat.{◌-◌}
+use lib.ListN.{length}
+use Rattle.terms.proofs.Nested.{Counted, counting}
+use borrow.Author.Rules.{rules}
+use Rattle.terms.proofs.stars.Goals as goal
+
+pub loop-i-init : goal.loop-i-init
+loop-i-init c = search counting
+
+pub returns-then-t-i-ne24 : goal.returns-then-t-i-ne24
+returns-then-t-i-ne24 c = search counting
+
+pub loop-i-preserved : goal.loop-i-preserved
+loop-i-preserved c = search counting
+
+pub returns : goal.returns
+returns c = search counting
