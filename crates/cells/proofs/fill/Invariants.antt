@@ -1,0 +1,22 @@
+-- Each turn of the loop is one function's (`fill_next`); after the last all cells are new (`fill_end`).
+use Rattle.cells.specs.TurnLaws.{row_bounded, fill_start, fill_next, fill_end}
+use borrow.Author.Rules.{rules}
+use Prim.Native.Nat.{◌-◌, ◌≤◌}
+use mathlib.Core.Path.{◌≡◌, refl, ◌∙◌}
+use lib.ListN.{length}
+use native.Mathlib.Omega.{arith}
+use mathlib.Core.Option.{Option}
+use Rattle.eb3.specs.Expressions.{Reading}
+use Rattle.eb3.specs.Terms.{VisibleAction}
+use Rattle.eb3.specs.Attributes.{Attributes}
+use Rattle.eb3.specs.Cells.{offset}
+use Rattle.cells.specs.Filling.{Filling}
+use Rattle.cells.specs.Turns.{Partly}
+use Rattle.cells.proofs.fill.Given as goal
+
+-- Each turn of the loop is one function's (`fill_next`); after the last all cells are new (`fill_end`).
+abbrev pub invariant-loop-f : goal.invariant-loop-f
+invariant-loop-f l = (l.f ≤ l.n) × (length l.m ≡ length l.initial.m) × ((A : Attributes) (o : Option VisibleAction) (b : Reading) → Filling A o b l.t l.dir l.initial.m l.w l.j l.n → Partly A o b l.initial.m l.m (offset A l.f))
+
+abbrev pub decreases-loop-f : goal.decreases-loop-f
+decreases-loop-f l = l.n - l.f

@@ -1,0 +1,15 @@
+-- Each turn of the loop puts one word more (`loading_next`).
+use lib.ListN.{length-set, length}
+use mathlib.Core.Path.{◌≡◌, refl}
+use Rattle.cells.specs.PreparingLaws.{loaded_word, loading_done, Loading, loading_start, loading_next}
+use borrow.Author.Rules.{rules}
+use Prim.Native.Nat.{◌-◌, ◌≤◌}
+use native.Mathlib.Omega.{arith}
+use Rattle.cells.proofs.load_words.Given as goal
+
+-- Each turn of the loop puts one word more (`loading_next`).
+abbrev pub invariant-loop-i : goal.invariant-loop-i
+invariant-loop-i l = (l.i ≤ l.k) × (length l.m ≡ length l.initial.m) × Loading l.memory l.initial.m l.m l.at l.i
+
+abbrev pub decreases-loop-i : goal.decreases-loop-i
+decreases-loop-i l = l.k - l.i

@@ -1,0 +1,18 @@
+use lib.ListN.{length-set}
+use Rattle.scan.specs.Laws.{last_len}
+use Rattle.rules.proofs.SectionCases.{section_asks, section_in, section_out}
+use native.Mathlib.Omega.{arith}
+use borrow.Author.Rules.{rules}
+use Rattle.rules.proofs.process_section.Goals as goal
+
+pub processes-requires : goal.processes-requires
+processes-requires c = let h = section_asks c.args.tb.now c.args.t.now _ c.count.ensures _ _ c.requires.0 c.requires.2 c.in-Left.is c.first-n.ensures.0 in (h.0, h.1, h.2, omega (arith, last_len _ _ _ c.last.ensures), h.3, h.4)
+
+pub shape_of-tb : goal.shape_of-tb
+shape_of-tb c = omega (arith, length-set c.args.tb.now 211 0)
+
+pub returns-in-Left : goal.returns-in-Left
+returns-in-Left c = section_in c.args.tb.now c.args.t.now _ c.count.ensures _ _ _ _ _ (omega arith) c.requires.2 c.in-Left.is c.first-n.ensures.0 c.last.ensures c.processes.ensures
+
+pub returns-in-Refused : goal.returns-in-Refused
+returns-in-Refused c = section_out c.args.tb.now c.args.t.now _ c.count.ensures _ c.in-Refused.is
