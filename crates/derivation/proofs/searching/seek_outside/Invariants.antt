@@ -1,0 +1,18 @@
+-- The loop that looks for the k-th number whose label is not in the set answers what `nth_place` says of the numbers between the two places.
+use Rattle.derivation.proofs.Searches.{search_end, search_skip, search_here, search_pass, next_place}
+use borrow.Author.Rules.{rules}
+use native.Mathlib.Omega.{arith}
+use Prim.Native.Nat.{◌+◌, ◌-◌, ◌≤◌}
+use mathlib.Core.Path.{◌≡◌, sym, ap, ◌∙◌}
+use mathlib.Core.Bool.{not}
+use lib.Seq.{slice}
+use Rattle.actions.specs.Sets.{in_set}
+use Rattle.derivation.specs.Searching.{nth_place}
+use Rattle.derivation.proofs.searching.seek_outside.Given as goal
+
+-- The loop that looks for the k-th number whose label is not in the set answers what `nth_place` says of the numbers between the two places.
+abbrev pub invariant-loop-i : goal.invariant-loop-i
+invariant-loop-i l = (l.from ≤ l.i) × (l.i ≤ l.to) × (l.due ≤ l.k) × (nth_place (λ x. not (in_set l.y x)) 0 (slice l.from l.to l.acts) l.k ≡ nth_place (λ x. not (in_set l.y x)) (l.i - l.from) (slice l.i l.to l.acts) l.due)
+
+abbrev pub decreases-loop-i : goal.decreases-loop-i
+decreases-loop-i l = l.to - l.i
