@@ -1,0 +1,6 @@
+use borrow.Author.Rules.{rules}
+use Prim.Native.Nat.{ℕ, ◌<◌}
+use Rattle.steps.proofs.counting.+tally_most.Given as goal
+
+abbrev pub decreases-tally_most : goal.decreases-tally_most
+decreases-tally_most l = l.more

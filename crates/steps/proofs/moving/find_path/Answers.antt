@@ -1,0 +1,14 @@
+-- Sought in the lent numbers first (`walked`), then in more room, until there is an answer (`answered_path`); in the most room there is one (`most_path`).
+use mathlib.Core.Path.{refl, ◌∙◌}
+use Rattle.steps.proofs.TakeCases.{walked, answered_path, most_path}
+use borrow.Author.Rules.{rules}
+use Rattle.steps.proofs.moving.find_path.Goals as goal
+
+pub returns-then-few-lt-FULL : goal.returns-then-few-lt-FULL
+returns-then-few-lt-FULL c = answered_path refl (walked c.derive-few.ensures.0 c.derive-few.ensures.1) c.if-few-lt-FULL.true
+
+pub returns-then-more-lt-FULL : goal.returns-then-more-lt-FULL
+returns-then-more-lt-FULL c = answered_path c.derive-few.ensures.0 c.path_more-more.ensures c.if-more-lt-FULL.true
+
+pub returns : goal.returns
+returns c = most_path (c.path_more-more.ensures.same_length ∙ c.derive-few.ensures.0) c.path_most.ensures

@@ -1,0 +1,8 @@
+-- A store made ready, and the words of a memory put into it (`store_loaded`).
+use mathlib.Core.Path.{◌∙◌}
+use Rattle.steps.proofs.Stores.{store_loaded}
+use borrow.Author.Rules.{rules}
+use Rattle.steps.proofs.storing.load_store.Goals as goal
+
+pub returns : goal.returns
+returns c = (c.load.ensures.same_length ∙ c.lay.ensures.0, store_loaded _ _ _ _ _ _ _ _ (λ i. (c.shared_slice_known-2-1.given i).fits) c.lay.ensures.0 c.lay.ensures.1 c.load.ensures)

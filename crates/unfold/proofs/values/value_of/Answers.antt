@@ -1,0 +1,6 @@
+use Rattle.arguments.specs.TableLaws.{entry_beyond}
+use borrow.Author.Rules.{rules}
+use Rattle.unfold.proofs.values.value_of.Goals as goal
+
+pub returns : goal.returns
+returns c = search entry_beyond
