@@ -1,0 +1,17 @@
+-- A copy word by word is the words put at their place (document 01, "Moves, in order"). The loop has copied the first i of them.
+use Prim.Native.Nat.{◌-◌, ◌≤◌}
+use mathlib.Core.Path.{◌≡◌, refl}
+use lib.ListN.{length}
+use lib.Seq.{paste, paste-zero}
+use Rattle.scan.specs.Laws.{copy_len}
+use Rattle.sharing.proofs.SplicingCases.{copy_more, copy_last}
+use borrow.Author.Rules.{rules}
+use native.Mathlib.Omega.{arith}
+use Rattle.sharing.proofs.splicing.copy_words.Given as goal
+
+-- A copy word by word is the words put at their place (document 01, "Moves, in order"). The loop has copied the first i of them.
+abbrev pub invariant-loop-i : goal.invariant-loop-i
+invariant-loop-i l = (l.i ≤ length l.src) × (length l.dst ≡ length l.initial.dst) × (l.dst ≡ paste l.initial.dst l.at l.src l.i)
+
+abbrev pub decreases-loop-i : goal.decreases-loop-i
+decreases-loop-i l = length l.src - l.i
