@@ -3,7 +3,7 @@
 
 usage: tools/respell.py [FOLDER]        rewrites the files of FOLDER (default: the current one) in place
 
-- A name with dashes that a file of specs/ or a lemma file of proofs/ declares gets underscores, everywhere.
+- A name with dashes that specs/ or a lemma file of proofs/ uses and no library gives gets underscores, everywhere.
 - A definition whose values are facts or types gets upper camel case (the list TYPES).
 - In .rt files only `ghost use` items, clauses and comments' code spans are touched; in .md files only code spans; in must-fail
   edits the path and both texts, where the words of clauses and operators are brought over too.
@@ -56,7 +56,7 @@ DECLARED = re.compile(
     r'(?m)^ *(?:(?:abbrev|unfoldable|pub|data|record) )*([^\s(){}.;,@"«»]+)((?: (?:\{[^{}]*\}|\([^()]*\)))*) :(?= |$)'
 )
 RULES = re.compile(r"(?m)^ *(?:pub )?ruleset ([^\s(){}.;,]+)")
-OPEN_FIELD = re.compile(r"(?m)^ *pub ([^\s(){}.;,]+) :")
+OWN = set()
 COMMENT = re.compile(r"(?<![^\s(){}.;,])--[^\n]*")
 SPAN = re.compile(r"(`+)([^`\n]+)\1")
 CLAUSE = re.compile(r"\b(?:requires|ensures)\*? *(?:\w+ *)?\{|\bghost +(?:\w+ *: *)?\{|\bghost use [^;]*;")
@@ -70,23 +70,30 @@ def files(top):
 
 
 def generated(path):
-    """A proof that walks a function: its names are Rattle's."""
-    return os.path.basename(path) in ("Proof.antt", "Answers.antt", "Invariants.antt")
+    """A proof of a function: its names are Rattle's."""
+    return "/proofs/" in path.replace(os.sep, "/") and os.path.basename(path) in ("Proof.antt", "Answers.antt", "Invariants.antt")
 
 
 def declared(top):
-    found = set()
+    """The words with dashes that specs/ and the lemma files use and no library gives."""
+    found, of_library = set(), set()
     for path in files(os.path.join(top, "crates")):
-        if path.endswith(".antt") and not generated(path):
+        if path.endswith((".antt", ".rt")):
             with open(path, encoding="utf-8") as f:
-                code = COMMENT.sub("", f.read())
-            found |= {m[1] for m in DECLARED.finditer(code)} | {m[1] for m in RULES.finditer(code)}
-            found |= {m[1] for m in OPEN_FIELD.finditer(code)}
-    return {n for n in found if "-" in n and re.search(r"[A-Za-z]", n)}
+                text = f.read()
+            for m in OF_LIBRARY.finditer(text):
+                of_library |= set(WORD.findall(m[2] or ""))
+            if path.endswith(".antt") and not generated(path):
+                code = COMMENT.sub("", text)
+                found |= {m[0] for m in WORD.finditer(code)}
+                own = {m[1] for m in DECLARED.finditer(code)} | {m[1] for m in RULES.finditer(code)}
+                OWN.update(n for n in own if "-" in n)
+    found = {n for n in found if n not in of_library} | OWN
+    return {n for n in found if re.search("[-·]", n) and re.match(r"[A-Za-z]", n) and "->" not in n}
 
 
 def table(top):
-    rows = {n: n.replace("-", "_") for n in declared(top)}
+    rows = {n: re.sub("[-·]", "_", n) for n in declared(top)}
     # Both the old name and the one that underscores give.
     for old, new in TYPES.items():
         rows[old] = new
@@ -160,7 +167,7 @@ def rt(path, text, rows):
 
 def markdown(text, rows):
     # A word without a dash may be plain English or code of another language.
-    dashed = {k: v for k, v in rows.items() if "-" in k}
+    dashed = {k: v for k, v in rows.items() if re.search("[-·]", k)}
     return SPAN.sub(lambda s: s[1] + turn(s[2], dashed, set(), {}) + s[1], text)
 
 
@@ -197,7 +204,7 @@ def main(argv):
     rows = table(top)
     taken = {}
     for old, new in rows.items():
-        if new in taken and taken[new].replace("-", "_") != old.replace("-", "_"):
+        if new in taken and re.sub("[-·]", "_", taken[new]) != re.sub("[-·]", "_", old):
             print(f"respell: {old} and {taken[new]} would both be {new}")
             return 1
         taken[new] = old

@@ -24,25 +24,25 @@ use Rattle.rules.specs.declared.Rules.TheVariants.{Found, Refused}
 use Rattle.rules.specs.Sections.{rules_weighed}
 use Rattle.rules.specs.WholeLaws.{rules_found, rules_refused, whole_long, whole_behind, whole_judged}
 use Rattle.admission.specs.declared.Admitted.{Admitted}
-use Rattle.admission.specs.declared.Admitted.TheVariants.{Sizes as Admitted·sizes, Refused as Admitted·refused}
+use Rattle.admission.specs.declared.Admitted.TheVariants.{Sizes as Admitted_sizes, Refused as Admitted_refused}
 use Rattle.admission.specs.Answering.{admitted, read_whole}
 use Rattle.admission.specs.Admitting.{Described, WordsAdmitted, FileAdmitted}
 
 -- ── judging ──
 
 module _ (cells : ℕ) (w : Weight) where
-  pub judge_size : 8192 < w.reach → Admitted·refused 7 ≡ admitted (judged cells (measure w))
+  pub judge_size : 8192 < w.reach → Admitted_refused 7 ≡ admitted (judged cells (measure w))
   unfolding admitted
   judge_size h = sym (ap admitted (pick_false _ _ (leb w.reach 8192) (λ t. let k : w.reach ≤ 8192 = leb→le w.reach 8192 t in omega arith)))
 
-  pub judge_breadth : w.reach ≤ 8192 → 65535 < w.breadth → Admitted·refused 8 ≡ admitted (judged cells (measure w))
+  pub judge_breadth : w.reach ≤ 8192 → 65535 < w.breadth → Admitted_refused 8 ≡ admitted (judged cells (measure w))
   unfolding admitted
   judge_breadth h k = sym (ap admitted (pick_true _ _ (leb w.reach 8192) (le→leb w.reach 8192 h)
       ∙ pick_false _ _ (leb w.breadth 65535) (λ t. let l : w.breadth ≤ 65535 = leb→le w.breadth 65535 t in omega arith)))
 
-  pub judge_fine : (r : Limits) → w.reach ≤ 8192 → w.breadth ≤ 65535 → r ≡ reported cells (measure w) → Admitted·sizes r ≡ admitted (judged cells (measure w))
+  pub judge_fine : (r : Limits) → w.reach ≤ 8192 → w.breadth ≤ 65535 → r ≡ reported cells (measure w) → Admitted_sizes r ≡ admitted (judged cells (measure w))
   unfolding admitted
-  judge_fine r h k e = ap Admitted·sizes e ∙ sym (ap admitted (pick_true _ _ (leb w.reach 8192) (le→leb w.reach 8192 h)
+  judge_fine r h k e = ap Admitted_sizes e ∙ sym (ap admitted (pick_true _ _ (leb w.reach 8192) (le→leb w.reach 8192 h)
       ∙ pick_true _ _ (leb w.breadth 65535) (le→leb w.breadth 65535 k)))
 
 -- ── zeros ──
@@ -66,7 +66,7 @@ module _ (x : Bool) (s : List ℕ) (i : ℕ) (e : x ≡ all_zero (drop i s)) whe
 -- ── the words behind the first two ──
 
 module _ (t : List ℕ) (p : Rules) (e : p ≡ rules_weighed (read_rules edition_1 t)) where
-  pub words_refused : (k : ℕ) → p ≡ Refused k → Admitted·refused k ≡ read_whole t
+  pub words_refused : (k : ℕ) → p ≡ Refused k → Admitted_refused k ≡ read_whole t
   unfolding admitted
   words_refused k f = sym (ap admitted (rules_refused t k (sym f ∙ e)))
 
@@ -74,7 +74,7 @@ module _ (t : List ℕ) (p : Rules) (e : p ≡ rules_weighed (read_rules edition
     pub words_few : cells < 4294967296
     words_few = let h : cells ≤ 1024 = (rules_found t left cells w (sym f ∙ e)).few in omega arith
 
-    pub words_long : 254 ≤ left → Admitted·refused 4 ≡ read_whole t
+    pub words_long : 254 ≤ left → Admitted_refused 4 ≡ read_whole t
     unfolding admitted
     words_long h = sym (ap admitted (whole_long t left cells w (sym f ∙ e) h))
 
@@ -82,7 +82,7 @@ module _ (t : List ℕ) (p : Rules) (e : p ≡ rules_weighed (read_rules edition
       same : b ≡ all_zero (last_of left t)
       same = z ∙ ap all_zero l
 
-      pub words_behind : not b ≡ true → Admitted·refused 4 ≡ read_whole t
+      pub words_behind : not b ≡ true → Admitted_refused 4 ≡ read_whole t
       unfolding admitted
       words_behind n = sym (ap admitted (whole_behind t left cells w (sym f ∙ e) (λ x. subst T (sym same ∙ not-true b n) x)))
 

@@ -15,28 +15,28 @@ use Rattle.eb3.specs.Sizes.{reach, breadth}
 use Rattle.eb3.specs.Unfolding.{unfold_main}
 use Rattle.eb3.specs.Answers.{Answer, refused, answered, and_then, Sizes}
 use Rattle.eb3.specs.Operations.{admit, sizes_needed}
-use Rattle.eb3.specs.Laws.Answers.{and-then-answered, answered-injective, pick-answered, not_both}
+use Rattle.eb3.specs.Laws.Answers.{and_then_answered, answered_injective, pick_answered, not_both}
 use Rattle.weights.specs.declared.Limits.{Limits}
 use Rattle.admission.specs.declared.Admitted.{Admitted}
-use Rattle.admission.specs.declared.Admitted.TheVariants.{Sizes as Admitted·sizes, Refused as Admitted·refused}
+use Rattle.admission.specs.declared.Admitted.TheVariants.{Sizes as Admitted_sizes, Refused as Admitted_refused}
 use Rattle.admission.specs.Answering.{limits, admitted}
 
-refused_from : (a : Answer RuleSet) (k : ℕ) → Admitted·refused k ≡ admitted (and_then a λ R. answered (sizes_needed R)) → a ≡ refused k
+refused_from : (a : Answer RuleSet) (k : ℕ) → Admitted_refused k ≡ admitted (and_then a λ R. answered (sizes_needed R)) → a ≡ refused k
 unfolding admitted and_then
 refused_from (refused j) k e = let z : j ≡ k = cc in ap refused z
 refused_from (answered R) k e = absurd (let z : ◌≡◌ {A = ℕ} 0 1 = cc in omega arith)
 
-answered_from : (a : Answer RuleSet) (l : Limits) → Admitted·sizes l ≡ admitted (and_then a λ R. answered (sizes_needed R)) → (R : RuleSet) × (a ≡ answered R) × (l ≡ limits (sizes_needed R))
+answered_from : (a : Answer RuleSet) (l : Limits) → Admitted_sizes l ≡ admitted (and_then a λ R. answered (sizes_needed R)) → (R : RuleSet) × (a ≡ answered R) × (l ≡ limits (sizes_needed R))
 unfolding admitted and_then
 answered_from (refused j) l e = absurd (let z : ◌≡◌ {A = ℕ} 0 1 = cc in omega arith)
 answered_from (answered R) l e = (R, refl, cc)
 
 module _ (rules : List ℕ) where
-  pub admission_refused : (k : ℕ) → Admitted·refused k ≡ admitted (admit rules) → admission rules ≡ refused k
+  pub admission_refused : (k : ℕ) → Admitted_refused k ≡ admitted (admit rules) → admission rules ≡ refused k
   unfolding admit
   admission_refused k e = refused_from (admission rules) k e
 
-  pub admission_answered : (l : Limits) → Admitted·sizes l ≡ admitted (admit rules) → (R : RuleSet) × (admission rules ≡ answered R) × (l ≡ limits (sizes_needed R))
+  pub admission_answered : (l : Limits) → Admitted_sizes l ≡ admitted (admit rules) → (R : RuleSet) × (admission rules ≡ answered R) × (l ≡ limits (sizes_needed R))
   unfolding admit
   admission_answered l e = answered_from (admission rules) l e
 
@@ -44,18 +44,18 @@ module _ (rules : List ℕ) where
   ended_taken : (r : Read RuleSet) (R : RuleSet) → ended r ≡ answered R → (u : List ℕ) × (r ≡ taken R u)
   unfolding ended
   ended_taken (Read.refused k) R e = absurd (not_both k R e)
-  ended_taken (Read.taken Q rest) R e = (rest, ap (λ P. taken P rest) (answered-injective Q R (pick-answered (ends_right rest) (answered Q) Refusal.form R e).1))
+  ended_taken (Read.taken Q rest) R e = (rest, ap (λ P. taken P rest) (answered_injective Q R (pick_answered (ends_right rest) (answered Q) Refusal.form R e).1))
 
   same_limited : (Q R : RuleSet) → within_limits Q ≡ answered R → Q ≡ R
   unfolding within_limits
   same_limited Q R e =
-      let p = pick-answered (leb (reach Q.edition.width (unfold_main Q)) 8192) _ Refusal.size R e in
-      answered-injective Q R (pick-answered (leb (breadth (unfold_main Q)) 65535) (answered Q) Refusal.breadth R p.1).1
+      let p = pick_answered (leb (reach Q.edition.width (unfold_main Q)) 8192) _ Refusal.size R e in
+      answered_injective Q R (pick_answered (leb (breadth (unfold_main Q)) 65535) (answered Q) Refusal.breadth R p.1).1
 
   pub admission_taken : (R : RuleSet) → admission rules ≡ answered R → (u : List ℕ) × (read_rules edition_1 (drop 2 (stream rules)) ≡ taken R u)
   unfolding admission
   admission_taken R e =
-      let p = and-then-answered (and_then (open_blocks rules) λ o. ended (read_rules o.edition o.words)) within_limits R e in
-      let q = and-then-answered (open_blocks rules) (λ o. ended (read_rules o.edition o.words)) p.0 p.1 in
+      let p = and_then_answered (and_then (open_blocks rules) λ o. ended (read_rules o.edition o.words)) within_limits R e in
+      let q = and_then_answered (open_blocks rules) (λ o. ended (read_rules o.edition o.words)) p.0 p.1 in
       let t = ended_taken (read_rules q.0.edition q.0.words) p.0 q.2 in
       (t.0, ap (λ (o : Opened). read_rules o.edition o.words) (sym (opened_is_1 rules q.0 q.1)) ∙ t.1 ∙ ap (λ P. taken P t.0) (same_limited p.0 R p.2))

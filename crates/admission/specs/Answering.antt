@@ -6,15 +6,15 @@ use Rattle.eb3.specs.Answers.{Answer, refused, answered, Sizes}
 use Rattle.eb3.specs.Laws.Judging.{whole_of}
 use Rattle.weights.specs.declared.Limits.{Limits}
 use Rattle.admission.specs.declared.Admitted.{Admitted}
-use Rattle.admission.specs.declared.Admitted.TheVariants.{Sizes as Admitted·sizes, Refused as Admitted·refused}
+use Rattle.admission.specs.declared.Admitted.TheVariants.{Sizes as Admitted_sizes, Refused as Admitted_refused}
 
 abbrev pub limits : Sizes → Limits
 limits S = record { cells = S.cells; reach = S.reach; breadth = S.breadth; size = S.size }
 
 -- Admit: C, G, W and the start term's size, or the refusal's number.
 unfoldable pub admitted : Answer Sizes → Admitted
-admitted (refused k) = Admitted·refused k
-admitted (answered S) = Admitted·sizes (limits S)
+admitted (refused k) = Admitted_refused k
+admitted (answered S) = Admitted_sizes (limits S)
 
 -- The stream behind its first two words: read, ended, judged.
 abbrev pub read_whole : List ℕ → Admitted

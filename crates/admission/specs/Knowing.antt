@@ -11,11 +11,11 @@ use Rattle.eb3.specs.WellFormedness.{Form, WellFormed}
 use Rattle.eb3.specs.Answers.{refused, answered, and_then}
 use Rattle.eb3.specs.Operations.{admit, sizes_needed}
 use Rattle.eb3.specs.Laws.Judging.{whole_of, admit_by_parts}
-use Rattle.eb3.specs.Laws.Admission.{admitted as admitted-form, opened_1}
+use Rattle.eb3.specs.Laws.Admission.{admitted as admitted_form, opened_1}
 use Rattle.weights.specs.declared.Limits.{Limits}
 use Rattle.declarations.specs.Directory.{Directory, row_width}
 use Rattle.admission.specs.declared.Admitted.{Admitted}
-use Rattle.admission.specs.declared.Admitted.TheVariants.{Sizes as Admitted·sizes, Refused as Admitted·refused}
+use Rattle.admission.specs.declared.Admitted.TheVariants.{Sizes as Admitted_sizes, Refused as Admitted_refused}
 use Rattle.admission.specs.Answering.{limits, admitted, read_whole}
 use Rattle.admission.specs.Admitting.{FileAdmitted}
 use Rattle.admission.specs.AdmissionLaws.{admission_refused, admission_answered, admission_taken}
@@ -40,13 +40,13 @@ module _ (rules words D : List ℕ) (n : ℕ) (r : Admitted) (words' T D' : List
   unfolding and_then
   answer_is = f.answer ∙ sym (ap admitted (admit_by_parts rules ∙ ap (λ a. and_then a (λ o. whole_of (read_rules o.edition o.words))) o))
 
-  pub known_refused : (k : ℕ) → r ≡ Admitted·refused k → admission rules ≡ refused k
+  pub known_refused : (k : ℕ) → r ≡ Admitted_refused k → admission rules ≡ refused k
   known_refused k e = admission_refused rules k (sym e ∙ answer_is)
 
-  pub known : (l : Limits) → r ≡ Admitted·sizes l → length D ≡ 1072 → Known rules T D' l
+  pub known : (l : Limits) → r ≡ Admitted_sizes l → length D ≡ 1072 → Known rules T D' l
   known l e room =
       let a = admission_answered rules l (sym e ∙ answer_is) in
-      let w : WellFormed a.0 = (admitted-form rules a.0 a.1).good in
+      let w : WellFormed a.0 = (admitted_form rules a.0 a.1).good in
       let u = admission_taken rules a.0 a.1 in
       record {
         rule_set = a.0;

@@ -6,17 +6,17 @@ use Rattle.std.proofs.Common.{◌∙◌, subst, arith, eqb→eq, leb→le, lengt
 use Rattle.std.proofs.lemmas.List.{drop-append-le}
 use Rattle.eb3.specs.Generic.Booleans.{T_fst, T_snd}
 use Rattle.eb3.specs.Refusal
-use Rattle.eb3.specs.Blocks.{block_count, stream, whole_blocks, Opened as Blocks-as-Opened, open_blocks}
-use Rattle.eb3.specs.Laws.Admission.{stream_length, opened as opened-as, opened_1, opened_is_1}
+use Rattle.eb3.specs.Blocks.{block_count, stream, whole_blocks, Opened as Blocks_as_Opened, open_blocks}
+use Rattle.eb3.specs.Laws.Admission.{stream_length, opened as opened_as, opened_1, opened_is_1}
 use Rattle.eb3.specs.Answers.{Answer, refused, answered, and_then}
 use Rattle.eb3.specs.RuleReading.{read_rules}
 use Rattle.eb3.specs.Operations.{admit}
 use Rattle.eb3.specs.Laws.Judging.{whole_of, admit_by_parts}
 use Rattle.blocks.specs.declared.Opened.{Opened}
-use Rattle.blocks.specs.declared.Opened.TheVariants.{Blocks, Refused as Opened·refused}
+use Rattle.blocks.specs.declared.Opened.TheVariants.{Blocks, Refused as Opened_refused}
 use Rattle.blocks.specs.Opening.{opening}
 use Rattle.admission.specs.declared.Admitted.{Admitted}
-use Rattle.admission.specs.declared.Admitted.TheVariants.{Refused as Admitted·refused}
+use Rattle.admission.specs.declared.Admitted.TheVariants.{Refused as Admitted_refused}
 use Rattle.admission.specs.Answering.{admitted, read_whole}
 use Rattle.admission.specs.Knowing.{Opens}
 
@@ -43,25 +43,25 @@ module _ (s : List ℕ) (n : ℕ) (e : length s ≡ 512 * n) (some : 1 ≤ n) (f
 
 -- ── blocks ──
 
-unopened : (s : List ℕ) (a : Answer Blocks-as-Opened) (k : ℕ) → Opened·refused k ≡ opening s a → a ≡ refused k
+unopened : (s : List ℕ) (a : Answer Blocks_as_Opened) (k : ℕ) → Opened_refused k ≡ opening s a → a ≡ refused k
 unfolding opening
 unopened s (refused j) k e = let z : j ≡ k = cc in ap refused z
 unopened s (answered x) k e = absurd (let z : ◌≡◌ {A = ℕ} 0 1 = cc in omega arith)
 
-opened : (s : List ℕ) (a : Answer Blocks-as-Opened) (n : ℕ) → Blocks n ≡ opening s a → (n ≡ block_count s) × (x : Blocks-as-Opened) × (a ≡ answered x)
+opened : (s : List ℕ) (a : Answer Blocks_as_Opened) (n : ℕ) → Blocks n ≡ opening s a → (n ≡ block_count s) × (x : Blocks_as_Opened) × (a ≡ answered x)
 unfolding opening
 opened s (refused j) n e = absurd (let z : ◌≡◌ {A = ℕ} 0 1 = cc in omega arith)
 opened s (answered x) n e = (cc, x, refl)
 
-whole_is : (s : List ℕ) (x : Blocks-as-Opened) → open_blocks s ≡ answered x → T (whole_blocks s) × (x ≡ opened_1 s)
-whole_is s x e = ((opened-as s x e).whole, opened_is_1 s x e)
+whole_is : (s : List ℕ) (x : Blocks_as_Opened) → open_blocks s ≡ answered x → T (whole_blocks s) × (x ≡ opened_1 s)
+whole_is s x e = ((opened_as s x e).whole, opened_is_1 s x e)
 
 module _ (s : List ℕ) (p : Opened) (e : p ≡ opening s (open_blocks s)) where
-  pub admit_refused : (k : ℕ) → p ≡ Opened·refused k → Admitted·refused k ≡ admitted (admit s)
+  pub admit_refused : (k : ℕ) → p ≡ Opened_refused k → Admitted_refused k ≡ admitted (admit s)
   unfolding admitted and_then
   admit_refused k f = sym (ap admitted (admit_by_parts s ∙ ap (λ a. and_then a (λ o. whole_of (read_rules o.edition o.words))) (unopened s _ k (sym f ∙ e))))
 
-  pub open_refused : (k : ℕ) → p ≡ Opened·refused k → open_blocks s ≡ refused k
+  pub open_refused : (k : ℕ) → p ≡ Opened_refused k → open_blocks s ≡ refused k
   open_refused k f = unopened s _ k (sym f ∙ e)
 
   module _ (n : ℕ) (f : p ≡ Blocks n) where
@@ -84,4 +84,4 @@ module _ (s : List ℕ) (p : Opened) (e : p ≡ opening s (open_blocks s)) where
     admit_read r g =
         let o = opened s _ n (sym f ∙ e) in
         g ∙ sym (ap admitted (admit_by_parts s ∙ (ap (λ a. and_then a (λ o. whole_of (read_rules o.edition o.words))) o.2
-        ∙ ap (λ (x : Blocks-as-Opened). whole_of (read_rules x.edition x.words)) (whole_is s o.1 o.2).1)))
+        ∙ ap (λ (x : Blocks_as_Opened). whole_of (read_rules x.edition x.words)) (whole_is s o.1 o.2).1)))

@@ -12,7 +12,7 @@ use borrow.Author.Tests.{not-true, not-false, eq-eqb, le-leb}
 use Rattle.eb3.specs.Generic.Booleans.{T_fst, T_snd}
 use Rattle.eb3.specs.Editions.{Edition, edition_1, edition_of}
 use Rattle.eb3.specs.Reading.{pick}
-use Rattle.eb3.specs.Answers.{Answer, answered, refused, or-refused, and_then}
+use Rattle.eb3.specs.Answers.{Answer, answered, refused, or_refused, and_then}
 use Rattle.eb3.specs.Bytes.{words_in}
 use Rattle.eb3.specs.Blocks.{contents, block_count, whole_blocks, blocks_right, edition_in, open_blocks}
 use Rattle.eb3.specs.Laws.Reading.{pick_false}
@@ -52,9 +52,9 @@ module _ (s : List ℕ) where
       let e = first_words (contents (block_count s) s) (content_long l) in
       let w : get_or (words_in (contents (block_count s) s)) 0 0 ≡ get_or s 4 0 + 256 * get_or s 5 0 = rw (content_byte 0 (omega arith) l, content_byte 1 (omega arith) l) at e.0 in
       let v : get_or (words_in (contents (block_count s) s)) 1 0 ≡ get_or s 6 0 + 256 * get_or s 7 0 = rw (content_byte 2 (omega arith) l, content_byte 3 (omega arith) l) at e.1 in
-      (λ i. pick (eqb (v i) (block_count s)) (or-refused 3 (pick (eqb (w i) 1) (some edition_1) none)) (refused 3)) ∙ go (eqb (get_or s 4 0 + 256 * get_or s 5 0) 1) (eqb (get_or s 6 0 + 256 * get_or s 7 0) (block_count s))
+      (λ i. pick (eqb (v i) (block_count s)) (or_refused 3 (pick (eqb (w i) 1) (some edition_1) none)) (refused 3)) ∙ go (eqb (get_or s 4 0 + 256 * get_or s 5 0) 1) (eqb (get_or s 6 0 + 256 * get_or s 7 0) (block_count s))
     where
-      go : (x y : Bool) → pick y (or-refused 3 (pick x (some edition_1) none)) (refused 3) ≡ edition_by (x && y)
+      go : (x y : Bool) → pick y (or_refused 3 (pick x (some edition_1) none)) (refused 3) ≡ edition_by (x && y)
       go true true = refl
       go true false = refl
       go false true = refl

@@ -146,13 +146,13 @@ module _ {t : List ℕ} {f left : ℕ} (T : Turn t f left) (m : List ℕ) (enter
   old_behind : 36 + offset T.A f + k ≤ before_place m
   old_behind = omega (arith, T.filling.apart, cells_here T m entered k place placed.size refl, entered.kept_below 3 (omega arith) (lit< tt))
 
-  module _ (from : ℕ) (is-from : from ≡ before_place m + place) (words : (i : ℕ) → stored m i < 65536) where
+  module _ (from : ℕ) (is_from : from ≡ before_place m + place) (words : (i : ℕ) → stored m i < 65536) where
     later : at ≤ from
-    later = omega (arith, is-from, old_behind, placed.begin)
+    later = omega (arith, is_from, old_behind, placed.begin)
 
     kept_word : (x : ℕ) → x < k → stored m (from + x) ≡ encode 65535 (evaluate_data (kept_value f) (environment_in (set m 0 x)))
     kept_word x h =
-        let i : from + x ≡ before_place m + (place + x) = omega (arith, is-from) in
+        let i : from + x ≡ before_place m + (place + x) = omega (arith, is_from) in
         let v = kept_read m x (let o = old_behind in omega arith) (let r = T.filling.room in omega (arith, entered.same_length)) (let l = small_element x h in omega arith) f (omega (arith, placed.size)) in
         sym (word_of_value (stored m (from + x)) (words (from + x))) ∙ ap (λ o. encode 65535 (decode 65534 (stored m o))) i ∙ ap (encode 65535) (sym v)
 
@@ -167,8 +167,8 @@ module _ {t : List ℕ} {f left : ℕ} (T : Turn t f left) (m : List ℕ) (enter
     -- ── one element named ──
 
     -- d is what the element's name answers, a what its value does, u and v the words behind them.
-    module _ (asks : Tells true s AsksOne) (d : ℕ) (named : Evaluated (drop 4 s) m d) (u : List ℕ) (is-u : u ≡ last_of (d / 65536) s)
-        (a : ℕ) (valued : Evaluated u (set m 0 (d % 65536)) a) (v : List ℕ) (is-v : v ≡ last_of (a / 65536) u) (keeps : Tells true v (λ b. b ≡ kept_value f)) where
+    module _ (asks : Tells true s AsksOne) (d : ℕ) (named : Evaluated (drop 4 s) m d) (u : List ℕ) (is_u : u ≡ last_of (d / 65536) s)
+        (a : ℕ) (valued : Evaluated u (set m 0 (d % 65536)) a) (v : List ℕ) (is_v : v ≡ last_of (a / 65536) u) (keeps : Tells true v (λ b. b ≡ kept_value f)) where
       asks_here : AsksOne spelt
       asks_here = (asks ready.scope spelt ready.stands.0 stands_here).0 refl
 
@@ -200,7 +200,7 @@ module _ {t : List ℕ} {f left : ℕ} (T : Turn t f left) (m : List ℕ) (enter
       yes_at = record {
         plain = ready.plain;
         in_scope = scoped.1;
-        spelled = is-u ∙ ap (λ n. last_of n s) (data_parted (drop 4 s) m d ready.scope (data_words 1 yes_value ++ behind_yes) named name name_at).left
+        spelled = is_u ∙ ap (λ n. last_of n s) (data_parted (drop 4 s) m d ready.scope (data_words 1 yes_value ++ behind_yes) named name name_at).left
             ∙ ap (last_of (length (data_words 1 yes_value ++ behind_yes))) spelt_words ∙ last_behind (asking 0 (data_words 1 name)) (data_words 1 yes_value ++ behind_yes);
       }
 
@@ -211,7 +211,7 @@ module _ {t : List ℕ} {f left : ℕ} (T : Turn t f left) (m : List ℕ) (enter
       no_at = record {
         plain = ready.plain;
         in_scope = scoped.2;
-        spelled = (data_parted u (set m 0 (d % 65536)) a ready.scope behind_yes valued yes_value yes_at).behind v is-v;
+        spelled = (data_parted u (set m 0 (d % 65536)) a ready.scope behind_yes valued yes_value yes_at).behind v is_v;
       }
 
       spelt_is : spelt ≡ If (Equal (Variable 0) name) yes_value (kept_value f)

@@ -29,10 +29,10 @@ module _ (m : List ℕ) (from at : ℕ) where
   }
 
   -- w is the word read
-  module _ (M' : List ℕ) (x w : ℕ) (read : from + x < length m) (room : at + x < length m) (is-w : w ≡ get_or M' (from + x) 0) (copied : Copied m M' from at x) where
+  module _ (M' : List ℕ) (x w : ℕ) (read : from + x < length m) (room : at + x < length m) (is_w : w ≡ get_or M' (from + x) 0) (copied : Copied m M' from at x) where
     word_read : at ≤ from → w ≡ stored m (from + x)
     unfolding stored
-    word_read l = is-w ∙ any_default M' (from + x) 0 65535 (omega (arith, copied.same_length)) ∙ copied.kept_above (from + x) (omega arith)
+    word_read l = is_w ∙ any_default M' (from + x) 0 65535 (omega (arith, copied.same_length)) ∙ copied.kept_above (from + x) (omega arith)
 
     written_there : stored (set M' (at + x) w) (at + x) ≡ w
     written_there = stored_there M' (at + x) w (omega (arith, copied.same_length))
@@ -107,15 +107,15 @@ store_words m words i = go (dec_lt i (length m))
     go (yes h) = subst (λ w. w < 65536) (any_default m i 0 65535 h) (words i)
     go (no n) = subst (λ w. w < 65536) (sym (get_or-eq_default m 65535 (omega arith))) (lit< tt)
 
-module _ (f : ℕ) (s m : List ℕ) (from at k : ℕ) (is-from : from ≡ before_place m + stored m (row_place f + 1)) (words : (i : ℕ) → get_or m i 0 < 65536) where
+module _ (f : ℕ) (s m : List ℕ) (from at k : ℕ) (is_from : from ≡ before_place m + stored m (row_place f + 1)) (words : (i : ℕ) → get_or m i 0 < 65536) where
   pub all_kept : (M' : List ℕ) → Tells true s (λ d. d ≡ kept_value f) → Copied m M' from at k → NewCells f s at k m M'
-  all_kept M' tells copied t left placed T entered = kept_cells T m entered s at k placed from is-from (store_words m words) tells M' copied
+  all_kept M' tells copied t left placed T entered = kept_cells T m entered s at k placed from is_from (store_words m words) tells M' copied
 
   -- d is what the element's name answers, a what its value does, u and v the words behind them
-  module _ (asks : Tells true s AsksOne) (d : ℕ) (named : Evaluated (drop 4 s) m d) (u : List ℕ) (is-u : u ≡ last_of (d / 65536) s)
-      (a : ℕ) (valued : Evaluated u (set m 0 (d % 65536)) a) (v : List ℕ) (is-v : v ≡ last_of (a / 65536) u) (keeps : Tells true v (λ b. b ≡ kept_value f)) (M' : List ℕ) (copied : Copied (set m 0 (d % 65536)) M' from at k) where
+  module _ (asks : Tells true s AsksOne) (d : ℕ) (named : Evaluated (drop 4 s) m d) (u : List ℕ) (is_u : u ≡ last_of (d / 65536) s)
+      (a : ℕ) (valued : Evaluated u (set m 0 (d % 65536)) a) (v : List ℕ) (is_v : v ≡ last_of (a / 65536) u) (keeps : Tells true v (λ b. b ≡ kept_value f)) (M' : List ℕ) (copied : Copied (set m 0 (d % 65536)) M' from at k) where
     pub named_past : k ≤ d % 65536 → NewCells f s at k m M'
-    named_past h t left placed T entered = none_named T m entered s at k placed from is-from (store_words m words) asks d named u is-u a valued v is-v keeps M' copied h
+    named_past h t left placed T entered = none_named T m entered s at k placed from is_from (store_words m words) asks d named u is_u a valued v is_v keeps M' copied h
 
     pub named_one : d % 65536 < k → at + k ≤ length m → NewCells f s at k m (set M' (at + d % 65536) (a % 65536))
-    named_one h room t left placed T entered = one_named T m entered s at k placed from is-from (store_words m words) asks d named u is-u a valued v is-v keeps M' copied h room
+    named_one h room t left placed T entered = one_named T m entered s at k placed from is_from (store_words m words) asks d named u is_u a valued v is_v keeps M' copied h room

@@ -146,7 +146,7 @@ module _ {t : List ℕ} {f left : ℕ} (T : Turn t f left) (M' : List ℕ) (x y 
 -- ── one cell more ──
 
 -- Of m, the store when the turn begins: function f has k cells, which begin at p.
-module _ {t : List ℕ} {f left : ℕ} (T : Turn t f left) (m : List ℕ) (entered : Reached T m 0) (k p : ℕ) (is-k : k ≡ stored m (4 + 2 * f)) (is-p : p ≡ stored m (4 + 2 * f + 1)) where
+module _ {t : List ℕ} {f left : ℕ} (T : Turn t f left) (m : List ℕ) (entered : Reached T m 0) (k p : ℕ) (is_k : k ≡ stored m (4 + 2 * f)) (is_p : p ≡ stored m (4 + 2 * f + 1)) where
   below_16 : f < 16
   below_16 = let k = T.known in let l = T.few in omega arith
 
@@ -154,10 +154,10 @@ module _ {t : List ℕ} {f left : ℕ} (T : Turn t f left) (m : List ℕ) (enter
   row_here = T.filling.laid f (subst (λ n. f < n) T.filling.functions T.known)
 
   pub size_here : k ≡ stored T.M (4 + 2 * f)
-  size_here = let h = below_16 in is-k ∙ entered.kept_below (4 + 2 * f) (omega arith) (omega arith)
+  size_here = let h = below_16 in is_k ∙ entered.kept_below (4 + 2 * f) (omega arith) (omega arith)
 
   pub begin_here : p ≡ offset T.A f
-  begin_here = let h = below_16 in is-p ∙ entered.kept_below (4 + 2 * f + 1) (omega arith) (omega arith) ∙ row_here.begins
+  begin_here = let h = below_16 in is_p ∙ entered.kept_below (4 + 2 * f + 1) (omega arith) (omega arith) ∙ row_here.begins
 
   pub count_here : cell_count (domain T.A f) ≡ k
   count_here = row_cells T.A T.M f row_here ∙ sym size_here
@@ -173,7 +173,7 @@ module _ {t : List ℕ} {f left : ℕ} (T : Turn t f left) (m : List ℕ) (enter
       let e : offset T.A f + x ≡ offset T.A (suc f) = omega (arith, next_offset T.A f, count_here) in
       subst (Partly T.A T.o T.b T.M M') e r
 
-  module _ (M' : List ℕ) (x r : ℕ) (s : List ℕ) (reached : Reached T M' x) (h : x < k) (is-s : s ≡ last_of left t) (evaluated : Evaluated s (set M' 0 x) r) where
+  module _ (M' : List ℕ) (x r : ℕ) (s : List ℕ) (reached : Reached T M' x) (h : x < k) (is_s : s ≡ last_of left t) (evaluated : Evaluated s (set M' 0 x) r) where
     element_here : x < stored T.M (row_place f)
     element_here = omega (arith, size_here)
 
@@ -181,7 +181,7 @@ module _ {t : List ℕ} {f left : ℕ} (T : Turn t f left) (m : List ℕ) (enter
     ready = T.filling.ready f T.known
 
     data_here : DataAt s ready.scope (expression (function T.A f) T.o) ready.stands.0
-    data_here = record { plain = ready.plain; in_scope = ready.in_scope; spelled = is-s ∙ ap (λ n. last_of n t) T.place ∙ ready.stands.1 }
+    data_here = record { plain = ready.plain; in_scope = ready.in_scope; spelled = is_s ∙ ap (λ n. last_of n t) T.place ∙ ready.stands.1 }
 
     word_here : r % 65536 ≡ encode 65535 (get_or (cells_up_to T.A T.o T.b (number_of_functions T.A)) (offset T.A f + x) undefined)
     word_here = (data_parted s (set M' 0 x) r ready.scope ready.stands.0 evaluated (expression (function T.A f) T.o) data_here).word

@@ -100,7 +100,7 @@ taken_on ds b bs f t d u e = rw e (go (for_each bs f u))
     go (refused k) = refl
     go (taken es v) = ap (λ l. taken l v) (sym (append_assoc ds (d ∷ []) es))
 
-module _ (t T D₀ R u D D₁ : List ℕ) (n i k at left l : ℕ) (p : Checked) (s : Sofar t T D₀ n i k at D left l) (lt : l < k) (g : D₁ ≡ set D (at + l) (left % 4294967296)) (is-u : u ≡ last_of left t)
+module _ (t T D₀ R u D D₁ : List ℕ) (n i k at left l : ℕ) (p : Checked) (s : Sofar t T D₀ n i k at D left l) (lt : l < k) (g : D₁ ≡ set D (at + l) (left % 4294967296)) (is_u : u ≡ last_of left t)
     (r : R ≡ row T (18 + 3 * l)) (e : p ≡ checked (read_data 1 (at_label n i (length R)) u)) where
   abbrev this : Reader Data
   this = for_label n i (row T (18 + 3 * l))
@@ -109,7 +109,7 @@ module _ (t T D₀ R u D D₁ : List ℕ) (n i k at left l : ℕ) (p : Checked) 
   here = e ∙ ap (λ S. checked (read_data 1 S u)) (label_scope n i (length R)) ∙ ap (λ ds. checked (for_label n i ds u)) r
 
   on : label_expressions T n i k t ≡ giving (λ es. s.ds ++ es) (for_each (row T (18 + 3 * l) ∷ labels_of T (l + 1) (k - (l + 1))) (for_label n i) u)
-  on = s.reading ∙ (λ j. giving (λ es. s.ds ++ es) (for_each (labels_next T l k lt j) (for_label n i) (sym is-u j)))
+  on = s.reading ∙ (λ j. giving (λ es. s.ds ++ es) (for_each (labels_next T l k lt j) (for_label n i) (sym is_u j)))
 
   as_long : length D₁ ≡ length D₀
   as_long = ap length g ∙ length-set D (at + l) (left % 4294967296) ∙ s.same_length
@@ -133,10 +133,10 @@ module _ (t T D₀ R u D D₁ : List ℕ) (n i k at left l : ℕ) (p : Checked) 
     it = got this (data_ends 1 _) u m p here h
 
     left_short : length u ≡ left
-    left_short = ap length is-u ∙ last_length left t s.short
+    left_short = ap length is_u ∙ last_length left t s.short
 
     tail : Tail u t
-    tail = subst (λ v. Tail v t) (sym is-u) (last_tail left t)
+    tail = subst (λ v. Tail v t) (sym is_u) (last_tail left t)
 
     passed_here : Tail (last_of m u) u × (length (last_of m u) ≡ m)
     passed_here = passed u m (this u) (data_ends 1 _ u) (sym h ∙ here)

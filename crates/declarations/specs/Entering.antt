@@ -10,7 +10,7 @@ use Rattle.scan.specs.declared.Checked.{Checked}
 use Rattle.scan.specs.Checking.{checked}
 use Rattle.arguments.specs.Tables.{from, row, label_place}
 use Rattle.declarations.specs.declared.Counted.{Counted}
-use Rattle.declarations.specs.declared.Counted.TheVariants.{Cells as Counted·cells, Refused as Counted·refused}
+use Rattle.declarations.specs.declared.Counted.TheVariants.{Cells as Counted_cells, Refused as Counted_refused}
 
 -- The rows of k labels from label l on.
 abbrev pub labels_of : List ℕ → ℕ → ℕ → List (List ℕ)
@@ -39,14 +39,14 @@ all_cells domains [] = 0
 all_cells domains (F ∷ Fs) = cells_of domains F + all_cells domains Fs
 
 unfoldable pub function_cells : List ℕ → Read Function → Counted
-function_cells domains (refused k) = Counted·refused k
-function_cells domains (taken F t) = Counted·cells (length t) (cells_of domains F)
+function_cells domains (refused k) = Counted_refused k
+function_cells domains (taken F t) = Counted_cells (length t) (cells_of domains F)
 
 unfoldable pub functions_cells : List ℕ → Read (List Function) → Counted
-functions_cells domains (refused k) = Counted·refused k
-functions_cells domains (taken Fs t) = Counted·cells (length t) (all_cells domains Fs)
+functions_cells domains (refused k) = Counted_refused k
+functions_cells domains (taken Fs t) = Counted_cells (length t) (all_cells domains Fs)
 
 -- So many functions have fewer than 2 to the 32nd cells each: no sum of them overflows.
 abbrev pub CellsBound : Counted → ℕ → Type 0
-CellsBound (Counted·cells n c) k = c ≤ k * 4294967296
-CellsBound (Counted·refused j) k = Unit
+CellsBound (Counted_cells n c) k = c ≤ k * 4294967296
+CellsBound (Counted_refused j) k = Unit

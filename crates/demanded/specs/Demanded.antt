@@ -71,10 +71,10 @@ abbrev pub Room : ℕ → List ℕ → Type 0
 Room n buffer = n ≤ length buffer / 2
 
 -- Move, Present: the given term's G; both memories.
-pub record MoveRoom (R : RuleSet) (E : Term) (memory next-term next-memory : List ℕ) : Type 0 where
-  pub term_room : Room (reach R.edition.width E) next-term
+pub record MoveRoom (R : RuleSet) (E : Term) (memory next_term next_memory : List ℕ) : Type 0 where
+  pub term_room : Room (reach R.edition.width E) next_term
   pub given_room : Room (C R) memory
-  pub memory_room : Room (C R) next-memory
+  pub memory_room : Room (C R) next_memory
 
 pub record RunRoom (R : RuleSet) (term memory spare_term spare_memory : List ℕ) : Type 0 where
   pub term_room : Room (G R) term
@@ -96,11 +96,11 @@ abbrev pub Numbering : (R : RuleSet) (E : Term) (memory : List ℕ) → Outcomes
 Numbering R E memory l = Enumeration (Derived R E memory) Earlier concluded l
 
 -- What Move and Present leave for a derivation: its action, its successor, its new memory.
-abbrev pub derived_outcome : (R : RuleSet) (E : Term) (memory next-term next-memory : List ℕ) → Derived R E memory → Written Moved
-derived_outcome R E memory next-term next-memory d = record {
+abbrev pub derived_outcome : (R : RuleSet) (E : Term) (memory next_term next_memory : List ℕ) → Derived R E memory → Written Moved
+derived_outcome R E memory next_term next_memory d = record {
   answer = answered (record { action = d.action; size = size R.edition.width d.successor });
-  term = overwritten (words R.edition.width d.successor) next-term;
-  memory = overwritten (map word_of d.state) next-memory;
+  term = overwritten (words R.edition.width d.successor) next_term;
+  memory = overwritten (map word_of d.state) next_memory;
 }
 
 -- The same of the trace semantics, from a term and a list of visible actions.
@@ -155,31 +155,31 @@ pub record CountDemands (count : List ℕ → List ℕ → List ℕ → Answer �
   pub answers : (R : RuleSet) (E : Term) → Admits rules R → GivenTerm R term E → Room (C R) memory
       → (l : Outcomes R) → Numbering R E memory l → count rules term memory ≡ answered (length l)
 
-pub record MoveDemands (move : List ℕ → List ℕ → List ℕ → ℕ → List ℕ → List ℕ → Written Moved) (rules term memory : List ℕ) (k : ℕ) (next-term next-memory : List ℕ) : Type 0 where
-  pub refuses : (j : ℕ) → Refuses rules j → move rules term memory k next-term next-memory ≡ only_refused j next-term next-memory
-  pub no_term : (R : RuleSet) → Admits rules R → ((E : Term) → GivenTerm R term E → ⊥) → move rules term memory k next-term next-memory ≡ only_refused 10 next-term next-memory
-  pub space : (R : RuleSet) (E : Term) → Admits rules R → GivenTerm R term E → (MoveRoom R E memory next-term next-memory → ⊥)
-      → move rules term memory k next-term next-memory ≡ only_refused 9 next-term next-memory
+pub record MoveDemands (move : List ℕ → List ℕ → List ℕ → ℕ → List ℕ → List ℕ → Written Moved) (rules term memory : List ℕ) (k : ℕ) (next_term next_memory : List ℕ) : Type 0 where
+  pub refuses : (j : ℕ) → Refuses rules j → move rules term memory k next_term next_memory ≡ only_refused j next_term next_memory
+  pub no_term : (R : RuleSet) → Admits rules R → ((E : Term) → GivenTerm R term E → ⊥) → move rules term memory k next_term next_memory ≡ only_refused 10 next_term next_memory
+  pub space : (R : RuleSet) (E : Term) → Admits rules R → GivenTerm R term E → (MoveRoom R E memory next_term next_memory → ⊥)
+      → move rules term memory k next_term next_memory ≡ only_refused 9 next_term next_memory
   -- Of every numbering: k is a derivation's number, or not below the count.
-  pub not_offered : (R : RuleSet) (E : Term) → Admits rules R → GivenTerm R term E → MoveRoom R E memory next-term next-memory
-      → (l : Outcomes R) → Numbering R E memory l → length l ≤ k → move rules term memory k next-term next-memory ≡ only_refused 12 next-term next-memory
-  pub answers : (R : RuleSet) (E : Term) → Admits rules R → GivenTerm R term E → MoveRoom R E memory next-term next-memory
+  pub not_offered : (R : RuleSet) (E : Term) → Admits rules R → GivenTerm R term E → MoveRoom R E memory next_term next_memory
+      → (l : Outcomes R) → Numbering R E memory l → length l ≤ k → move rules term memory k next_term next_memory ≡ only_refused 12 next_term next_memory
+  pub answers : (R : RuleSet) (E : Term) → Admits rules R → GivenTerm R term E → MoveRoom R E memory next_term next_memory
       → (l : Outcomes R) (n : Numbering R E memory l) (d : Derived R E memory) → (n.numbers.fun d).0 ≡ k
-      → move rules term memory k next-term next-memory ≡ derived_outcome R E memory next-term next-memory d
+      → move rules term memory k next_term next_memory ≡ derived_outcome R E memory next_term next_memory d
 
-pub record PresentDemands (present : List ℕ → List ℕ → List ℕ → List ℕ → List ℕ → List ℕ → Written Moved) (rules term memory event next-term next-memory : List ℕ) : Type 0 where
-  pub refuses : (j : ℕ) → Refuses rules j → present rules term memory event next-term next-memory ≡ only_refused j next-term next-memory
-  pub no_term : (R : RuleSet) → Admits rules R → ((E : Term) → GivenTerm R term E → ⊥) → present rules term memory event next-term next-memory ≡ only_refused 10 next-term next-memory
+pub record PresentDemands (present : List ℕ → List ℕ → List ℕ → List ℕ → List ℕ → List ℕ → Written Moved) (rules term memory event next_term next_memory : List ℕ) : Type 0 where
+  pub refuses : (j : ℕ) → Refuses rules j → present rules term memory event next_term next_memory ≡ only_refused j next_term next_memory
+  pub no_term : (R : RuleSet) → Admits rules R → ((E : Term) → GivenTerm R term E → ⊥) → present rules term memory event next_term next_memory ≡ only_refused 10 next_term next_memory
   pub no_event : (R : RuleSet) (E : Term) → Admits rules R → GivenTerm R term E → ((ρ : Action) → GivenEvent R event ρ → ⊥)
-      → present rules term memory event next-term next-memory ≡ only_refused 11 next-term next-memory
-  pub space : (R : RuleSet) (E : Term) (ρ : Action) → Admits rules R → GivenTerm R term E → GivenEvent R event ρ → (MoveRoom R E memory next-term next-memory → ⊥)
-      → present rules term memory event next-term next-memory ≡ only_refused 9 next-term next-memory
+      → present rules term memory event next_term next_memory ≡ only_refused 11 next_term next_memory
+  pub space : (R : RuleSet) (E : Term) (ρ : Action) → Admits rules R → GivenTerm R term E → GivenEvent R event ρ → (MoveRoom R E memory next_term next_memory → ⊥)
+      → present rules term memory event next_term next_memory ≡ only_refused 9 next_term next_memory
   -- No derivation has the event; or the first that has it.
-  pub not_offered : (R : RuleSet) (E : Term) (ρ : Action) → Admits rules R → GivenTerm R term E → GivenEvent R event ρ → MoveRoom R E memory next-term next-memory
-      → ((d : Derived R E memory) → d.action ≡ ρ → ⊥) → present rules term memory event next-term next-memory ≡ only_refused 12 next-term next-memory
-  pub answers : (R : RuleSet) (E : Term) (ρ : Action) → Admits rules R → GivenTerm R term E → GivenEvent R event ρ → MoveRoom R E memory next-term next-memory
+  pub not_offered : (R : RuleSet) (E : Term) (ρ : Action) → Admits rules R → GivenTerm R term E → GivenEvent R event ρ → MoveRoom R E memory next_term next_memory
+      → ((d : Derived R E memory) → d.action ≡ ρ → ⊥) → present rules term memory event next_term next_memory ≡ only_refused 12 next_term next_memory
+  pub answers : (R : RuleSet) (E : Term) (ρ : Action) → Admits rules R → GivenTerm R term E → GivenEvent R event ρ → MoveRoom R E memory next_term next_memory
       → (d : Derived R E memory) → d.action ≡ ρ → ((e : Derived R E memory) → Earlier e d → e.action ≡ ρ → ⊥)
-      → present rules term memory event next-term next-memory ≡ derived_outcome R E memory next-term next-memory d
+      → present rules term memory event next_term next_memory ≡ derived_outcome R E memory next_term next_memory d
 
 pub record RunDemands (run : List ℕ → List ℕ → List ℕ → List ℕ → List ℕ → List ℕ → Written Ran) (rules numbers term memory spare_term spare_memory : List ℕ) : Type 0 where
   pub refuses : (k : ℕ) → Refuses rules k → run rules numbers term memory spare_term spare_memory ≡ only_refused k term memory
@@ -208,8 +208,8 @@ pub record Demanded (o : Operations) : Type 0 where
   pub admits : AdmitDemands o.admit
   pub starts : (rules term memory : List ℕ) → StartDemands o.start rules term memory
   pub counts : (rules term memory : List ℕ) → CountDemands o.count rules term memory
-  pub moves : (rules term memory : List ℕ) (k : ℕ) (next-term next-memory : List ℕ) → MoveDemands o.move rules term memory k next-term next-memory
-  pub presents : (rules term memory event next-term next-memory : List ℕ) → PresentDemands o.present rules term memory event next-term next-memory
+  pub moves : (rules term memory : List ℕ) (k : ℕ) (next_term next_memory : List ℕ) → MoveDemands o.move rules term memory k next_term next_memory
+  pub presents : (rules term memory event next_term next_memory : List ℕ) → PresentDemands o.present rules term memory event next_term next_memory
   pub runs : (rules numbers term memory spare_term spare_memory : List ℕ) → RunDemands o.run rules numbers term memory spare_term spare_memory
 
 -- The same results for all arguments.
@@ -217,6 +217,6 @@ pub record Same (o p : Operations) : Type 0 where
   pub admit : (rules : List ℕ) → o.admit rules ≡ p.admit rules
   pub start : (rules term memory : List ℕ) → o.start rules term memory ≡ p.start rules term memory
   pub count : (rules term memory : List ℕ) → o.count rules term memory ≡ p.count rules term memory
-  pub move : (rules term memory : List ℕ) (k : ℕ) (next-term next-memory : List ℕ) → o.move rules term memory k next-term next-memory ≡ p.move rules term memory k next-term next-memory
-  pub present : (rules term memory event next-term next-memory : List ℕ) → o.present rules term memory event next-term next-memory ≡ p.present rules term memory event next-term next-memory
+  pub move : (rules term memory : List ℕ) (k : ℕ) (next_term next_memory : List ℕ) → o.move rules term memory k next_term next_memory ≡ p.move rules term memory k next_term next_memory
+  pub present : (rules term memory event next_term next_memory : List ℕ) → o.present rules term memory event next_term next_memory ≡ p.present rules term memory event next_term next_memory
   pub run : (rules numbers term memory spare_term spare_memory : List ℕ) → o.run rules numbers term memory spare_term spare_memory ≡ p.run rules numbers term memory spare_term spare_memory

@@ -108,37 +108,37 @@ pub record OneMore (rules term memory spare_term spare_memory : List ℕ) (S : S
 
 -- In particular of the very buffers that Run left: on its last term, cut to its size, and its last memory.
 abbrev pub host_of : Written Ran → Ran → List ℕ → List ℕ → Host
-host_of w r next-term next-memory = record {
+host_of w r next_term next_memory = record {
   term = w.term;
   memory = w.memory;
   size = r.size;
-  other_term = next-term;
-  other_memory = next-memory;
+  other_term = next_term;
+  other_memory = next_memory;
   visible_count = r.visible;
   internal_count = r.internal;
   refused_count = r.refusals;
 }
 
-pub record RunThenMove (rules numbers numbers' term memory spare_term spare_memory next-term next-memory : List ℕ) (k : ℕ) (S : Sizes) : Type 0 where
+pub record RunThenMove (rules numbers numbers' term memory spare_term spare_memory next_term next_memory : List ℕ) (k : ℕ) (S : Sizes) : Type 0 where
   pub ran : Ran
   pub ran_is : (run rules numbers term memory spare_term spare_memory).answer ≡ answered ran
   pub host : Host
-  pub moved_to : host_step rules (host_of (run rules numbers term memory spare_term spare_memory) ran next-term next-memory) k ≡ answered host
+  pub moved_to : host_step rules (host_of (run rules numbers term memory spare_term spare_memory) ran next_term next_memory) k ≡ answered host
   pub same_as_run : SameAsRun S host (run rules numbers' term memory spare_term spare_memory)
 
 -- Start followed by Moves ends with what Run leaves; on the way neither 9 nor 10 occurs, and from there no Move is refused but by 12.
-pub record StepsAreTheRun (rules numbers term memory spare_term spare_memory : List ℕ) (first-term first-memory second-term second-memory : List ℕ) (S : Sizes) : Type 0 where
+pub record StepsAreTheRun (rules numbers term memory spare_term spare_memory : List ℕ) (first_term first_memory second_term second_memory : List ℕ) (S : Sizes) : Type 0 where
   pub host : Host
-  pub stepped_to : and_then (host_start rules first-term first-memory second-term second-memory) (λ g. host_run rules g (words_in numbers)) ≡ answered host
+  pub stepped_to : and_then (host_start rules first_term first_memory second_term second_memory) (λ g. host_run rules g (words_in numbers)) ≡ answered host
   pub same_as_run : SameAsRun S host (run rules numbers term memory spare_term spare_memory)
   pub room_kept : RoomyHost S host
   pub count_answers : (n : ℕ) × (count rules (cut host.size host.term) host.memory ≡ answered n)
   pub only_12 : (k j : ℕ) → (host_move rules host k).answer ≡ refused j → j ≡ Refusal.not_offered
 
 -- Every successor of an accepted term is accepted again, cut to its reported size, and asks no more room and breadth than the term did.
-pub record AcceptedAgain (rules term memory next-term next-memory : List ℕ) (k : ℕ) (R : RuleSet) (E : Term) (m : Moved) : Type 0 where
+pub record AcceptedAgain (rules term memory next_term next_memory : List ℕ) (k : ℕ) (R : RuleSet) (E : Term) (m : Moved) : Type 0 where
   pub successor : Term
-  pub accepted : term_in R (cut m.size (move rules term memory k next-term next-memory).term) ≡ answered successor
+  pub accepted : term_in R (cut m.size (move rules term memory k next_term next_memory).term) ≡ answered successor
   pub size_reported : m.size ≡ size R.edition.width successor
   pub reach_kept : reach R.edition.width successor ≤ reach R.edition.width E
   pub breadth_kept : breadth successor ≤ breadth E
@@ -150,16 +150,16 @@ One_more_holds = (rules term memory spare_term spare_memory : List ℕ) (S : Siz
     → OneMore rules term memory spare_term spare_memory S
 
 abbrev pub Run_then_move_holds : Type 0
-Run_then_move_holds = (rules numbers numbers' term memory spare_term spare_memory next-term next-memory : List ℕ) (k : ℕ) (S : Sizes) → admit rules ≡ answered S
-    → words_in numbers' ≡ words_in numbers ++ (k ∷ []) → Roomy S term memory → Roomy S spare_term spare_memory → Roomy S next-term next-memory
-    → RunThenMove rules numbers numbers' term memory spare_term spare_memory next-term next-memory k S
+Run_then_move_holds = (rules numbers numbers' term memory spare_term spare_memory next_term next_memory : List ℕ) (k : ℕ) (S : Sizes) → admit rules ≡ answered S
+    → words_in numbers' ≡ words_in numbers ++ (k ∷ []) → Roomy S term memory → Roomy S spare_term spare_memory → Roomy S next_term next_memory
+    → RunThenMove rules numbers numbers' term memory spare_term spare_memory next_term next_memory k S
 
 abbrev pub Steps_are_the_run_holds : Type 0
-Steps_are_the_run_holds = (rules numbers term memory spare_term spare_memory first-term first-memory second-term second-memory : List ℕ) (S : Sizes) → admit rules ≡ answered S
-    → Roomy S term memory → Roomy S spare_term spare_memory → Roomy S first-term first-memory → Roomy S second-term second-memory
-    → StepsAreTheRun rules numbers term memory spare_term spare_memory first-term first-memory second-term second-memory S
+Steps_are_the_run_holds = (rules numbers term memory spare_term spare_memory first_term first_memory second_term second_memory : List ℕ) (S : Sizes) → admit rules ≡ answered S
+    → Roomy S term memory → Roomy S spare_term spare_memory → Roomy S first_term first_memory → Roomy S second_term second_memory
+    → StepsAreTheRun rules numbers term memory spare_term spare_memory first_term first_memory second_term second_memory S
 
 abbrev pub Accepted_again_holds : Type 0
-Accepted_again_holds = (rules term memory next-term next-memory : List ℕ) (k : ℕ) (R : RuleSet) (E : Term) (m : Moved)
-    → admission rules ≡ answered R → term_in R term ≡ answered E → (move rules term memory k next-term next-memory).answer ≡ answered m
-    → AcceptedAgain rules term memory next-term next-memory k R E m
+Accepted_again_holds = (rules term memory next_term next_memory : List ℕ) (k : ℕ) (R : RuleSet) (E : Term) (m : Moved)
+    → admission rules ≡ answered R → term_in R term ≡ answered E → (move rules term memory k next_term next_memory).answer ≡ answered m
+    → AcceptedAgain rules term memory next_term next_memory k R E m

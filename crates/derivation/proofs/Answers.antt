@@ -64,8 +64,8 @@ pub placed_on : {c r q : ℕ} {entry mid : List ℕ} → Decided (c ∷ []) r en
 placed_on {c} {r} {q} {entry} {mid} f g z =
     by_order r passed (λ y. omega (arith, (f.wrote y (omega arith)).0, g y, f.same_length)) (λ y. absurd (omega (arith, f.kept y)))
 
-pub sound-lost : (n k l : ℕ) → Sound n k l full
-sound-lost n k l = record { bounded = le_refl full; place_bounded = λ z. absurd (omega (arith, z)); passed_bounded = λ y z. never_full z }
+pub sound_lost : (n k l : ℕ) → Sound n k l full
+sound_lost n k l = record { bounded = le_refl full; place_bounded = λ z. absurd (omega (arith, z)); passed_bounded = λ y z. never_full z }
 
 pub sound_more : {n k l r : ℕ} (m j : ℕ) → Sound n k l r → n ≤ m → k ≤ j → Sound m j l r
 sound_more {n} {k} {l} {r} m j h a b = record {
@@ -86,11 +86,11 @@ pub sound_of : {x : ℕ} {s M : List ℕ} {k : ℕ} {entry exit : List ℕ} {n r
 sound_of h = record { bounded = h.bounded; place_bounded = h.place_bounded; passed_bounded = h.passed_bounded }
 
 -- of what is known of every term that may stand there
-pub derived-of : {x : ℕ} {s M : List ℕ} {k : ℕ} {entry exit : List ℕ} {n r : ℕ} → Sound (length s) k (length entry) r
+pub derived_of : {x : ℕ} {s M : List ℕ} {k : ℕ} {entry exit : List ℕ} {n r : ℕ} → Sound (length s) k (length entry) r
     → ((P : Scope) (E : Term) (rest : List ℕ) → TermAt s P E rest
     → (size 1 E ≤ length entry → room (holding M) E ≤ n → r < full) × (r < full → Outcome (shown_count x M E) (path x (holding M) E k) (length rest) k exit r))
     → DerivedShown x s M k entry exit n r
-derived-of h f = record {
+derived_of h f = record {
   bounded = h.bounded;
   place_bounded = h.place_bounded;
   passed_bounded = h.passed_bounded;
@@ -99,9 +99,9 @@ derived-of h f = record {
   none_found = λ P E rest t z. ((f P E rest t).1 z).none_found;
 }
 
-pub outcome-of : {x : ℕ} {s M : List ℕ} {k : ℕ} {entry exit : List ℕ} {n r : ℕ} → DerivedShown x s M k entry exit n r → (P : Scope) (E : Term) (rest : List ℕ) → TermAt s P E rest → r < full
+pub outcome_of : {x : ℕ} {s M : List ℕ} {k : ℕ} {entry exit : List ℕ} {n r : ℕ} → DerivedShown x s M k entry exit n r → (P : Scope) (E : Term) (rest : List ℕ) → TermAt s P E rest → r < full
     → Outcome (shown_count x M E) (path x (holding M) E k) (length rest) k exit r
-outcome-of h P E rest t z = record { found = h.found P E rest t z; none_found = h.none_found P E rest t z }
+outcome_of h P E rest t z = record { found = h.found P E rest t z; none_found = h.none_found P E rest t z }
 
 -- ── outcomes ──
 
@@ -127,8 +127,8 @@ module _ {count left k r : ℕ} {p exit : List ℕ} (h : Outcome count p left k 
   pub outcome_place : r < passed → (k < count) × (drop r exit ≡ p)
   outcome_place z = by_order k count (λ l. (l, (h.found l).1)) (λ l. absurd (omega (arith, h.none_found l)))
 
-  pub outcome-passed : passed ≤ r → (count ≤ k) × (r ≡ passed + answer left (k - count))
-  outcome-passed z = by_order k count (λ l. absurd (omega (arith, (h.found l).0))) (λ l. (l, h.none_found l))
+  pub outcome_passed : passed ≤ r → (count ≤ k) × (r ≡ passed + answer left (k - count))
+  outcome_passed z = by_order k count (λ l. absurd (omega (arith, (h.found l).0))) (λ l. (l, h.none_found l))
 
 -- one move with an empty path
 pub outcome_single : (k left r : ℕ) (entry : List ℕ) → (k ≡ 0 → r ≡ length entry) → (1 ≤ k → r ≡ passed + answer left (k - 1)) → length entry ≤ 65535 → Outcome 1 [] left k entry r
@@ -139,16 +139,16 @@ outcome_single k left r entry f g l = record {
   none_found = λ z. g (omega arith);
 }
 
-pub sound-single : (n k left r : ℕ) (l : ℕ) → (k ≡ 0 → r ≡ l) → (1 ≤ k → r ≡ passed + answer left (k - 1)) → l ≤ 65535 → left ≤ n → n ≤ 65535 → k < 131072 → Sound n k l r
-sound-single n k left r l f g a b c d = by_order k 1
+pub sound_single : (n k left r : ℕ) (l : ℕ) → (k ≡ 0 → r ≡ l) → (1 ≤ k → r ≡ passed + answer left (k - 1)) → l ≤ 65535 → left ≤ n → n ≤ 65535 → k < 131072 → Sound n k l r
+sound_single n k left r l f g a b c d = by_order k 1
     (λ z. let e : r ≡ l = f (omega arith) in record { bounded = omega arith; place_bounded = λ y. omega arith; passed_bounded = λ y w. absurd (omega arith) })
     (λ z. sound_passed n k l left (k - 1) r (g z) b (omega arith) c d)
 
 -- ── a decision in front ──
 
 module _ {o : List ℕ} {r q : ℕ} {mid exit : List ℕ} (h : Decided o r mid exit q) where
-  pub decided-sound : {n k : ℕ} (l : ℕ) → Sound n k l r → Sound n k l q
-  decided-sound l s = record {
+  pub decided_sound : {n k : ℕ} (l : ℕ) → Sound n k l r → Sound n k l q
+  decided_sound l s = record {
     bounded = h.bounded;
     place_bounded = λ z. by_order r passed (λ y. omega (arith, s.place_bounded y, (h.wrote y (omega arith)).0)) (λ y. absurd (omega (arith, h.kept y)));
     passed_bounded = λ y z. by_order r passed (λ w. absurd (omega (arith, (h.wrote w z).0))) (λ w. omega (arith, h.kept w, s.passed_bounded w (omega (arith, h.kept w))));
@@ -166,4 +166,4 @@ module _ {o : List ℕ} {r q : ℕ} {mid exit : List ℕ} (h : Decided o r mid e
 pub derived_room : {x : ℕ} {s M : List ℕ} {k : ℕ} {entry exit : List ℕ} {n r : ℕ} → DerivedShown x s M k entry exit n r → length exit ≡ length entry → (P : Scope) (E : Term) (rest : List ℕ) → TermAt s P E rest
     → (w : ℕ) → w + size 1 E ≤ length entry → r < passed → w ≤ r
 derived_room {x} {s} {M} {k} {entry} {exit} {n} {r} h e P E rest t w l z =
-    place_room w r exit (path x (holding M) E k) (omega (arith, h.place_bounded z)) (outcome_place (outcome-of h P E rest t (omega arith)) z).1 (omega (arith, path_length x (holding M) E k))
+    place_room w r exit (path x (holding M) E k) (omega (arith, h.place_bounded z)) (outcome_place (outcome_of h P E rest t (omega arith)) z).1 (omega (arith, path_length x (holding M) E k))

@@ -27,7 +27,7 @@ use Rattle.derivation.specs.Arms.{Sound, Outcome, Decided, ActionDerived, TwoDer
 use Rattle.derivation.specs.FitLaws.{before_second}
 use Rattle.listing.specs.Operands.{answer_is, answered_left, answered_count, first_done, first_other, second_behind, truth_none, truth_some, holds, guarded_here, front_form}
 use Rattle.derivation.specs.AnswerLaws.{by_order, never_full, before_full, decided_room}
-use Rattle.derivation.proofs.Answers.{sound-lost, sound_more, sound_passed, sound_of, derived-of, outcome-of, outcome_as, outcome_early, outcome_later, outcome_place, outcome-passed, outcome_single, sound-single, decided-sound, decided_outcome, derived_room}
+use Rattle.derivation.proofs.Answers.{sound_lost, sound_more, sound_passed, sound_of, derived_of, outcome_of, outcome_as, outcome_early, outcome_later, outcome_place, outcome_passed, outcome_single, sound_single, decided_sound, decided_outcome, derived_room}
 use Rattle.derivation.proofs.Counts.{count_moves, count_done, count_internal, count_hidden, count_shows, count_after_done, count_sequence, count_choice, count_star, count_guard, count_shut, path_after_done, path_sequence, path_choice, path_end, path_round, path_guard, path_internal, path_perform, two_first, two_second}
 
 -- What is shown of every term that may stand there.
@@ -41,10 +41,10 @@ module _ (x : ℕ) (t M entry : List ℕ) (k n left r : ℕ) (f : k ≡ 0 → r 
   single_low = by_order k 1 (λ z. omega (arith, f (omega arith))) (λ z. omega (arith, g z, answer_is left (k - 1)))
 
   single_sound : (w : ℕ) → Sound (length (w ∷ t)) k (length entry) r
-  single_sound w = sound_more (length (w ∷ t)) k (sound-single (length t) k left r (length entry) f g le ll lt lk) (omega arith) (omega arith)
+  single_sound w = sound_more (length (w ∷ t)) k (sound_single (length t) k left r (length entry) f g le ll lt lk) (omega arith) (omega arith)
 
   pub internal_derived : left ≡ length t → DerivedShown x (20 ∷ t) M k entry entry n r
-  internal_derived e = derived-of (single_sound 20) (internal_cases t (Told x M k entry entry n r)
+  internal_derived e = derived_of (single_sound 20) (internal_cases t (Told x M k entry entry n r)
       (λ P rest q. (λ a b. single_low, λ z. outcome_as _ _ _ (count_internal M x) (ap length (sym q) ∙ sym e) (λ l. path_internal M x k) (outcome_single k left r entry f g le))))
 
 -- b is the test whether the action's number is in the set y, which is x
@@ -64,14 +64,14 @@ module _ (x : ℕ) (t : List ℕ) (k end left r code : ℕ) (numbered : (a : Vis
 
   pub action_shown : b ≡ false → end ≤ 65535 → (k ≡ 0 → r ≡ end) → (1 ≤ k → r ≡ passed + answer left (k - 1)) → ActionDerived x t k end r
   action_shown h few f g = record {
-    sound = sound-single (length t) k left r end f g few behind.0 short small;
+    sound = sound_single (length t) k left r end f g few behind.0 short small;
     low = by_order k 1 (λ z. omega (arith, f (omega arith))) (λ z. omega (arith, g z, answer_is left (k - 1), behind.0));
     hidden = λ a rest s i. absurd (subst T (sym i ∙ sym (tested_of a rest s) ∙ h) tt);
     shows = λ a rest s i. (f, λ z. g z ∙ ap (λ n. passed + answer n (k - 1)) (behind.1 a rest s));
   }
 
 pub perform_derived : (x : ℕ) (t M entry : List ℕ) (k n r : ℕ) → length entry ≤ 65535 → ActionDerived x t k (length entry) r → DerivedShown x (21 ∷ t) M k entry entry n r
-perform_derived x t M entry k n r le h = derived-of (sound_more (length (21 ∷ t)) k h.sound (omega arith) (omega arith)) (perform_cases t (Told x M k entry entry n r)
+perform_derived x t M entry k n r le h = derived_of (sound_more (length (21 ∷ t)) k h.sound (omega arith) (omega arith)) (perform_cases t (Told x M k entry entry n r)
     (λ P a rest q. (λ b d. h.low, λ z. go a rest q (in_set x (action_code (visible a))) refl)))
   where
     go : (a : VisibleAction) (rest : List ℕ) → ActionAt t a rest → (b : Bool) → in_set x (action_code (visible a)) ≡ b
@@ -89,17 +89,17 @@ perform_derived x t M entry k n r le h = derived-of (sound_more (length (21 ∷ 
 module _ (x c : ℕ) (t M : List ℕ) (k : ℕ) (entry mid : List ℕ) (n l : ℕ) (first : DerivedShown x t M k entry mid n l) (same : length mid ≡ length entry) (short : length t ≤ 65535) (small : k < 131072) where
   pub two_lost : full ≤ l → TwoDerived x c t M k entry mid n full
   two_lost f = record {
-    sound = sound-lost (length t) k (length entry);
+    sound = sound_lost (length t) k (length entry);
     has_room = λ P E F rest s a b. absurd (omega (arith, f, first.has_room P E (words 1 F ++ rest) s.first (omega (arith, a)) (omega (arith, b))));
     right = λ P E F rest s z. never_full z;
   }
 
   pub two_left : l < passed → (exit : List ℕ) (q : ℕ) → Decided (c ∷ []) l mid exit q → TwoDerived x c t M k entry exit n q
   two_left f exit q h = record {
-    sound = decided-sound h (length entry) (sound_of first);
+    sound = decided_sound h (length entry) (sound_of first);
     has_room = λ P E F rest s a b. decided_room h (omega arith) (derived_room first same P E (words 1 F ++ rest) s.first 1 (omega (arith, a)));
     right = λ P E F rest s z.
-        let o = outcome-of first P E (words 1 F ++ rest) s.first (omega arith) in
+        let o = outcome_of first P E (words 1 F ++ rest) s.first (omega arith) in
         let j = (outcome_place o f).0 in
         outcome_as _ _ _ refl refl (λ y. two_first M x E F c k j) (outcome_early (shown_count x M E + shown_count x M F) (length rest) j (omega arith) (decided_outcome h z o));
   }
@@ -110,7 +110,7 @@ module _ (x c : ℕ) (t M : List ℕ) (k : ℕ) (entry mid : List ℕ) (n l : �
 
     module _ (P : Scope) (E F : Term) (rest : List ℕ) (s : TwoAt t P E F rest) where
       past : (shown_count x M E ≤ k) × (l ≡ passed + answer (length (words 1 F ++ rest)) (k - shown_count x M E))
-      past = outcome-passed (outcome-of first P E (words 1 F ++ rest) s.first fl) pl
+      past = outcome_passed (outcome_of first P E (words 1 F ++ rest) s.first fl) pl
 
       behind_short : length (words 1 F ++ rest) ≤ 65535
       behind_short = omega (arith, behind_shorter t P E (words 1 F ++ rest) s.first)
@@ -137,14 +137,14 @@ module _ (x c : ℕ) (t M : List ℕ) (k : ℕ) (entry mid : List ℕ) (n l : �
 
       pub two_right : TwoDerived x c t M k entry exit n q
       two_right = record {
-        sound = decided-sound h (length entry) second_sound;
+        sound = decided_sound h (length entry) second_sound;
         has_room = λ P E F rest s a b.
             let v = second_here P E F rest s in
             decided_room h (second.has_room P F rest v (omega (arith, a, same)) (omega (arith, b))) (derived_room second kept P F rest v 2 (omega (arith, a, same, size_pos 1 E)));
         right = λ P E F rest s z.
             let v = second_here P E F rest s in
             let j = past_count P E F rest s in
-            let o = outcome-of second P F rest v (before_full h z) in
+            let o = outcome_of second P F rest v (before_full h z) in
             outcome_as _ _ _ refl refl (λ y. (λ i. (c + 1) ∷ left_size P E F rest s i ∷ path x (holding M) F (j i)) ∙ two_second M x E F c k (past_all P E F rest s))
             (outcome_later (shown_count x M E) k (past_all P E F rest s) j (decided_outcome h z o));
       }
@@ -153,7 +153,7 @@ pub choice_derived : (x c : ℕ) (t M : List ℕ) (k : ℕ) (entry exit : List �
 unfolding size
 choice_derived x c t M k entry exit n r two e =
     let h = subst (λ i. TwoDerived x i t M k entry exit n r) e two in
-    derived-of (sound_more (length (23 ∷ t)) k h.sound (omega arith) (omega arith)) (choice_cases t (Told x M k entry exit n r)
+    derived_of (sound_more (length (23 ∷ t)) k h.sound (omega arith) (omega arith)) (choice_cases t (Told x M k entry exit n r)
     (λ P E F rest s. (
       λ a b. h.has_room P E F rest s a (rw (room_choice (holding M) E F) at b),
       λ z. outcome_as _ _ _ (count_choice M x E F) refl (λ y. path_choice M x E F k) (h.right P E F rest s z),
@@ -175,7 +175,7 @@ module _ (x : ℕ) (t M : List ℕ) (k : ℕ) (entry exit : List ℕ) (n l : ℕ
 
   pub behind_outcome : (P : Scope) (E F : Term) (rest : List ℕ) → TwoAt t P E F rest → (p : List ℕ) → Outcome (shown_count x M E) p (length rest) k exit r
   behind_outcome P E F rest s p =
-      let w = outcome-passed (outcome-of h P E (words 1 F ++ rest) s.first fl) pl in
+      let w = outcome_passed (outcome_of h P E (words 1 F ++ rest) s.first fl) pl in
       let sh : length (words 1 F ++ rest) ≤ 65535 = omega (arith, behind_shorter t P E (words 1 F ++ rest) s.first) in
       let a : l - passed ≡ answer (length (words 1 F ++ rest)) (k - shown_count x M E) = omega (arith, w.1) in
       let le = answered_left (l - passed) (length (words 1 F ++ rest)) (k - shown_count x M E) a sh in
@@ -188,18 +188,18 @@ module _ (x : ℕ) (t M : List ℕ) (k : ℕ) (entry exit : List ℕ) (n l : ℕ
 module _ (x : ℕ) (t M : List ℕ) (k : ℕ) (entry exit : List ℕ) (n : ℕ) where
   pub sequence_right : (u : List ℕ) (r : ℕ) → get_or t 0 0 ≡ 30 → u ≡ drop 1 t → DerivedShown x u M k entry exit n r → DerivedShown x (22 ∷ t) M k entry exit n r
   unfolding size
-  sequence_right u r e f h = derived-of (sound_more (length (22 ∷ t)) k (sound_of h) (omega (arith, ap length f, length-drop 1 t)) (omega arith)) (sequence_cases t (Told x M k entry exit n r)
+  sequence_right u r e f h = derived_of (sound_more (length (22 ∷ t)) k (sound_of h) (omega (arith, ap length f, length-drop 1 t)) (omega arith)) (sequence_cases t (Told x M k entry exit n r)
       (λ P E F rest s.
       let d = first_done s e in
       let b = second_behind s u e f in (
         λ v y. h.has_room P F rest b (omega (arith, v)) (rw (room_after_done (holding M) E F d) at y),
-        λ z. outcome_as _ _ _ (count_after_done M x E F d) refl (λ y. path_after_done M x E F k d) (outcome-of h P F rest b z),
+        λ z. outcome_as _ _ _ (count_after_done M x E F d) refl (λ y. path_after_done M x E F k d) (outcome_of h P F rest b z),
       )))
 
   module _ (l : ℕ) (h : DerivedShown x t M k entry exit n l) (o : get_or t 0 0 ≡ 30 → ⊥) where
     pub sequence_lost : full ≤ l → DerivedShown x (22 ∷ t) M k entry exit n full
     unfolding size
-    sequence_lost f = derived-of (sound-lost (length (22 ∷ t)) k (length entry)) (sequence_cases t (Told x M k entry exit n full)
+    sequence_lost f = derived_of (sound_lost (length (22 ∷ t)) k (length entry)) (sequence_cases t (Told x M k entry exit n full)
         (λ P E F rest s.
         let d = first_other s o in (
           λ v y. absurd (omega (arith, h.has_room P E (words 1 F ++ rest) s.first (omega (arith, v)) (rw (room_sequence (holding M) E F d) at y), f)),
@@ -207,19 +207,19 @@ module _ (x : ℕ) (t M : List ℕ) (k : ℕ) (entry exit : List ℕ) (n : ℕ) 
         )))
 
     pub sequence_found : l < passed → DerivedShown x (22 ∷ t) M k entry exit n l
-    sequence_found f = derived-of (sound_more (length (22 ∷ t)) k (sound_of h) (omega arith) (omega arith)) (sequence_cases t (Told x M k entry exit n l)
+    sequence_found f = derived_of (sound_more (length (22 ∷ t)) k (sound_of h) (omega arith) (omega arith)) (sequence_cases t (Told x M k entry exit n l)
         (λ P E F rest s.
         let d = first_other s o in (
           λ v y. omega arith,
           λ z.
-              let w = outcome-of h P E (words 1 F ++ rest) s.first z in
+              let w = outcome_of h P E (words 1 F ++ rest) s.first z in
               outcome_as _ _ _ (count_sequence M x E F d) refl (λ y. path_sequence M x E F k d) (outcome_early (shown_count x M E) (length rest) (outcome_place w f).0 (omega arith) w),
         )))
 
     pub sequence_passed : (u : List ℕ) (b r : ℕ) → passed ≤ l → l < full → length t ≤ 65535 → k < 131072 → u ≡ last_of ((l - passed) % 65536) t → b ≤ length u
         → ((P : Scope) (E : Term) (rest : List ℕ) → TermAt u P E rest → b ≡ length rest) → r ≡ passed + answer b ((l - passed) / 65536) → DerivedShown x (22 ∷ t) M k entry exit n r
     sequence_passed u b r pl fl short small isu bu f e =
-        derived-of (sound_more (length (22 ∷ t)) k (behind_sound x t M k entry exit n l h u b r pl fl short small isu bu f e) (omega arith) (omega arith)) (sequence_cases t (Told x M k entry exit n r)
+        derived_of (sound_more (length (22 ∷ t)) k (behind_sound x t M k entry exit n l h u b r pl fl short small isu bu f e) (omega arith) (omega arith)) (sequence_cases t (Told x M k entry exit n r)
         (λ P E F rest s. (
           λ v y. behind_low x t M k entry exit n l h u b r pl fl short small isu bu f e,
           λ z. outcome_as _ _ _ (count_sequence M x E F (first_other s o)) refl (λ y. refl)
@@ -233,8 +233,8 @@ module _ (x : ℕ) (t M : List ℕ) (k : ℕ) (entry exit : List ℕ) (n q : ℕ
   unfolding size
   star_end e h =
       let nk : 1 ≤ k → length entry ≡ passed + answer 0 (k - 1) = λ z. absurd (omega arith) in
-      let sd = sound-single (length t) k 0 (length entry) (length entry) (λ z. refl) nk few (omega arith) short (omega arith) in
-      derived-of (sound_more (length (24 ∷ t)) k (decided-sound h (length entry) sd) (omega arith) (omega arith)) (star_cases t (Told x M k entry exit n q)
+      let sd = sound_single (length t) k 0 (length entry) (length entry) (λ z. refl) nk few (omega arith) short (omega arith) in
+      derived_of (sound_more (length (24 ∷ t)) k (decided_sound h (length entry) sd) (omega arith) (omega arith)) (star_cases t (Told x M k entry exit n q)
       (λ P E rest s. (
         λ v y. decided_room h (omega arith) (λ z. omega (arith, v)),
         λ z. outcome_as _ _ _ (count_star M x E) refl (λ y. path_end M x E k e)
@@ -245,10 +245,10 @@ module _ (x : ℕ) (t M : List ℕ) (k : ℕ) (entry exit : List ℕ) (n q : ℕ
   unfolding size
   star_round mid r c e h same decided isc =
       let w = subst (λ i. Decided (i ∷ []) r mid exit q) isc decided in
-      derived-of (sound_more (length (24 ∷ t)) k (decided-sound w (length entry) (sound_of h)) (omega arith) (omega arith)) (star_cases t (Told x M k entry exit n q)
+      derived_of (sound_more (length (24 ∷ t)) k (decided_sound w (length entry) (sound_of h)) (omega arith) (omega arith)) (star_cases t (Told x M k entry exit n q)
       (λ P E rest s. (
         λ v y. decided_room w (h.has_room P E rest s (omega (arith, v)) (omega (arith, y, room_star (holding M) E))) (derived_room h same P E rest s 1 v),
-        λ z. outcome_as _ _ _ (count_star M x E) refl (λ y. path_round M x E k e) (outcome_later 1 k (omega arith) refl (decided_outcome w z (outcome-of h P E rest s (before_full w z)))),
+        λ z. outcome_as _ _ _ (count_star M x E) refl (λ y. path_round M x E k e) (outcome_later 1 k (omega arith) refl (decided_outcome w z (outcome_of h P E rest s (before_full w z)))),
       )))
 
 -- ── a guard ──
@@ -258,7 +258,7 @@ module _ (x : ℕ) (t M u : List ℕ) (c : ℕ) (judged : Judged t M c) (isu : u
       → r ≡ passed + answer b k → DerivedShown x (26 ∷ t) M k entry entry n r
   guard_shut entry n b r e bu f q =
       let sd = sound_passed (length t) k (length entry) b k r q (omega (arith, last_len _ t u isu)) (omega arith) short small in
-      derived-of (sound_more (length (26 ∷ t)) k sd (omega arith) (omega arith)) (guard_cases t (Told x M k entry entry n r)
+      derived_of (sound_more (length (26 ∷ t)) k sd (omega arith) (omega arith)) (guard_cases t (Told x M k entry entry n r)
       (λ P C E rest s.
       let no = count_shut M x C E (truth_none (holding M C) (sym (holds t M u c judged isu P C E rest s) ∙ e)) in
       let be = f P E rest (guarded_here t M u c judged isu P C E rest s) in
@@ -269,12 +269,12 @@ module _ (x : ℕ) (t M u : List ℕ) (c : ℕ) (judged : Judged t M c) (isu : u
 
   pub guard_open : (entry exit : List ℕ) (n r : ℕ) → (c % 65536 ≡ 0 → ⊥) → DerivedShown x u M k entry exit n r → DerivedShown x (26 ∷ t) M k entry exit n r
   unfolding size
-  guard_open entry exit n r o h = derived-of (sound_more (length (26 ∷ t)) k (sound_of h) (omega (arith, last_len _ t u isu)) (omega arith)) (guard_cases t (Told x M k entry exit n r)
+  guard_open entry exit n r o h = derived_of (sound_more (length (26 ∷ t)) k (sound_of h) (omega (arith, last_len _ t u isu)) (omega arith)) (guard_cases t (Told x M k entry exit n r)
       (λ P C E rest s.
       let b = truth_some (holding M C) (λ e. o (holds t M u c judged isu P C E rest s ∙ e)) in
       let v = guarded_here t M u c judged isu P C E rest s in (
         λ w y. h.has_room P E rest v (omega (arith, w)) (rw (room_guard (holding M) C E b) at y),
-        λ z. outcome_as _ _ _ (count_guard M x C E b) refl (λ y. path_guard M x C E k) (outcome-of h P E rest v z),
+        λ z. outcome_as _ _ _ (count_guard M x C E b) refl (λ y. path_guard M x C E k) (outcome_of h P E rest v z),
       )))
 
 -- ── the code in front ──
@@ -286,7 +286,7 @@ pub other_derived : (x : ℕ) (s t M : List ℕ) (k : ℕ) (entry : List ℕ) (n
 unfolding words
 other_derived x s t M k entry n w r a b l small h e =
     let ts : length t ≤ length s = omega (arith, ap length b, length-drop 1 s) in
-    derived-of (sound_passed (length s) k (length entry) (length t) k r e ts (omega arith) l small) (λ P X rest v.
+    derived_of (sound_passed (length s) k (length entry) (length t) k r e ts (omega arith) l small) (λ P X rest v.
     by_rest (λ Y. TermAt s P Y rest → Told x M k entry entry n r P Y rest) w h
     (λ j.
     let be : length t ≡ length rest = ap length (b ∙ ap (drop 1) j.spelled) in

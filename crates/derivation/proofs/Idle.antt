@@ -22,7 +22,7 @@ use Rattle.derivation.specs.Derived.{passed, full, DerivedShown}
 use Rattle.derivation.specs.Arms.{Decided, RightDerived, LeftDerived, listed_path, ListedDerived, masked_path, MaskedDerived}
 use Rattle.derivation.specs.FitLaws.{before_second}
 use Rattle.derivation.specs.AnswerLaws.{never_full, before_full, decided_room}
-use Rattle.derivation.proofs.Answers.{sound-lost, sound_more, sound_of, outcome-of, outcome_as, outcome_place, outcome_early, decided-sound, decided_outcome, derived_room}
+use Rattle.derivation.proofs.Answers.{sound_lost, sound_more, sound_of, outcome_of, outcome_as, outcome_place, outcome_early, decided_sound, decided_outcome, derived_room}
 use Rattle.derivation.proofs.Arms.{behind_sound, behind_low, behind_outcome}
 use Rattle.derivation.proofs.Counts.{both_right, both_left}
 
@@ -38,13 +38,13 @@ skipped_at {t} {u} {P} {E} {F} {rest} {b} h isu s = second_at b u s (h.1 P E (wo
 pub right_derived : (y : ℕ) (t u M : List ℕ) (k : ℕ) (entry mid exit : List ℕ) (n b r q : ℕ) → Skipped t b → u ≡ last_of b t → DerivedShown y u M k entry mid n r → length mid ≡ length entry
     → Decided (2 ∷ (length t - length u) ∷ []) r mid exit q → RightDerived y t M k entry exit n q
 right_derived y t u M k entry mid exit n b r q skipped isu walked same h = record {
-  sound = decided-sound h (length entry) (sound_more (length t) k (sound_of walked) (last_len b t u isu) (omega arith));
+  sound = decided_sound h (length entry) (sound_more (length t) k (sound_of walked) (last_len b t u isu) (omega arith));
   has_room = λ P E F rest s v w.
       let a = skipped_at skipped isu s in
       decided_room h (walked.has_room P F rest a (omega (arith, v)) (omega (arith, w))) (derived_room walked same P F rest a 2 (omega (arith, v, size_pos 1 E)));
   right = λ P E F rest s z.
       let a = skipped_at skipped isu s in
-      outcome_as _ _ _ refl refl (λ j. ap (λ i. 2 ∷ i ∷ path y (holding M) F k) (before_second t u s a)) (decided_outcome h z (outcome-of walked P F rest a (before_full h z)));
+      outcome_as _ _ _ refl refl (λ j. ap (λ i. 2 ∷ i ∷ path y (holding M) F k) (before_second t u s a)) (decided_outcome h z (outcome_of walked P F rest a (before_full h z)));
 }
 
 -- ── the left moves ──
@@ -52,17 +52,17 @@ right_derived y t u M k entry mid exit n b r q skipped isu walked same h = recor
 module _ (y : ℕ) (t M : List ℕ) (k : ℕ) (entry mid : List ℕ) (n l : ℕ) (walked : DerivedShown y t M k entry mid n l) where
   pub left_lost : full ≤ l → LeftDerived y t M k entry mid n full
   left_lost f = record {
-    sound = sound-lost (length t) k (length entry);
+    sound = sound_lost (length t) k (length entry);
     has_room = λ P E F rest s v w. absurd (omega (arith, f, walked.has_room P E (words 1 F ++ rest) s.first (omega (arith, v)) (omega (arith, w))));
     right = λ P E F rest s z. never_full z;
   }
 
   pub left_found : length mid ≡ length entry → l < passed → (exit : List ℕ) (q : ℕ) → Decided (1 ∷ []) l mid exit q → LeftDerived y t M k entry exit n q
   left_found same f exit q h = record {
-    sound = decided-sound h (length entry) (sound_of walked);
+    sound = decided_sound h (length entry) (sound_of walked);
     has_room = λ P E F rest s v w. decided_room h (omega arith) (derived_room walked same P E (words 1 F ++ rest) s.first 1 (omega (arith, v)));
     right = λ P E F rest s z.
-        let o = outcome-of walked P E (words 1 F ++ rest) s.first (omega arith) in
+        let o = outcome_of walked P E (words 1 F ++ rest) s.first (omega arith) in
         outcome_early _ (length rest) (outcome_place o f).0 (omega arith) (decided_outcome h z o);
   }
 

@@ -20,7 +20,7 @@ use Rattle.derivation.specs.Searching.{sides_of, Within, shown_combined, Located
 use Rattle.derivation.specs.Arms.{SidesDerived, sides_path, combined_count, ListedDerived}
 use Rattle.listing.specs.Operands.{answer_is, answered_left, answered_count}
 use Rattle.derivation.specs.AnswerLaws.{never_full}
-use Rattle.derivation.proofs.Answers.{sound-lost, sound_passed}
+use Rattle.derivation.proofs.Answers.{sound_lost, sound_passed}
 use Rattle.derivation.proofs.Counts.{count_all}
 
 pub lent_few : {t M acts mid : List ℕ} {l : ℕ} → Listed t M acts mid l → length acts ≤ 131072 → length (take (length mid - l / 65536) (drop (l / 65536) mid)) ≤ 131072
@@ -30,7 +30,7 @@ lent_few {t} {M} {acts} {mid} {l} h k = omega (arith, lent_len mid (l / 65536), 
 module _ (t M acts mid : List ℕ) (l : ℕ) (first : Listed t M acts mid l) (short : length t ≤ 65535) where
   pub listed_lost_first : (x δ k : ℕ) (entry : List ℕ) → passed ≤ l → ListedDerived x δ t M k entry entry (length acts) full
   listed_lost_first x δ k entry f = record {
-    sound = sound-lost (length t) k (length entry);
+    sound = sound_lost (length t) k (length entry);
     has_room = λ P E F rest s a b. absurd (omega (arith, f, first.has_room P E (words 1 F ++ rest) s.first (omega (arith, b))));
     right = λ P E F rest s z. never_full z;
   }
@@ -76,7 +76,7 @@ module _ (t M acts mid : List ℕ) (l : ℕ) (first : Listed t M acts mid l) (sh
 
       pub listed_lost_second : (x δ k : ℕ) (entry : List ℕ) → passed ≤ r → ListedDerived x δ t M k entry entry (length acts) full
       listed_lost_second x δ k entry f = record {
-        sound = sound-lost (length t) k (length entry);
+        sound = sound_lost (length t) k (length entry);
         has_room = λ P E F rest s a b. absurd (omega (
           arith,
           f,

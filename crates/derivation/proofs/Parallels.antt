@@ -20,7 +20,7 @@ use Rattle.derivation.specs.Derived.{passed, DerivedShown}
 use Rattle.derivation.specs.Arms.{Decided, TwoDerived, MaskedDerived}
 use Rattle.listing.specs.Operands.{answer_is, BothDone, behind_both, mask_len}
 use Rattle.derivation.specs.AnswerLaws.{by_order, decided_room}
-use Rattle.derivation.proofs.Answers.{sound_more, derived-of, outcome_as, outcome_single, sound-single, decided-sound, decided_outcome}
+use Rattle.derivation.proofs.Answers.{sound_more, derived_of, outcome_as, outcome_single, sound_single, decided_sound, decided_outcome}
 use Rattle.derivation.proofs.Arms.{Told}
 use Rattle.derivation.proofs.Counts.{count_both_done, count_masked, count_covered, room_sides, path_both_done, path_masked, path_covered}
 
@@ -45,8 +45,8 @@ module _ (x : ℕ) (d t M : List ℕ) (k : ℕ) (entry exit : List ℕ) (n : ℕ
       → length d ≤ 65535 → length entry ≤ 65535 → k < 131072 → Decided (0 ∷ []) q entry exit r → DerivedShown x (25 ∷ d) M k entry exit n r
   unfolding size
   parallel_done v q e f a c short few small h =
-      let sd = sound-single (length d) k (length v) q (length entry) a c few (done_short v f) short small in
-      derived-of (sound_more (length (25 ∷ d)) k (decided-sound h (length entry) sd) (omega arith) (omega arith)) (parallel_cases d (Told x M k entry exit n r) (λ P Δ E F rest s.
+      let sd = sound_single (length d) k (length v) q (length entry) a c few (done_short v f) short small in
+      derived_of (sound_more (length (25 ∷ d)) k (decided_sound h (length entry) sd) (omega arith) (omega arith)) (parallel_cases d (Told x M k entry exit n r) (λ P Δ E F rest s.
       let o : (done? E && done? F) ≡ true = sym (tested P E F rest (sides s)) ∙ e in (
         λ w y. by_order k 1
             (λ z. let o : q ≡ length entry = a (omega arith) in decided_room h (omega arith) (λ i. omega (arith, w, o)))
@@ -66,7 +66,7 @@ module _ (x : ℕ) (d t M : List ℕ) (k : ℕ) (entry exit : List ℕ) (n : ℕ
 
     pub parallel_covered : y ≡ x → TwoDerived x 1 t M k entry exit n r → DerivedShown x (25 ∷ d) M k entry exit n r
     unfolding size
-    parallel_covered f h = derived-of (sound_more (length (25 ∷ d)) k h.sound (omega (arith, mask_len d t ist)) (omega arith)) (parallel_cases d (Told x M k entry exit n r) (λ P Δ E F rest s.
+    parallel_covered f h = derived_of (sound_more (length (25 ∷ d)) k h.sound (omega (arith, mask_len d t ist)) (omega arith)) (parallel_cases d (Told x M k entry exit n r) (λ P Δ E F rest s.
         let a : has_all x (mask_set Δ) ≡ true = all_is s ∙ eq-eqb y x f in
         let w = sides s in (
           λ v m. h.has_room P E F rest w (omega (arith, v)) (omega (arith, m, room_sides M x Δ E F (other s))),
@@ -75,7 +75,7 @@ module _ (x : ℕ) (d t M : List ℕ) (k : ℕ) (entry exit : List ℕ) (n : ℕ
 
     pub parallel_masked : (y ≡ x → ⊥) → MaskedDerived x δ t M k entry exit n r → DerivedShown x (25 ∷ d) M k entry exit n r
     unfolding size
-    parallel_masked f h = derived-of (sound_more (length (25 ∷ d)) k h.sound (omega (arith, mask_len d t ist)) (omega arith)) (parallel_cases d (Told x M k entry exit n r) (λ P Δ E F rest s.
+    parallel_masked f h = derived_of (sound_more (length (25 ∷ d)) k h.sound (omega (arith, mask_len d t ist)) (omega arith)) (parallel_cases d (Told x M k entry exit n r) (λ P Δ E F rest s.
         let a : has_all x (mask_set Δ) ≡ false = all_is s ∙ ne_eqb y x f in
         let w = sides s in
         let g : MaskedDerived x (mask_set Δ) t M k entry exit n r = subst (λ v. MaskedDerived x v t M k entry exit n r) (mask_is s) h in (

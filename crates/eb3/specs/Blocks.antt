@@ -5,7 +5,7 @@ use Rattle.eb3.specs.Refusal
 use Rattle.eb3.specs.Editions.{Edition, edition_of}
 use Rattle.eb3.specs.Reading.{pick}
 use Rattle.eb3.specs.Bytes.{words_in}
-use Rattle.eb3.specs.Answers.{Answer, refused, answered, or-refused, and_then}
+use Rattle.eb3.specs.Answers.{Answer, refused, answered, or_refused, and_then}
 
 -- Blocks of 512 bytes, of which 4 to 511 are content: 254 words.
 abbrev pub block_bytes : ℕ
@@ -65,7 +65,7 @@ whole_blocks s = eqb (length s % block_bytes) 0 && (leb 1 (block_count s) && leb
 
 -- The edition that word 0 says, where it is defined and word 1 is the block count.
 unfoldable pub edition_in : List ℕ → Answer Edition
-edition_in s = pick (eqb (get_or (stream s) 1 0) (block_count s)) (or-refused Refusal.edition (edition_of (get_or (stream s) 0 0))) (refused Refusal.edition)
+edition_in s = pick (eqb (get_or (stream s) 1 0) (block_count s)) (or_refused Refusal.edition (edition_of (get_or (stream s) 0 0))) (refused Refusal.edition)
 
 -- An opened file: its edition, and the stream after its first two words.
 pub record Opened : Type 0 where

@@ -35,31 +35,31 @@ pub record RefusedAs {X : Type 0} (ks : List ℕ) (term memory : List ℕ) (w : 
   pub number : (k : ℕ) → w.answer ≡ refused k → T (one_of ks k)
   pub nothing_written : (k : ℕ) → w.answer ≡ refused k → (w.term ≡ term) × (w.memory ≡ memory)
 
-pub record Demand1Refusals (rules numbers term memory event next-term next-memory spare_term spare_memory : List ℕ) (k : ℕ) : Type 0 where
+pub record Demand1Refusals (rules numbers term memory event next_term next_memory spare_term spare_memory : List ℕ) (k : ℕ) : Type 0 where
   pub admit_refused : (j : ℕ) → admit rules ≡ refused j → T (one_of Refusal.of_admission j)
   pub start_refused : RefusedAs Refusal.of_start term memory (start rules term memory)
   pub count_refused : (j : ℕ) → count rules term memory ≡ refused j → T (one_of Refusal.of_count j)
-  pub move_refused : RefusedAs Refusal.of_move next-term next-memory (move rules term memory k next-term next-memory)
-  pub present_refused : RefusedAs Refusal.of_present next-term next-memory (present rules term memory event next-term next-memory)
+  pub move_refused : RefusedAs Refusal.of_move next_term next_memory (move rules term memory k next_term next_memory)
+  pub present_refused : RefusedAs Refusal.of_present next_term next_memory (present rules term memory event next_term next_memory)
   pub run_refused : RefusedAs Refusal.of_start term memory (run rules numbers term memory spare_term spare_memory)
 
 -- The table's order: what admission refuses every operation refuses alike, whatever else is given; a wrong term comes before a wrong event, both before
 -- space, and space before a move that is not offered. (The order of 1 to 8 is said by Refuses in the crate demanded.)
-pub record Demand1Order (rules numbers term memory event next-term next-memory spare_term spare_memory : List ℕ) (k : ℕ) : Type 0 where
+pub record Demand1Order (rules numbers term memory event next_term next_memory spare_term spare_memory : List ℕ) (k : ℕ) : Type 0 where
   pub admission_first : (j : ℕ) → admission rules ≡ refused j
       → (admit rules ≡ refused j) × (start rules term memory ≡ unwritten term memory j) × (count rules term memory ≡ refused j)
-      × (move rules term memory k next-term next-memory ≡ unwritten next-term next-memory j)
-      × (present rules term memory event next-term next-memory ≡ unwritten next-term next-memory j)
+      × (move rules term memory k next_term next_memory ≡ unwritten next_term next_memory j)
+      × (present rules term memory event next_term next_memory ≡ unwritten next_term next_memory j)
       × (run rules numbers term memory spare_term spare_memory ≡ unwritten term memory j)
   pub term_next : (R : RuleSet) → admission rules ≡ answered R → (j : ℕ) → term_in R term ≡ refused j
-      → (count rules term memory ≡ refused j) × (move rules term memory k next-term next-memory ≡ unwritten next-term next-memory j)
-      × (present rules term memory event next-term next-memory ≡ unwritten next-term next-memory j)
+      → (count rules term memory ≡ refused j) × (move rules term memory k next_term next_memory ≡ unwritten next_term next_memory j)
+      × (present rules term memory event next_term next_memory ≡ unwritten next_term next_memory j)
   pub event_next : (R : RuleSet) (E : Term) → admission rules ≡ answered R → term_in R term ≡ answered E → (j : ℕ) → event_in R event ≡ refused j
-      → present rules term memory event next-term next-memory ≡ unwritten next-term next-memory j
+      → present rules term memory event next_term next_memory ≡ unwritten next_term next_memory j
   pub space_before_offer : (R : RuleSet) (E : Term) → admission rules ≡ answered R → term_in R term ≡ answered E
-      → (term_fits (reach R.edition.width E) next-term && (memory_fits R memory && memory_fits R next-memory)) ≡ false
-      → (move rules term memory k next-term next-memory ≡ unwritten next-term next-memory Refusal.space)
-      × ((ρ : Action) → event_in R event ≡ answered ρ → present rules term memory event next-term next-memory ≡ unwritten next-term next-memory Refusal.space)
+      → (term_fits (reach R.edition.width E) next_term && (memory_fits R memory && memory_fits R next_memory)) ≡ false
+      → (move rules term memory k next_term next_memory ≡ unwritten next_term next_memory Refusal.space)
+      × ((ρ : Action) → event_in R event ≡ answered ρ → present rules term memory event next_term next_memory ≡ unwritten next_term next_memory Refusal.space)
   -- Start, Count and Run have no test behind space: where a buffer is short, that is what they say.
   pub start_short : (R : RuleSet) → admission rules ≡ answered R → (term_fits (main_reach R) term && memory_fits R memory) ≡ false
       → start rules term memory ≡ unwritten term memory Refusal.space
@@ -75,12 +75,12 @@ pub record Demand1Space (rules : List ℕ) (S : Sizes) : Type 0 where
   pub run_has_room : (numbers term memory spare_term spare_memory : List ℕ) → Roomy S term memory → Roomy S spare_term spare_memory
       → (r : Ran) × ((run rules numbers term memory spare_term spare_memory).answer ≡ answered r)
   pub count_has_room : (term memory : List ℕ) → S.cells ≤ cell_room memory → count rules term memory ≡ refused Refusal.space → ⊥
-  pub move_has_room : (R : RuleSet) → admission rules ≡ answered R → (E : Term) (term memory next-term next-memory : List ℕ) (k : ℕ)
-      → term_in R term ≡ answered E → reach R.edition.width E ≤ word_count next-term → S.cells ≤ cell_room memory → S.cells ≤ cell_room next-memory
-      → (move rules term memory k next-term next-memory).answer ≡ refused Refusal.space → ⊥
-  pub present_has_room : (R : RuleSet) → admission rules ≡ answered R → (E : Term) (term memory event next-term next-memory : List ℕ)
-      → term_in R term ≡ answered E → reach R.edition.width E ≤ word_count next-term → S.cells ≤ cell_room memory → S.cells ≤ cell_room next-memory
-      → (present rules term memory event next-term next-memory).answer ≡ refused Refusal.space → ⊥
+  pub move_has_room : (R : RuleSet) → admission rules ≡ answered R → (E : Term) (term memory next_term next_memory : List ℕ) (k : ℕ)
+      → term_in R term ≡ answered E → reach R.edition.width E ≤ word_count next_term → S.cells ≤ cell_room memory → S.cells ≤ cell_room next_memory
+      → (move rules term memory k next_term next_memory).answer ≡ refused Refusal.space → ⊥
+  pub present_has_room : (R : RuleSet) → admission rules ≡ answered R → (E : Term) (term memory event next_term next_memory : List ℕ)
+      → term_in R term ≡ answered E → reach R.edition.width E ≤ word_count next_term → S.cells ≤ cell_room memory → S.cells ≤ cell_room next_memory
+      → (present rules term memory event next_term next_memory).answer ≡ refused Refusal.space → ⊥
   -- What is reported is within the limits, and the start term is no larger than its reach.
   pub limits_kept : (S.reach ≤ 8192) × (S.breadth ≤ 65535) × (S.size ≤ S.reach) × (S.cells ≤ 1024)
 
@@ -92,10 +92,10 @@ module _ (rules term memory : List ℕ) (R : RuleSet) (E : Term) where
 
   -- A derivation's outcome: its action, its successor and its new memory.
   abbrev pub derived_result : Derivation (Sem_M (attributes R)) cells_now E → List ℕ → List ℕ → Written Moved
-  derived_result d next-term next-memory = record {
+  derived_result d next_term next_memory = record {
     answer = answered (record { action = d.action; size = size R.edition.width d.successor });
-    term = written (words R.edition.width d.successor) next-term;
-    memory = written (memory_words d.state) next-memory;
+    term = written (words R.edition.width d.successor) next_term;
+    memory = written (memory_words d.state) next_memory;
   }
 
   pub record Demand2 : Type 0 where
@@ -103,16 +103,16 @@ module _ (rules term memory : List ℕ) (R : RuleSet) (E : Term) where
     pub counted : count rules term memory ≡ answered moves_listed
     pub derivations : Enumeration (Derivation (Sem_M (attributes R)) cells_now E) Earlier concluded ((system (Sem_M (attributes R))).transitions (situation E cells_now))
     pub all_listed : length ((system (Sem_M (attributes R))).transitions (situation E cells_now)) ≡ moves_listed
-    pub moved : (d : Derivation (Sem_M (attributes R)) cells_now E) (next-term next-memory : List ℕ) → reach R.edition.width E ≤ word_count next-term → cells_needed R ≤ cell_room next-memory
-        → move rules term memory (derivations.numbers.fun d).0 next-term next-memory ≡ derived_result d next-term next-memory
-    pub no_other : (k : ℕ) → moves_listed ≤ k → (next-term next-memory : List ℕ) → reach R.edition.width E ≤ word_count next-term → cells_needed R ≤ cell_room next-memory
-        → move rules term memory k next-term next-memory ≡ unwritten next-term next-memory Refusal.not_offered
+    pub moved : (d : Derivation (Sem_M (attributes R)) cells_now E) (next_term next_memory : List ℕ) → reach R.edition.width E ≤ word_count next_term → cells_needed R ≤ cell_room next_memory
+        → move rules term memory (derivations.numbers.fun d).0 next_term next_memory ≡ derived_result d next_term next_memory
+    pub no_other : (k : ℕ) → moves_listed ≤ k → (next_term next_memory : List ℕ) → reach R.edition.width E ≤ word_count next_term → cells_needed R ≤ cell_room next_memory
+        → move rules term memory k next_term next_memory ≡ unwritten next_term next_memory Refusal.not_offered
     -- As many as the breadth at the most; and Present is Move at the first that has the event.
     pub breadth_bounds : moves_listed ≤ breadth E
-    pub presented : (ρ : Action) (event : List ℕ) → event_in R event ≡ answered ρ → (k : ℕ) → first_with ρ (listed R E memory) ≡ some k → (next-term next-memory : List ℕ)
-        → present rules term memory event next-term next-memory ≡ move rules term memory k next-term next-memory
-    pub not_presented : (ρ : Action) (event : List ℕ) → event_in R event ≡ answered ρ → first_with ρ (listed R E memory) ≡ none → (next-term next-memory : List ℕ)
-        → present rules term memory event next-term next-memory ≡ move rules term memory moves_listed next-term next-memory
+    pub presented : (ρ : Action) (event : List ℕ) → event_in R event ≡ answered ρ → (k : ℕ) → first_with ρ (listed R E memory) ≡ some k → (next_term next_memory : List ℕ)
+        → present rules term memory event next_term next_memory ≡ move rules term memory k next_term next_memory
+    pub not_presented : (ρ : Action) (event : List ℕ) → event_in R event ≡ answered ρ → first_with ρ (listed R E memory) ≡ none → (next_term next_memory : List ℕ)
+        → present rules term memory event next_term next_memory ≡ move rules term memory moves_listed next_term next_memory
 
 -- The history machine's last term and list, and its moves there: the trace semantics.
 abbrev pub last_term : (R : RuleSet) → Machine (Sem_T (attributes R)) → Term
@@ -138,10 +138,10 @@ run_result R h term memory = record {
 
 -- What Move leaves for the machine's move x: its action and successor, and the values over the list that this move leaves.
 abbrev pub move_result : (R : RuleSet) → Machine (Sem_T (attributes R)) → Move → List ℕ → List ℕ → Written Moved
-move_result R h x next-term next-memory = record {
+move_result R h x next_term next_memory = record {
   answer = answered (record { action = x.action; size = size R.edition.width x.successor });
-  term = written (words R.edition.width x.successor) next-term;
-  memory = written (values_words R (state_after (Sem_T (attributes R)) (last_trace R h) x.action)) next-memory;
+  term = written (words R.edition.width x.successor) next_term;
+  memory = written (values_words R (state_after (Sem_T (attributes R)) (last_trace R h) x.action)) next_memory;
 }
 
 -- A term buffer cut to so many words.
@@ -176,20 +176,20 @@ module _ (rules numbers term memory spare_term spare_memory : List ℕ) (S : Siz
     pub derived : Enumeration (Derivation (Sem_T (attributes R)) (last_trace R h) (last_term R h)) Earlier concluded ((system (Sem_T (attributes R))).transitions h.state)
     -- The moves then listed, on the last memory and the last term cut to its size, are the machine's.
     pub count_agrees : count rules (cut (size R.edition.width (last_term R h)) after.term) after.memory ≡ answered (length (history_moves R h))
-    pub move_agrees : (k : ℕ) (x : Move) → get_elem? (history_moves R h) k ≡ some x → (next-term next-memory : List ℕ) → Roomy S next-term next-memory
-        → move rules (cut (size R.edition.width (last_term R h)) after.term) after.memory k next-term next-memory ≡ move_result R h x next-term next-memory
-    pub move_refuses : (k : ℕ) → length (history_moves R h) ≤ k → (next-term next-memory : List ℕ) → Roomy S next-term next-memory
-        → move rules (cut (size R.edition.width (last_term R h)) after.term) after.memory k next-term next-memory ≡ unwritten next-term next-memory Refusal.not_offered
+    pub move_agrees : (k : ℕ) (x : Move) → get_elem? (history_moves R h) k ≡ some x → (next_term next_memory : List ℕ) → Roomy S next_term next_memory
+        → move rules (cut (size R.edition.width (last_term R h)) after.term) after.memory k next_term next_memory ≡ move_result R h x next_term next_memory
+    pub move_refuses : (k : ℕ) → length (history_moves R h) ≤ k → (next_term next_memory : List ℕ) → Roomy S next_term next_memory
+        → move rules (cut (size R.edition.width (last_term R h)) after.term) after.memory k next_term next_memory ≡ unwritten next_term next_memory Refusal.not_offered
 
 -- ── what is proved, with all that it asks ──
 
 abbrev pub Refusals_hold : Type 0
-Refusals_hold = (rules numbers term memory event next-term next-memory spare_term spare_memory : List ℕ) (k : ℕ)
-    → Demand1Refusals rules numbers term memory event next-term next-memory spare_term spare_memory k
+Refusals_hold = (rules numbers term memory event next_term next_memory spare_term spare_memory : List ℕ) (k : ℕ)
+    → Demand1Refusals rules numbers term memory event next_term next_memory spare_term spare_memory k
 
 abbrev pub Order_holds : Type 0
-Order_holds = (rules numbers term memory event next-term next-memory spare_term spare_memory : List ℕ) (k : ℕ)
-    → Demand1Order rules numbers term memory event next-term next-memory spare_term spare_memory k
+Order_holds = (rules numbers term memory event next_term next_memory spare_term spare_memory : List ℕ) (k : ℕ)
+    → Demand1Order rules numbers term memory event next_term next_memory spare_term spare_memory k
 
 abbrev pub Space_holds : Type 0
 Space_holds = (rules : List ℕ) (S : Sizes) → admit rules ≡ answered S → Demand1Space rules S

@@ -19,7 +19,7 @@ use Rattle.eb3.specs.Reading.{pick}
 use Rattle.eb3.specs.TermReading.{given_term, given_event}
 use Rattle.eb3.specs.Bytes.{words_in, word_count, written}
 use Rattle.eb3.specs.Memory.{cell_room, memory_words, cells_in}
-use Rattle.eb3.specs.Answers.{Answer, refused, answered, or-refused, and_then, Sizes, Moved, Ran, Written, unwritten}
+use Rattle.eb3.specs.Answers.{Answer, refused, answered, or_refused, and_then, Sizes, Moved, Ran, Written, unwritten}
 use Rattle.eb3.specs.Admission.{admission}
 
 -- What an admitted rule set needs: C cells, and main's G words.
@@ -43,10 +43,10 @@ abbrev pub even : List ℕ → Bool
 even s = eqb (length s % 2) 0
 
 abbrev pub term_in : RuleSet → List ℕ → Answer Term
-term_in R term = pick (even term) (or-refused Refusal.term (given_term R (words_in term))) (refused Refusal.term)
+term_in R term = pick (even term) (or_refused Refusal.term (given_term R (words_in term))) (refused Refusal.term)
 
 abbrev pub event_in : RuleSet → List ℕ → Answer Action
-event_in R event = pick (even event) (or-refused Refusal.stranger (given_event R (words_in event))) (refused Refusal.stranger)
+event_in R event = pick (even event) (or_refused Refusal.stranger (given_event R (words_in event))) (refused Refusal.stranger)
 
 -- The moves of a term at the cells of a memory.
 abbrev pub cells_given : RuleSet → List ℕ → List Value
@@ -93,33 +93,33 @@ count rules term memory =
 
 -- What a move writes: its successor, and the memory that its action leaves.
 abbrev pub moved : RuleSet → List ℕ → List ℕ → List ℕ → Move → Written Moved
-moved R memory next-term next-memory x = record {
+moved R memory next_term next_memory x = record {
   answer = answered (record { action = x.action; size = size R.edition.width x.successor });
-  term = written (words R.edition.width x.successor) next-term;
-  memory = written (memory_words (state_after (Sem_M (attributes R)) (cells_given R memory) x.action)) next-memory;
+  term = written (words R.edition.width x.successor) next_term;
+  memory = written (memory_words (state_after (Sem_M (attributes R)) (cells_given R memory) x.action)) next_memory;
 }
 
 -- Refusal 9, then 12: the move that a choice among the listed ones gives.
 abbrev pub chosen : RuleSet → Term → List ℕ → List ℕ → List ℕ → (List Move → Option Move) → Written Moved
-chosen R E memory next-term next-memory choose =
-    pick (term_fits (reach R.edition.width E) next-term && (memory_fits R memory && memory_fits R next-memory))
-    (writing next-term next-memory (or-refused Refusal.not_offered (choose (listed R E memory))) (moved R memory next-term next-memory))
-    (unwritten next-term next-memory Refusal.space)
+chosen R E memory next_term next_memory choose =
+    pick (term_fits (reach R.edition.width E) next_term && (memory_fits R memory && memory_fits R next_memory))
+    (writing next_term next_memory (or_refused Refusal.not_offered (choose (listed R E memory))) (moved R memory next_term next_memory))
+    (unwritten next_term next_memory Refusal.space)
 
 -- Move k.
 unfoldable pub move : List ℕ → List ℕ → List ℕ → ℕ → List ℕ → List ℕ → Written Moved
-move rules term memory k next-term next-memory =
-    writing next-term next-memory (admission rules) λ R.
-    writing next-term next-memory (term_in R term) λ E.
-    chosen R E memory next-term next-memory λ xs. get_elem? xs k
+move rules term memory k next_term next_memory =
+    writing next_term next_memory (admission rules) λ R.
+    writing next_term next_memory (term_in R term) λ E.
+    chosen R E memory next_term next_memory λ xs. get_elem? xs k
 
 -- Present.
 unfoldable pub present : List ℕ → List ℕ → List ℕ → List ℕ → List ℕ → List ℕ → Written Moved
-present rules term memory event next-term next-memory =
-    writing next-term next-memory (admission rules) λ R.
-    writing next-term next-memory (term_in R term) λ E.
-    writing next-term next-memory (event_in R event) λ ρ.
-    chosen R E memory next-term next-memory (at_first ρ)
+present rules term memory event next_term next_memory =
+    writing next_term next_memory (admission rules) λ R.
+    writing next_term next_memory (term_in R term) λ E.
+    writing next_term next_memory (event_in R event) λ ρ.
+    chosen R E memory next_term next_memory (at_first ρ)
 
 -- Run: what the history machine ends with. The last term, zeros up to main's G; every function's values over the whole list.
 abbrev pub ran : List ℕ → List ℕ → List ℕ → RuleSet → Written Ran

@@ -77,7 +77,7 @@ unfoldable pub parallel_over_of : RuleSet → (List ℕ → Reader RuleTerm) →
 parallel_over_of R e Γ t = by_number Refusal.reference (length R.domains) (λ d u. giving (λ p. parallel_over d p.0 p.1) (both (rule_mask_of R) (e (Γ ++ (d ∷ []))) u)) t
 
 pub data RuleKind : Type 0 where
-  internal_step action star parallel guard choice-quantifier parallel-quantifier process-call wrong : RuleKind
+  internal_step action star parallel guard choice_quantifier parallel_quantifier process_call wrong : RuleKind
   pair : (RuleTerm → RuleTerm → RuleTerm) → RuleKind
 
 -- The code that would bind one variable too many is refused itself.
@@ -90,9 +90,9 @@ rule_kind Γ c =
     (pick (eqb c 24) star
     (pick (eqb c 25) parallel
     (pick (eqb c 26) guard
-    (pick (eqb c 27) (pick (ltb (length Γ) Limits.variables) choice-quantifier wrong)
-    (pick (eqb c 28) (pick (ltb (length Γ) Limits.variables) parallel-quantifier wrong)
-    (pick (eqb c 29) process-call
+    (pick (eqb c 27) (pick (ltb (length Γ) Limits.variables) choice_quantifier wrong)
+    (pick (eqb c 28) (pick (ltb (length Γ) Limits.variables) parallel_quantifier wrong)
+    (pick (eqb c 29) process_call
     wrong)))))))))
 
 abbrev pub rule_by : RuleSet → (List ℕ → Reader RuleTerm) → List ℕ → RuleKind → Reader RuleTerm
@@ -102,9 +102,9 @@ rule_by R e Γ (RuleKind.pair k) t = giving (λ p. k p.0 p.1) (both (e Γ) (e Γ
 rule_by R e Γ RuleKind.star t = giving rule_star (e Γ t)
 rule_by R e Γ RuleKind.parallel t = giving (λ p. rule_parallel p.0 p.1.0 p.1.1) (both (rule_mask_of R) (both (e Γ) (e Γ)) t)
 rule_by R e Γ RuleKind.guard t = giving (λ p. rule_guard p.0 p.1) (both (read_cond R.edition.width (guard_scope (attributes R) (length Γ))) (e Γ) t)
-rule_by R e Γ RuleKind.choice-quantifier t = choice_over_of R e Γ t
-rule_by R e Γ RuleKind.parallel-quantifier t = parallel_over_of R e Γ t
-rule_by R e Γ RuleKind.process-call t = call_of R Γ t
+rule_by R e Γ RuleKind.choice_quantifier t = choice_over_of R e Γ t
+rule_by R e Γ RuleKind.parallel_quantifier t = parallel_over_of R e Γ t
+rule_by R e Γ RuleKind.process_call t = call_of R Γ t
 rule_by R e Γ RuleKind.wrong t = refused Refusal.form
 
 abbrev pub rule_step : RuleSet → (List ℕ → Reader RuleTerm) → List ℕ → Reader RuleTerm

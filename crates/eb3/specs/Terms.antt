@@ -12,7 +12,7 @@ pub record VisibleAction : Type 0 where
 pub data Action : Type 0 where
   internal : Action
   visible : VisibleAction → Action
-  deriving IsSet as Action-set-over
+  deriving IsSet as Action_set_over
 
 -- A mask is its words, bit j of word i standing for label 16 × i + j (Laws/Masks).
 abbrev pub Mask : Type 0

@@ -22,7 +22,7 @@ use Rattle.steps.specs.Judging.{whole, moves_judged}
 use Rattle.engine.specs.declared.counting.Counted.{Counted}
 use Rattle.engine.specs.declared.counting.Counted.TheVariants.{Moves, Refused}
 use Rattle.given.specs.declared.giving.Given.{Given}
-use Rattle.given.specs.declared.giving.Given.TheVariants.{Term as Given·term, Refused as Given·refused}
+use Rattle.given.specs.declared.giving.Given.TheVariants.{Term as Given_term, Refused as Given_refused}
 use Rattle.given.specs.Giving.{Described, GivenDone, given_in}
 use Rattle.given.specs.GivingLaws.{Found, told_refused, told_found, described_few, described_ruled}
 use Rattle.engine.specs.Counting.{counted_as, count_refused, count_short, count_done}
@@ -44,10 +44,10 @@ counted_at s T D B M w n c x y ew en loaded counts ey R E t d ec enough =
     omega (arith, b, ey, moves_below_breadth (holding M) E, a, d.term.running.breadth_limit)
 
 module _ (rules term memory words₀ : List ℕ) (n : ℕ) (r : Given) (words' T D ws : List ℕ) (d : GivenDone rules term words₀ n r words' T D ws) where
-  pub counted_refused : (k : ℕ) → r ≡ Given·refused k → Refused k ≡ counted_as (count rules term memory)
+  pub counted_refused : (k : ℕ) → r ≡ Given_refused k → Refused k ≡ counted_as (count rules term memory)
   counted_refused k e = count_refused rules term memory k (told_refused rules term words₀ n r words' T D ws d k e)
 
-  module _ (c g : ℕ) (e : r ≡ Given·term c g) where
+  module _ (c g : ℕ) (e : r ≡ Given_term c g) where
     abbrev found : Found (given_in rules term) c g
     found = told_found rules term words₀ n r words' T D ws d c g e
 

@@ -23,9 +23,9 @@ use Rattle.eb3.specs.Memory.{cell_room, memory_words}
 use Rattle.eb3.specs.WellFormedness.{WellFormedAction}
 use Rattle.eb3.specs.Laws.Sizes.{size_below_reach, move_size, moves_below_breadth}
 use Rattle.eb3.specs.Laws.Running.{move_running, move_action}
-use Rattle.eb3.specs.Answers.{answered, Moved as Answer·moved, Written}
+use Rattle.eb3.specs.Answers.{answered, Moved as Answer_moved, Written}
 use Rattle.eb3.specs.Operations.{cells_needed, cells_given, listed, numbered, writing, moved}
-use Rattle.eb3.specs.Answers.{or-refused}
+use Rattle.eb3.specs.Answers.{or_refused}
 use Rattle.eb3.specs.Laws.Editions.{width_is_1}
 use Rattle.actions.specs.Codes.{action_code, Small}
 use Rattle.actions.specs.CodesLaws.{visible_positive, few_arguments}
@@ -35,7 +35,7 @@ use Rattle.cells.specs.Preparing.{Saved}
 use Rattle.cells.specs.MemoryLaws.{held_words}
 use Rattle.steps.specs.contracts.moving.Taken.{the_type}
 use Rattle.steps.specs.declared.moving.Taken.{Taken}
-use Rattle.steps.specs.declared.moving.Taken.TheVariants.{Made as Taken·made, NotOffered}
+use Rattle.steps.specs.declared.moving.Taken.TheVariants.{Made as Taken_made, NotOffered}
 use Rattle.steps.specs.Counting.{Whole, place_of}
 use Rattle.listing.specs.FitLaws.{fits_length}
 use Rattle.steps.specs.Storing.{Ruled, Stored, StoreRenewed}
@@ -139,7 +139,7 @@ MoveTaken s M k B B' r = (P : Scope) (E : Term) → Whole s P E → size 1 E ≤
 -- What a step from a store answers and leaves: of the memory semantics' move k at the cells that the store holds.
 abbrev pub SteppedFrom : List ℕ → List ℕ → List ℕ → List ℕ → List ℕ → ℕ → ℕ → List ℕ → List ℕ → Moved → List ℕ → List ℕ → Type 0
 SteppedFrom t T D s M c k B C r B' C' = (R : RuleSet) (E : Term) (cells : List Value) → Described R E t T D s → c ≡ cells_needed R → Stored R cells M → reach 1 E ≤ word_count B → c ≤ cell_room C
-    → Done (writing B C (or-refused Refusal.not_offered (get_elem? (moves ((Sem_M (attributes R)).satisfies cells) E) k)) (moved_from R cells B C)) r B' C'
+    → Done (writing B C (or_refused Refusal.not_offered (get_elem? (moves ((Sem_M (attributes R)).satisfies cells) E) k)) (moved_from R cells B C)) r B' C'
 
 module _ (R : RuleSet) (E : Term) (cells : List Value) (t T D s M : List ℕ) (d : Described R E t T D s) (stored : Stored R cells M) (k : ℕ) (B B' C : List ℕ) (r : Taken) where
   -- What was taken, at the move that there is or is not.
@@ -149,24 +149,24 @@ module _ (R : RuleSet) (E : Term) (cells : List Value) (t T D s M : List ℕ) (d
       (successor_fits R E cells t T D s M d stored B h k (get_elem? (moves (holding M) E) k) refl)
 
   -- By the store's moves the step is as by those of the cells.
-  by_store : (z : Moved) (C' : List ℕ) → Done (writing B C (or-refused Refusal.not_offered (get_elem? (moves (holding M) E) k)) (moved_from R cells B C)) z B' C'
-      → Done (writing B C (or-refused Refusal.not_offered (get_elem? (moves ((Sem_M (attributes R)).satisfies cells) E) k)) (moved_from R cells B C)) z B' C'
-  by_store z C' = subst (λ o. Done (writing B C (or-refused Refusal.not_offered o) (moved_from R cells B C)) z B' C') (entry_judged R E cells t T D s M d stored k)
+  by_store : (z : Moved) (C' : List ℕ) → Done (writing B C (or_refused Refusal.not_offered (get_elem? (moves (holding M) E) k)) (moved_from R cells B C)) z B' C'
+      → Done (writing B C (or_refused Refusal.not_offered (get_elem? (moves ((Sem_M (attributes R)).satisfies cells) E) k)) (moved_from R cells B C)) z B' C'
+  by_store z C' = subst (λ o. Done (writing B C (or_refused Refusal.not_offered o) (moved_from R cells B C)) z B' C') (entry_judged R E cells t T D s M d stored k)
 
   -- no such move
-  refused_so : (o : Option Move) → Took o B B' r → r ≡ NotOffered → Done (writing B C (or-refused Refusal.not_offered o) (moved_from R cells B C)) (Refused 12) B' C
+  refused_so : (o : Option Move) → Took o B B' r → r ≡ NotOffered → Done (writing B C (or_refused Refusal.not_offered o) (moved_from R cells B C)) (Refused 12) B' C
   unfolding taken_as built_over moved_as
   refused_so none took e = record { answer = refl; term_after = took.buffer; memory_after = refl }
   refused_so (some x) took e = let f : NotOffered ≡ taken_as (some x) = sym e ∙ took.answer in absurd (let z : ◌≡◌ {A = ℕ} 0 1 = cc in omega arith)
 
   -- the successor written, and the renewed cells saved
-  made_so : (M' C' : List ℕ) (w n c a z : ℕ) (y : Step) → Ruled R t T D w n c → c ≤ cell_room C → r ≡ Taken·made a z → length M' ≡ length M → StoreRenewed t D M M' w n c a → Saved M' C C' c
+  made_so : (M' C' : List ℕ) (w n c a z : ℕ) (y : Step) → Ruled R t T D w n c → c ≤ cell_room C → r ≡ Taken_made a z → length M' ≡ length M → StoreRenewed t D M M' w n c a → Saved M' C C' c
       → ((ρ : Action) → Small ρ → a ≡ action_code ρ → y ≡ told ρ (z % 4294967296))
-      → (o : Option Move) → get_elem? (moves (holding M) E) k ≡ o → Took o B B' r → Done (writing B C (or-refused Refusal.not_offered o) (moved_from R cells B C)) (Made y) B' C'
+      → (o : Option Move) → get_elem? (moves (holding M) E) k ≡ o → Took o B B' r → Done (writing B C (or_refused Refusal.not_offered o) (moved_from R cells B C)) (Made y) B' C'
   unfolding taken_as built_over moved_as
-  made_so M' C' w n c a z y ruled fits er l renewed saved tells none e took = let f : Taken·made a z ≡ taken_as none = sym er ∙ took.answer in absurd (let q : ◌≡◌ {A = ℕ} 0 1 = cc in omega arith)
+  made_so M' C' w n c a z y ruled fits er l renewed saved tells none e took = let f : Taken_made a z ≡ taken_as none = sym er ∙ took.answer in absurd (let q : ◌≡◌ {A = ℕ} 0 1 = cc in omega arith)
   made_so M' C' w n c a z y ruled fits er l renewed saved tells (some x) e took =
-      let f : Taken·made a z ≡ Taken·made (action_code x.action) (length (words 1 x.successor)) = sym er ∙ took.answer in
+      let f : Taken_made a z ≡ Taken_made (action_code x.action) (length (words 1 x.successor)) = sym er ∙ took.answer in
       let ea : a ≡ action_code x.action = cc in
       let ez : z ≡ length (words 1 x.successor) = cc in
       let good : WellFormedAction R x.action = acted R E cells t T D s M d stored k x e in
@@ -184,7 +184,7 @@ module _ (R : RuleSet) (E : Term) (cells : List Value) (t T D s M : List ℕ) (d
 
 -- A match on an answer without values says only its number: 1 is that there is no such move.
 second_answer : (r : Taken) → tag_of the_type r ≡ 1 → r ≡ NotOffered
-second_answer (Taken·made a z) e = absurd (let q : ◌≡◌ {A = ℕ} 0 1 = e in omega arith)
+second_answer (Taken_made a z) e = absurd (let q : ◌≡◌ {A = ℕ} 0 1 = e in omega arith)
 second_answer NotOffered e = refl
 
 pub step_refused : (t T D s M : List ℕ) (c k : ℕ) (B B' C : List ℕ) (r : Taken) → MoveTaken s M k B B' r → tag_of the_type r ≡ 1 → SteppedFrom t T D s M c k B C (Refused 12) B' C
@@ -192,7 +192,7 @@ step_refused t T D s M c k B B' C r taken e R E cells d ec stored h g =
     by_store R E cells t T D s M d stored k B B' C r (Refused 12) C
     (refused_so R E cells t T D s M d stored k B B' C r (get_elem? (moves (holding M) E) k) (taken_so R E cells t T D s M d stored k B B' C r taken h) (second_answer r e))
 
-pub step_made : (t T D s M M' : List ℕ) (c k : ℕ) (B B' C C' : List ℕ) (r : Taken) (w n a z : ℕ) (y : Step) → MoveTaken s M k B B' r → r ≡ Taken·made a z → w ≡ 3 + get_or T 17 0 → n ≡ get_or T 210 0
+pub step_made : (t T D s M M' : List ℕ) (c k : ℕ) (B B' C C' : List ℕ) (r : Taken) (w n a z : ℕ) (y : Step) → MoveTaken s M k B B' r → r ≡ Taken_made a z → w ≡ 3 + get_or T 17 0 → n ≡ get_or T 210 0
     → length M' ≡ length M → StoreRenewed t D M M' w n c a → Saved M' C C' c → ((ρ : Action) → Small ρ → a ≡ action_code ρ → y ≡ told ρ (z % 4294967296)) → SteppedFrom t T D s M c k B C (Made y) B' C'
 step_made t T D s M M' c k B B' C C' r w n a z y taken e ew en l renewed saved tells R E cells d ec stored h g =
     by_store R E cells t T D s M d stored k B B' C r (Made y) C'
@@ -203,7 +203,7 @@ step_made t T D s M M' c k B B' C C' r w n a z y taken e ew en l renewed saved t
 
 module _ (R : RuleSet) (memory B C : List ℕ) where
   -- What a move writes, with constants of w words.
-  abbrev moved_wide : ℕ → Move → Written Answer·moved
+  abbrev moved_wide : ℕ → Move → Written Answer_moved
   moved_wide w x = record {
     answer = answered (record { action = x.action; size = size w x.successor });
     term = written (words w x.successor) B;
@@ -216,7 +216,7 @@ pub step_loaded : (t T D s M memory : List ℕ) (w n c k x : ℕ) (b : Bool) (B 
     → ((P : Scope) (E : Term) (choose : List Move → Option Move) → Whole s P E → Chooses b x choose → get_elem? (moves (holding M) E) k ≡ choose (moves (holding M) E))
     → SteppedFrom t T D s M c k B C r B' C'
     → (R : RuleSet) (E : Term) (choose : List Move → Option Move) → Described R E t T D s → c ≡ cells_needed R → c ≤ cell_room memory → reach 1 E ≤ word_count B → c ≤ cell_room C → Chooses b x choose
-    → Done (writing B C (or-refused Refusal.not_offered (choose (listed R E memory))) (moved R memory B C)) r B' C'
+    → Done (writing B C (or_refused Refusal.not_offered (choose (listed R E memory))) (moved R memory B C)) r B' C'
 step_loaded t T D s M memory w n c k x b B C B' C' r ew en loaded wanted stepped R E choose d ec enough h g asks =
     let cells : List Value = cells_given R memory in
     let st : Stored R cells M = loaded R t T (described_ruled R E t T D s d w n c ew en ec) enough in
@@ -224,5 +224,5 @@ step_loaded t T D s M memory w n c k x b B C B' C' r ew en loaded wanted stepped
     let e : get_elem? (moves (holding M) E) k ≡ choose (moves (holding M) E) = wanted (guard_scope (attributes R) 0) E choose (whole R d.form E d.term.running s d.term.words_are) asks in
     let o : get_elem? (listed R E memory) k ≡ choose (listed R E memory) = subst (λ xs. get_elem? xs k ≡ choose xs) judged e in
     let v : 1 ≡ R.edition.width = sym (width_is_1 d.form) in
-    subst (λ u. Done (writing B C (or-refused Refusal.not_offered (choose (listed R E memory))) (moved_wide R memory B C u)) r B' C') v
-    (subst (λ p. Done (writing B C (or-refused Refusal.not_offered p) (moved_from R cells B C)) r B' C') o (stepped R E cells d ec st h g))
+    subst (λ u. Done (writing B C (or_refused Refusal.not_offered (choose (listed R E memory))) (moved_wide R memory B C u)) r B' C') v
+    (subst (λ p. Done (writing B C (or_refused Refusal.not_offered p) (moved_from R cells B C)) r B' C') o (stepped R E cells d ec st h g))

@@ -10,7 +10,7 @@ use Rattle.eb3.specs.Bytes.{word_count}
 use Rattle.eb3.specs.Memory.{cell_room}
 use Rattle.eb3.specs.Reading.{pick}
 use Rattle.eb3.specs.Admission.{admission}
-use Rattle.eb3.specs.Answers.{Answer, refused, answered, Ran as Answer·ran, Written, unwritten}
+use Rattle.eb3.specs.Answers.{Answer, refused, answered, Ran as Answer_ran, Written, unwritten}
 use Rattle.eb3.specs.Operations.{cells_needed, main_reach, term_fits, memory_fits, writing, ran, run, ScratchAfter}
 use Rattle.mains.specs.Mains.{RanRight}
 use Rattle.mains.specs.declared.Totals.{Totals}
@@ -22,16 +22,16 @@ module _ (rules numbers term memory spare_term spare_memory : List ℕ) where
   abbrev Leaves : Ran → List ℕ → List ℕ → List ℕ → Type 0
   Leaves r term' memory' spare' = RunDone rules numbers term memory spare_term spare_memory r term' memory' spare'
 
-  by_whole : (w : Written Answer·ran) (r : Ran) (term' memory' spare' : List ℕ) → run rules numbers term memory spare_term spare_memory ≡ w → r ≡ ran_as w.answer → term' ≡ w.term → memory' ≡ w.memory
+  by_whole : (w : Written Answer_ran) (r : Ran) (term' memory' spare' : List ℕ) → run rules numbers term memory spare_term spare_memory ≡ w → r ≡ ran_as w.answer → term' ≡ w.term → memory' ≡ w.memory
       → ScratchAfter w.answer spare_term spare' → Leaves r term' memory' spare'
   by_whole w r term' memory' spare' e a t m s = record {
-    answer = a ∙ ap (λ (v : Written Answer·ran). ran_as v.answer) (sym e);
-    term_after = t ∙ ap (λ (v : Written Answer·ran). v.term) (sym e);
-    memory_after = m ∙ ap (λ (v : Written Answer·ran). v.memory) (sym e);
-    scratch_after = subst (λ (v : Written Answer·ran). ScratchAfter v.answer spare_term spare') (sym e) s;
+    answer = a ∙ ap (λ (v : Written Answer_ran). ran_as v.answer) (sym e);
+    term_after = t ∙ ap (λ (v : Written Answer_ran). v.term) (sym e);
+    memory_after = m ∙ ap (λ (v : Written Answer_ran). v.memory) (sym e);
+    scratch_after = subst (λ (v : Written Answer_ran). ScratchAfter v.answer spare_term spare') (sym e) s;
   }
 
-  abbrev run_from : RuleSet → Written Answer·ran
+  abbrev run_from : RuleSet → Written Answer_ran
   run_from R = pick ((term_fits (main_reach R) term && memory_fits R memory) && (term_fits (main_reach R) spare_term && memory_fits R spare_memory)) (ran numbers term memory R) (unwritten term memory Refusal.space)
 
   pub run_refused : (k : ℕ) → admission rules ≡ refused k → Leaves (Refused k) term memory spare_term

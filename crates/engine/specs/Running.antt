@@ -1,17 +1,17 @@
 -- What Run answers and leaves, by the specification's operation, which is the history machine's run (document 01, "Operations"; "Memory and the history
 -- machine").
 use Rattle.std.specs.Prelude.{◌≡◌, List, ℕ}
-use Rattle.eb3.specs.Answers.{Answer, refused, answered, Ran as Answer·ran}
+use Rattle.eb3.specs.Answers.{Answer, refused, answered, Ran as Answer_ran}
 use Rattle.eb3.specs.Operations.{run, ScratchAfter}
 use Rattle.mains.specs.declared.Totals.{Totals}
 use Rattle.engine.specs.declared.running.Ran.{Ran}
 use Rattle.engine.specs.declared.running.Ran.TheVariants.{Ended, Refused}
 
 -- The last term's size and the three counts.
-abbrev pub totals : Answer·ran → Totals
+abbrev pub totals : Answer_ran → Totals
 totals m = record { size = m.size; visible = m.visible; internal = m.internal; refused = m.refusals }
 
-unfoldable pub ran_as : Answer Answer·ran → Ran
+unfoldable pub ran_as : Answer Answer_ran → Ran
 ran_as (refused k) = Refused k
 ran_as (answered m) = Ended (totals m)
 

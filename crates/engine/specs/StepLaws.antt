@@ -19,9 +19,9 @@ use Rattle.eb3.specs.Admission.{admission}
 use Rattle.eb3.specs.Sizes.{reach}
 use Rattle.eb3.specs.Bytes.{words_in, word_count}
 use Rattle.eb3.specs.Memory.{cell_room}
-use Rattle.eb3.specs.Answers.{Answer, refused, answered, and_then, Moved as Answer·moved, Written, unwritten}
+use Rattle.eb3.specs.Answers.{Answer, refused, answered, and_then, Moved as Answer_moved, Written, unwritten}
 use Rattle.eb3.specs.Operations.{cells_needed, term_fits, memory_fits, even, term_in, event_in, listed, at_first, writing, moved, chosen, move, present}
-use Rattle.eb3.specs.Answers.{or-refused}
+use Rattle.eb3.specs.Answers.{or_refused}
 use Rattle.eb3.specs.Laws.Editions.{width_is_1}
 use Rattle.actions.specs.Codes.{action_code, Small}
 use Rattle.actions.specs.ActionLaws.{action_small}
@@ -35,59 +35,59 @@ use Rattle.engine.specs.Stepping.{moved_as, Done, stepped_from, stepped}
 
 -- ── one operation ──
 
-module _ (rules term memory : List ℕ) (next-term next-memory : List ℕ) where
+module _ (rules term memory : List ℕ) (next_term next_memory : List ℕ) where
   -- what follows the term follows both
-  both_known : (f : RuleSet → Term → Written Answer·moved) (R : RuleSet) (a : Answer Term)
-      → (writing next-term next-memory a λ E. f R E) ≡ (writing {X = RuleSet × Term} next-term next-memory (and_then a λ E. answered (R, E)) λ p. f p.0 p.1)
+  both_known : (f : RuleSet → Term → Written Answer_moved) (R : RuleSet) (a : Answer Term)
+      → (writing next_term next_memory a λ E. f R E) ≡ (writing {X = RuleSet × Term} next_term next_memory (and_then a λ E. answered (R, E)) λ p. f p.0 p.1)
   unfolding and_then
   both_known f R (refused k) = refl
   both_known f R (answered E) = refl
 
-  from_admitted : (f : RuleSet → Term → Written Answer·moved) (a : Answer RuleSet)
-      → (writing next-term next-memory a λ R. writing next-term next-memory (term_in R term) λ E. f R E)
-      ≡ (writing {X = RuleSet × Term} next-term next-memory (and_then a λ R. and_then (term_in R term) λ E. answered (R, E)) λ p. f p.0 p.1)
+  from_admitted : (f : RuleSet → Term → Written Answer_moved) (a : Answer RuleSet)
+      → (writing next_term next_memory a λ R. writing next_term next_memory (term_in R term) λ E. f R E)
+      ≡ (writing {X = RuleSet × Term} next_term next_memory (and_then a λ R. and_then (term_in R term) λ E. answered (R, E)) λ p. f p.0 p.1)
   unfolding and_then
   from_admitted f (refused k) = refl
   from_admitted f (answered R) = both_known f R (term_in R term)
 
-  pub move_stepped : (k : ℕ) (event : List ℕ) → move rules term memory k next-term next-memory ≡ stepped rules term memory false k event next-term next-memory
+  pub move_stepped : (k : ℕ) (event : List ℕ) → move rules term memory k next_term next_memory ≡ stepped rules term memory false k event next_term next_memory
   unfolding move stepped asked_of
-  move_stepped k event = from_admitted (λ R E. chosen R E memory next-term next-memory λ xs. get_elem? xs k) (admission rules)
+  move_stepped k event = from_admitted (λ R E. chosen R E memory next_term next_memory λ xs. get_elem? xs k) (admission rules)
 
   event_known : (R : RuleSet) (E : Term) (a : Answer Action)
-      → (writing next-term next-memory a λ ρ. chosen R E memory next-term next-memory (at_first ρ))
-      ≡ (writing next-term next-memory (and_then a λ ρ. answered (at_first ρ)) λ choose. chosen R E memory next-term next-memory choose)
+      → (writing next_term next_memory a λ ρ. chosen R E memory next_term next_memory (at_first ρ))
+      ≡ (writing next_term next_memory (and_then a λ ρ. answered (at_first ρ)) λ choose. chosen R E memory next_term next_memory choose)
   unfolding and_then
   event_known R E (refused k) = refl
   event_known R E (answered ρ) = refl
 
-  pub present_stepped : (k : ℕ) (event : List ℕ) → present rules term memory event next-term next-memory ≡ stepped rules term memory true k event next-term next-memory
+  pub present_stepped : (k : ℕ) (event : List ℕ) → present rules term memory event next_term next_memory ≡ stepped rules term memory true k event next_term next_memory
   unfolding present stepped asked_of
   present_stepped k event =
-      from_admitted (λ R E. writing next-term next-memory (event_in R event) λ ρ. chosen R E memory next-term next-memory (at_first ρ)) (admission rules)
-      ∙ ap (λ (f : RuleSet × Term → Written Answer·moved). writing next-term next-memory (given_in rules term) f)
+      from_admitted (λ R E. writing next_term next_memory (event_in R event) λ ρ. chosen R E memory next_term next_memory (at_first ρ)) (admission rules)
+      ∙ ap (λ (f : RuleSet × Term → Written Answer_moved). writing next_term next_memory (given_in rules term) f)
       (λ i p. event_known p.0 p.1 (event_in p.0 event) i)
 
   -- ── by what was given ──
 
   module _ (by_event : Bool) (k : ℕ) (event : List ℕ) where
-    pub step_refused : (j : ℕ) → given_in rules term ≡ refused j → Done (stepped rules term memory by_event k event next-term next-memory) (Refused j) next-term next-memory
+    pub step_refused : (j : ℕ) → given_in rules term ≡ refused j → Done (stepped rules term memory by_event k event next_term next_memory) (Refused j) next_term next_memory
     unfolding stepped moved_as
     step_refused j e =
-        let f : stepped rules term memory by_event k event next-term next-memory ≡ unwritten next-term next-memory j = ap (λ a. writing next-term next-memory a (stepped_from by_event k event memory next-term next-memory)) e in
-        subst (λ w. Done w (Refused j) next-term next-memory) (sym f) (record { answer = refl; term_after = refl; memory_after = refl })
+        let f : stepped rules term memory by_event k event next_term next_memory ≡ unwritten next_term next_memory j = ap (λ a. writing next_term next_memory a (stepped_from by_event k event memory next_term next_memory)) e in
+        subst (λ w. Done w (Refused j) next_term next_memory) (sym f) (record { answer = refl; term_after = refl; memory_after = refl })
 
     pub step_given : (R : RuleSet) (E : Term) → given_in rules term ≡ answered (R, E) → (r : Moved) (term' memory' : List ℕ)
-        → Done (stepped_from by_event k event memory next-term next-memory (R, E)) r term' memory' → Done (stepped rules term memory by_event k event next-term next-memory) r term' memory'
+        → Done (stepped_from by_event k event memory next_term next_memory (R, E)) r term' memory' → Done (stepped rules term memory by_event k event next_term next_memory) r term' memory'
     unfolding stepped
     step_given R E e r term' memory' d =
-        let f : stepped rules term memory by_event k event next-term next-memory ≡ stepped_from by_event k event memory next-term next-memory (R, E) = ap (λ a. writing next-term next-memory a (stepped_from by_event k event memory next-term next-memory)) e in
+        let f : stepped rules term memory by_event k event next_term next_memory ≡ stepped_from by_event k event memory next_term next_memory (R, E) = ap (λ a. writing next_term next_memory a (stepped_from by_event k event memory next_term next_memory)) e in
         subst (λ w. Done w r term' memory') (sym f) d
 
 -- ── what is asked for ──
 
 -- An event that is none is refused 11.
-stranger_number : (b : Bool) (o : Option Action) (j : ℕ) → pick b (or-refused Refusal.stranger o) (refused Refusal.stranger) ≡ refused j → j ≡ 11
+stranger_number : (b : Bool) (o : Option Action) (j : ℕ) → pick b (or_refused Refusal.stranger o) (refused Refusal.stranger) ≡ refused j → j ≡ 11
 stranger_number true none j e = let z : 11 ≡ j = cc in sym z
 stranger_number true (some ρ) j e = absurd (let z : ◌≡◌ {A = ℕ} 0 1 = cc in omega arith)
 stranger_number false o j e = let z : 11 ≡ j = cc in sym z
@@ -96,7 +96,7 @@ module _ (R : RuleSet) (form : Form R) (k : ℕ) (event : List ℕ) where
   event_so : (ρ : Action) → event_in R event ≡ answered ρ → Small ρ
   event_so ρ e = go (even event) (given_event R (words_in event)) refl e
     where
-      go : (b : Bool) (o : Option Action) → given_event R (words_in event) ≡ o → pick b (or-refused Refusal.stranger o) (refused Refusal.stranger) ≡ answered ρ → Small ρ
+      go : (b : Bool) (o : Option Action) → given_event R (words_in event) ≡ o → pick b (or_refused Refusal.stranger o) (refused Refusal.stranger) ≡ answered ρ → Small ρ
       go true none q f = absurd (let z : ◌≡◌ {A = ℕ} 0 1 = cc in omega arith)
       go true (some σ) q f =
           let h : σ ≡ ρ = cc in
@@ -131,42 +131,42 @@ module _ (R : RuleSet) (form : Form R) (k : ℕ) (event : List ℕ) where
 
 -- ── by the room there is ──
 
-module _ (R : RuleSet) (E : Term) (memory next-term next-memory : List ℕ) (by_event : Bool) (k : ℕ) (event : List ℕ) where
-  abbrev given : Written Answer·moved
-  given = stepped_from by_event k event memory next-term next-memory (R, E)
+module _ (R : RuleSet) (E : Term) (memory next_term next_memory : List ℕ) (by_event : Bool) (k : ℕ) (event : List ℕ) where
+  abbrev given : Written Answer_moved
+  given = stepped_from by_event k event memory next_term next_memory (R, E)
 
-  pub stranger_done : asked_of by_event k event R ≡ refused 11 → Done given (Refused 11) next-term next-memory
+  pub stranger_done : asked_of by_event k event R ≡ refused 11 → Done given (Refused 11) next_term next_memory
   unfolding moved_as
   stranger_done e =
-      let f : given ≡ unwritten next-term next-memory 11 = ap (λ a. writing next-term next-memory a λ choose. chosen R E memory next-term next-memory choose) e in
-      subst (λ w. Done w (Refused 11) next-term next-memory) (sym f) (record { answer = refl; term_after = refl; memory_after = refl })
+      let f : given ≡ unwritten next_term next_memory 11 = ap (λ a. writing next_term next_memory a λ choose. chosen R E memory next_term next_memory choose) e in
+      subst (λ w. Done w (Refused 11) next_term next_memory) (sym f) (record { answer = refl; term_after = refl; memory_after = refl })
 
   module _ (choose : List Move → Option Move) (e : asked_of by_event k event R ≡ answered choose) where
-    abbrev choice : Written Answer·moved
-    choice = writing next-term next-memory (or-refused Refusal.not_offered (choose (listed R E memory))) (moved R memory next-term next-memory)
+    abbrev choice : Written Answer_moved
+    choice = writing next_term next_memory (or_refused Refusal.not_offered (choose (listed R E memory))) (moved R memory next_term next_memory)
 
-    by_room : (b c d : Bool) → term_fits (reach R.edition.width E) next-term ≡ b → memory_fits R memory ≡ c → memory_fits R next-memory ≡ d → given ≡ pick (b && (c && d)) choice (unwritten next-term next-memory Refusal.space)
+    by_room : (b c d : Bool) → term_fits (reach R.edition.width E) next_term ≡ b → memory_fits R memory ≡ c → memory_fits R next_memory ≡ d → given ≡ pick (b && (c && d)) choice (unwritten next_term next_memory Refusal.space)
     by_room b c d p q r =
-        ap (λ a. writing next-term next-memory a λ f. chosen R E memory next-term next-memory f) e
-        ∙ (λ i. pick (p i && (q i && r i)) choice (unwritten next-term next-memory Refusal.space))
+        ap (λ a. writing next_term next_memory a λ f. chosen R E memory next_term next_memory f) e
+        ∙ (λ i. pick (p i && (q i && r i)) choice (unwritten next_term next_memory Refusal.space))
 
-    lacking : given ≡ unwritten next-term next-memory Refusal.space → Done given (Refused 9) next-term next-memory
+    lacking : given ≡ unwritten next_term next_memory Refusal.space → Done given (Refused 9) next_term next_memory
     unfolding moved_as
-    lacking f = subst (λ w. Done w (Refused 9) next-term next-memory) (sym f) (record { answer = refl; term_after = refl; memory_after = refl })
+    lacking f = subst (λ w. Done w (Refused 9) next_term next_memory) (sym f) (record { answer = refl; term_after = refl; memory_after = refl })
 
-    pub short_term : word_count next-term < reach R.edition.width E → Done given (Refused 9) next-term next-memory
-    short_term h = lacking (by_room false (memory_fits R memory) (memory_fits R next-memory) (lt-leb (reach R.edition.width E) (word_count next-term) h) refl refl)
+    pub short_term : word_count next_term < reach R.edition.width E → Done given (Refused 9) next_term next_memory
+    short_term h = lacking (by_room false (memory_fits R memory) (memory_fits R next_memory) (lt-leb (reach R.edition.width E) (word_count next_term) h) refl refl)
 
-    pub short_memory : reach R.edition.width E ≤ word_count next-term → cell_room memory < cells_needed R → Done given (Refused 9) next-term next-memory
+    pub short_memory : reach R.edition.width E ≤ word_count next_term → cell_room memory < cells_needed R → Done given (Refused 9) next_term next_memory
     short_memory h l =
-        lacking (by_room true false (memory_fits R next-memory) (le-leb (reach R.edition.width E) (word_count next-term) h) (lt-leb (cells_needed R) (cell_room memory) l) refl)
+        lacking (by_room true false (memory_fits R next_memory) (le-leb (reach R.edition.width E) (word_count next_term) h) (lt-leb (cells_needed R) (cell_room memory) l) refl)
 
-    pub short_next_memory : reach R.edition.width E ≤ word_count next-term → cells_needed R ≤ cell_room memory → cell_room next-memory < cells_needed R → Done given (Refused 9) next-term next-memory
+    pub short_next_memory : reach R.edition.width E ≤ word_count next_term → cells_needed R ≤ cell_room memory → cell_room next_memory < cells_needed R → Done given (Refused 9) next_term next_memory
     short_next_memory h l m =
-        lacking (by_room true true false (le-leb (reach R.edition.width E) (word_count next-term) h) (le-leb (cells_needed R) (cell_room memory) l) (lt-leb (cells_needed R) (cell_room next-memory) m))
+        lacking (by_room true true false (le-leb (reach R.edition.width E) (word_count next_term) h) (le-leb (cells_needed R) (cell_room memory) l) (lt-leb (cells_needed R) (cell_room next_memory) m))
 
-    pub with_room : reach R.edition.width E ≤ word_count next-term → cells_needed R ≤ cell_room memory → cells_needed R ≤ cell_room next-memory → (r : Moved) (term' memory' : List ℕ)
+    pub with_room : reach R.edition.width E ≤ word_count next_term → cells_needed R ≤ cell_room memory → cells_needed R ≤ cell_room next_memory → (r : Moved) (term' memory' : List ℕ)
         → Done choice r term' memory' → Done given r term' memory'
     with_room h l m r term' memory' d =
         subst (λ w. Done w r term' memory')
-        (sym (by_room true true true (le-leb (reach R.edition.width E) (word_count next-term) h) (le-leb (cells_needed R) (cell_room memory) l) (le-leb (cells_needed R) (cell_room next-memory) m))) d
+        (sym (by_room true true true (le-leb (reach R.edition.width E) (word_count next_term) h) (le-leb (cells_needed R) (cell_room memory) l) (le-leb (cells_needed R) (cell_room next_memory) m))) d

@@ -11,7 +11,7 @@ use Rattle.eb3.specs.Sizes.{size, reach}
 use Rattle.eb3.specs.Spelling.{words}
 use Rattle.eb3.specs.Bytes.{written}
 use Rattle.eb3.specs.Memory.{memory_words}
-use Rattle.eb3.specs.Answers.{Answer, refused, answered, Moved as Answer·moved, Written}
+use Rattle.eb3.specs.Answers.{Answer, refused, answered, Moved as Answer_moved, Written}
 use Rattle.eb3.specs.Operations.{writing, chosen}
 use Rattle.engine.specs.declared.stepping.Step.{Step}
 use Rattle.engine.specs.declared.stepping.Moved.{Moved}
@@ -26,12 +26,12 @@ unfoldable pub told : Action → ℕ → Step
 told internal n = record { size = n; visible = 0; label = 0; arguments = 0; first = 0; second = 0 }
 told (visible a) n = record { size = n; visible = 1; label = a.label; arguments = length a.arguments; first = get_or a.arguments 0 0; second = get_or a.arguments 1 0 }
 
-unfoldable pub moved_as : Answer Answer·moved → Moved
+unfoldable pub moved_as : Answer Answer_moved → Moved
 moved_as (refused k) = Refused k
 moved_as (answered m) = Made (told m.action m.size)
 
 -- With the lent buffers afterwards.
-pub record Done (w : Written Answer·moved) (r : Moved) (term' memory' : List ℕ) : Type 0 where
+pub record Done (w : Written Answer_moved) (r : Moved) (term' memory' : List ℕ) : Type 0 where
   pub answer : r ≡ moved_as w.answer
   pub term_after : term' ≡ w.term
   pub memory_after : memory' ≡ w.memory
@@ -43,18 +43,18 @@ abbrev pub reach_in_words : Term → ℕ
 reach_in_words E = reach 1 E
 
 -- Asked of a rule set and a term.
-abbrev pub stepped_from : Bool → ℕ → List ℕ → List ℕ → List ℕ → List ℕ → RuleSet × Term → Written Answer·moved
-stepped_from by_event k event memory next-term next-memory p =
-    writing next-term next-memory (asked_of by_event k event p.0) λ choose. chosen p.0 p.1 memory next-term next-memory choose
+abbrev pub stepped_from : Bool → ℕ → List ℕ → List ℕ → List ℕ → List ℕ → RuleSet × Term → Written Answer_moved
+stepped_from by_event k event memory next_term next_memory p =
+    writing next_term next_memory (asked_of by_event k event p.0) λ choose. chosen p.0 p.1 memory next_term next_memory choose
 
-unfoldable pub stepped : List ℕ → List ℕ → List ℕ → Bool → ℕ → List ℕ → List ℕ → List ℕ → Written Answer·moved
-stepped rules term memory by_event k event next-term next-memory =
-    writing next-term next-memory (given_in rules term) (stepped_from by_event k event memory next-term next-memory)
+unfoldable pub stepped : List ℕ → List ℕ → List ℕ → Bool → ℕ → List ℕ → List ℕ → List ℕ → Written Answer_moved
+stepped rules term memory by_event k event next_term next_memory =
+    writing next_term next_memory (given_in rules term) (stepped_from by_event k event memory next_term next_memory)
 
 -- What a move from given cells writes.
-abbrev pub moved_from : RuleSet → List Value → List ℕ → List ℕ → Move → Written Answer·moved
-moved_from R cells next-term next-memory x = record {
+abbrev pub moved_from : RuleSet → List Value → List ℕ → List ℕ → Move → Written Answer_moved
+moved_from R cells next_term next_memory x = record {
   answer = answered (record { action = x.action; size = size 1 x.successor });
-  term = written (words 1 x.successor) next-term;
-  memory = written (memory_words (state_after (Sem_M (attributes R)) cells x.action)) next-memory;
+  term = written (words 1 x.successor) next_term;
+  memory = written (memory_words (state_after (Sem_M (attributes R)) cells x.action)) next_memory;
 }

@@ -14,7 +14,7 @@ ghost use Rattle.eb3.specs.Sizes.{reach};
 ghost use Rattle.eb3.specs.Bytes.{word_count};
 ghost use Rattle.eb3.specs.Memory.{cell_room};
 ghost use Rattle.eb3.specs.Operations.{cells_needed, listed, writing, moved, move, present};
-ghost use Rattle.eb3.specs.Answers.{or-refused};
+ghost use Rattle.eb3.specs.Answers.{or_refused};
 ghost use Rattle.actions.specs.Codes.{action_code, Small};
 ghost use Rattle.listing.specs.Listing.{holding};
 ghost use Rattle.steps.specs.Counting.{Whole};
@@ -94,7 +94,7 @@ fn step_from(
     next_memory: &mut [u8],
 ) -> Moved
     requires { (length t.now ≤ 65535) × (length s.now ≤ 65535) × (c ≤ 1024) × (get_or tb.now 17 0 ≤ 64) × (get_or tb.now 210 0 ≤ 16) }
-    ensures { (R : RuleSet) (E : Term) (cells : List Value) → Described R E t.now tb.now dir.now s.now → c ≡ cells_needed R → Stored R cells m.old → reach 1 E ≤ word_count next_term.old → c ≤ cell_room next_memory.old → Done (writing next_term.old next_memory.old (or-refused Refusal.not_offered (get_elem? (moves ((Sem_M (attributes R)).satisfies cells) E) k)) (moved_from R cells next_term.old next_memory.old)) result next_term.new next_memory.new }
+    ensures { (R : RuleSet) (E : Term) (cells : List Value) → Described R E t.now tb.now dir.now s.now → c ≡ cells_needed R → Stored R cells m.old → reach 1 E ≤ word_count next_term.old → c ≤ cell_room next_memory.old → Done (writing next_term.old next_memory.old (or_refused Refusal.not_offered (get_elem? (moves ((Sem_M (attributes R)).satisfies cells) E) k)) (moved_from R cells next_term.old next_memory.old)) result next_term.new next_memory.new }
 {
     match take_move(s, m, k, next_term) {
         Taken::Made(action, size) => {
@@ -139,7 +139,7 @@ fn step_at(
     next_memory: &mut [u8],
 ) -> Moved
     requires { (length t.now ≤ 65535) × (length s.now ≤ 65535) × (c ≤ 1024) × (get_or tb.now 17 0 ≤ 64) × (get_or tb.now 210 0 ≤ 16) }
-    ensures { (R : RuleSet) (E : Term) (choose : List Move → Option Move) → Described R E t.now tb.now dir.now s.now → c ≡ cells_needed R → c ≤ cell_room memory.now → reach 1 E ≤ word_count next_term.old → c ≤ cell_room next_memory.old → Chooses by_event x choose → Done (writing next_term.old next_memory.old (or-refused Refusal.not_offered (choose (listed R E memory.now))) (moved R memory.now next_term.old next_memory.old)) result next_term.new next_memory.new }
+    ensures { (R : RuleSet) (E : Term) (choose : List Move → Option Move) → Described R E t.now tb.now dir.now s.now → c ≡ cells_needed R → c ≤ cell_room memory.now → reach 1 E ≤ word_count next_term.old → c ≤ cell_room next_memory.old → Chooses by_event x choose → Done (writing next_term.old next_memory.old (or_refused Refusal.not_offered (choose (listed R E memory.now))) (moved R memory.now next_term.old next_memory.old)) result next_term.new next_memory.new }
 {
     let mut m = [0u16; 2084];
     load_store(

@@ -21,7 +21,7 @@ use Rattle.terms.specs.Given.{given}
 use Rattle.terms.specs.Alike.{given_term_alike}
 use Rattle.actions.specs.Codes.{action_code, ActionAt}
 use Rattle.actions.specs.ActionLaws.{action_small}
-use Rattle.events.specs.declared.Event.TheVariants.{Action as Event·action, Stranger}
+use Rattle.events.specs.declared.Event.TheVariants.{Action as Event_action, Stranger}
 use Rattle.events.specs.Events.{event_as}
 use Rattle.events.proofs.Leaves.{positive, event_of, event_is_leaf, internal_first, action_first, other_first}
 
@@ -61,7 +61,7 @@ module _ (T s : List ℕ) (R : RuleSet) (form : Form R) (d : Declares T R) where
           (E, record { spelled = x.0 ∙ ap (λ w. words w E) (width_is_1 form); running = x.1; event = event_is_leaf R form s ∙ ap event_of f })
 
   module _ (E : Term) (t : Spelt E) where
-    internal_event : get_or s 0 0 ≡ 20 → Event·action 0 ≡ event_as (given_event R s)
+    internal_event : get_or s 0 0 ≡ 20 → Event_action 0 ≡ event_as (given_event R s)
     unfolding event_as action_code
     internal_event w = sym (ap event_as (t.event ∙ internal_first E (sym (ap (λ u. get_or u 0 0) t.spelled) ∙ w)))
 
@@ -77,14 +77,14 @@ module _ (T s : List ℕ) (R : RuleSet) (form : Form R) (d : Declares T R) where
     closed = λ z. let w : ⊥ = omega arith in w;
   }
 
-  action_event : (E : Term) → Spelt E → get_or s 0 0 ≡ 21 → (code : ℕ) → ((a : VisibleAction) (rest : List ℕ) → ActionAt (drop 1 s) a rest → code ≡ action_code (visible a)) → Event·action code ≡ event_as (given_event R s)
+  action_event : (E : Term) → Spelt E → get_or s 0 0 ≡ 21 → (code : ℕ) → ((a : VisibleAction) (rest : List ℕ) → ActionAt (drop 1 s) a rest → code ≡ action_code (visible a)) → Event_action code ≡ event_as (given_event R s)
   unfolding event_as
   action_event E t w code h = go (action_first E (sym (ap (λ u. get_or u 0 0) t.spelled) ∙ w))
     where
-      go : (a : VisibleAction) × (E ≡ Perform a) → Event·action code ≡ event_as (given_event R s)
+      go : (a : VisibleAction) × (E ≡ Perform a) → Event_action code ≡ event_as (given_event R s)
       go x =
           let u : Spelt (Perform x.0) = subst Spelt x.1 t in
-          ap Event·action (h x.0 [] (action_there x.0 u)) ∙ sym (ap event_as u.event)
+          ap Event_action (h x.0 [] (action_there x.0 u)) ∙ sym (ap event_as u.event)
 
 -- ── the ways of returning ──
 
@@ -97,14 +97,14 @@ module _ (T s : List ℕ) (g : Given) (e : g ≡ given (given_term (declared T) 
     term_given : (R : RuleSet) (form : Form R) (d : Declares T R) → (E : Term) × Spelt T s R form d E
     term_given R form d = some_given T s R form d r b (sym f ∙ at_rules T s R form d g e)
 
-    pub given_internal : w ≡ 20 → (R : RuleSet) → Form R → Declares T R → Event·action 0 ≡ event_as (given_event R s)
+    pub given_internal : w ≡ 20 → (R : RuleSet) → Form R → Declares T R → Event_action 0 ≡ event_as (given_event R s)
     given_internal k R form d = let x : (E : Term) × Spelt T s R form d E = term_given R form d in internal_event T s R form d x.0 x.1 (sym h ∙ k)
 
     pub given_other : (Unit {0} × (w ≡ 20 → ⊥)) × (w ≡ 21 → ⊥) → (R : RuleSet) → Form R → Declares T R → Stranger ≡ event_as (given_event R s)
     given_other k R form d = let x : (E : Term) × Spelt T s R form d E = term_given R form d in other_event T s R form d x.0 x.1 (λ z. k.0.1 (h ∙ z)) (λ z. k.1 (h ∙ z))
 
     pub given_action : w ≡ 21 → (t : List ℕ) → t ≡ drop 1 s → (code : ℕ) → ((a : VisibleAction) (rest : List ℕ) → ActionAt t a rest → code ≡ action_code (visible a))
-        → (R : RuleSet) → Form R → Declares T R → Event·action code ≡ event_as (given_event R s)
+        → (R : RuleSet) → Form R → Declares T R → Event_action code ≡ event_as (given_event R s)
     given_action k t i code c R form d =
         let x : (E : Term) × Spelt T s R form d E = term_given R form d in
         action_event T s R form d x.0 x.1 (sym h ∙ k) code (λ a rest z. c a rest (subst (λ u. ActionAt u a rest) (sym i) z))

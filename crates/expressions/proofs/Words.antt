@@ -98,7 +98,7 @@ unfolding truth equal
 equal_itself undefined = refl
 equal_itself (number n) = rw (eq-eqb n n refl)
 
-module _ (a b : ℕ) (small-a : a < 65536) (small_b : b < 65536) where
+module _ (a b : ℕ) (small_a : a < 65536) (small_b : b < 65536) where
   pub same_words : a ≡ b → Same a b 1
   same_words e = (sym (equal_itself (decode 65534 a)) ∙ ap (λ w. truth (equal (decode 65534 a) (decode 65534 w))) e, lit< tt)
 
@@ -150,21 +150,21 @@ pub word_past : (M : List ℕ) (i : ℕ) → length M ≤ i → (65535 ≡ store
 unfolding stored
 word_past M i h = (sym (get_or-eq_default M 65535 h), lit< tt)
 
-module _ (M : List ℕ) (at f x n : ℕ) (is-n : n ≡ stored M (4 + 2 * f)) where
+module _ (M : List ℕ) (at f x n : ℕ) (is_n : n ≡ stored M (4 + 2 * f)) where
   pub cell_there : (k r : ℕ) → n < 65536 → x < n → k ≡ stored M (4 + 2 * f + 1) → r ≡ stored M (at + (k + x)) → r < 65536
       → (r ≡ encode 65535 (reading_in M at f (decode 65534 x ∷ []))) × (r < 65536)
   unfolding reading_in apply_in_domain cell_in
-  cell_there k r s h is-k e l =
+  cell_there k r s h is_k e l =
       let m : x < 65535 = omega arith in
-      let i : stored M (at + (stored M (4 + 2 * f + 1) + x)) ≡ r = ap (λ j. stored M (at + (j + x))) (sym is-k) ∙ sym e in
-      (rw (decode_number x m, ← is-n, lt-ltb x n h, i) (sym (word_of_value r l)), l)
+      let i : stored M (at + (stored M (4 + 2 * f + 1) + x)) ≡ r = ap (λ j. stored M (at + (j + x))) (sym is_k) ∙ sym e in
+      (rw (decode_number x m, ← is_n, lt-ltb x n h, i) (sym (word_of_value r l)), l)
 
   pub cell_outside : x < 65536 → n ≤ x → (65535 ≡ encode 65535 (reading_in M at f (decode 65534 x ∷ []))) × (65535 < 65536)
   unfolding reading_in apply_in_domain encode
   cell_outside s h = go (dec_lt x 65535)
     where
       go : Dec (x < 65535) → (65535 ≡ encode 65535 (reading_in M at f (decode 65534 x ∷ []))) × (65535 < 65536)
-      go (yes l) = (rw (decode_number x l, ← is-n, le-ltb x n h), lit< tt)
+      go (yes l) = (rw (decode_number x l, ← is_n, le-ltb x n h), lit< tt)
       go (no l) =
           let k : 65535 ≤ x = omega arith in
           (rw (decode_mark x k), lit< tt)

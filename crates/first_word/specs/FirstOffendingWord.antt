@@ -23,7 +23,7 @@ nothing_declared = record { domains = []; labels = []; functions = []; processes
 
 -- Whose parameters are declared.
 pub data Owner : Type 0 where
-  of-label of-process : Owner
+  of_label of_process : Owner
 
 -- What one word is due to be. In terms, `lower` are the processes that a call may name, Γ the variables in scope, both by domains.
 pub data Due : Type 0 where
@@ -53,7 +53,7 @@ pub data Due : Type 0 where
   argument_constant : (d n : ℕ) → List ℕ → Due
   argument_variable : (Γ : List ℕ) (d : ℕ) → Due
   -- In a running term, which has no variables and no calls; 30 is done. Its arguments are constants: an element of domain d.
-  running-code running-label : Due
+  running_code running_label : Due
   element_code : (d : ℕ) → Due
   -- The words still due with this one, and the lower words before it.
   element_constant : (d n : ℕ) → List ℕ → Due
@@ -124,12 +124,12 @@ term_operands L D lower Γ c =
 abbrev pub running_operands : Edition → Declared → ℕ → Option (List Due)
 running_operands L D c =
     pick (eqb c 20) (some [])
-    (pick (eqb c 21) (some (running-label ∷ []))
-    (pick (eqb c 22) (some (running-code ∷ running-code ∷ []))
-    (pick (eqb c 23) (some (running-code ∷ running-code ∷ []))
-    (pick (eqb c 24) (some (running-code ∷ []))
-    (pick (eqb c 25) (some (mask D ++ (running-code ∷ running-code ∷ [])))
-    (pick (eqb c 26) (some (condition_code (guard_scope L D 0) ∷ running-code ∷ []))
+    (pick (eqb c 21) (some (running_label ∷ []))
+    (pick (eqb c 22) (some (running_code ∷ running_code ∷ []))
+    (pick (eqb c 23) (some (running_code ∷ running_code ∷ []))
+    (pick (eqb c 24) (some (running_code ∷ []))
+    (pick (eqb c 25) (some (mask D ++ (running_code ∷ running_code ∷ [])))
+    (pick (eqb c 26) (some (condition_code (guard_scope L D 0) ∷ running_code ∷ []))
     (pick (eqb c 30) (some [])
     none)))))))
 
@@ -208,8 +208,8 @@ tests L D (mask_word n) w = by_reference (ltb w (2 ^ min n 16))
 tests L D (argument_code Γ d) w = by_form (is_code (argument_operands L Γ d w))
 tests L D (argument_constant d n vs) w = record { form = at_most L.top n vs w; reference = true; kind = element_below (get_or D.domains d 0) n vs w }
 tests L D (argument_variable Γ d) w = record { form = true; reference = ltb w (length Γ); kind = eqb (get_or Γ w 0) d }
-tests L D running-code w = by_form (is_code (running_operands L D w))
-tests L D running-label w = by_reference (ltb w (length D.labels))
+tests L D running_code w = by_form (is_code (running_operands L D w))
+tests L D running_label w = by_reference (ltb w (length D.labels))
 tests L D (element_code d) w = by_form (eqb w 1)
 tests L D (element_constant d n vs) w = record { form = element_form n w; reference = true; kind = element_below (get_or D.domains d 0) n vs w }
 
@@ -229,8 +229,8 @@ next D ds = record { declared = D; due = ds }
 
 -- With all its parameters, a label is declared; so is a process, and its term is due.
 abbrev pub declare : Declared → Owner → List ℕ → Next
-declare D of-label ds = next (record { domains = D.domains; labels = D.labels ++ (ds ∷ []); functions = D.functions; processes = D.processes }) []
-declare D of-process ds =
+declare D of_label ds = next (record { domains = D.domains; labels = D.labels ++ (ds ∷ []); functions = D.functions; processes = D.processes }) []
+declare D of_process ds =
     next (record { domains = D.domains; labels = D.labels; functions = D.functions; processes = D.processes ++ (ds ∷ []) }) (term_code D.processes ds ∷ [])
 
 -- n parameters more, after those of ds.
@@ -260,8 +260,8 @@ parameter_counts L D n (suc k) counts = next D (function_parameter_count n k cou
 -- n processes, the last of them main, which has no parameter.
 abbrev pub processes_due : ℕ → List Due
 processes_due zero = []
-processes_due (suc zero) = parameter_count of-process 0 ∷ []
-processes_due (suc (suc n)) = parameter_count of-process Limits.process_parameters ∷ processes_due (suc n)
+processes_due (suc zero) = parameter_count of_process 0 ∷ []
+processes_due (suc (suc n)) = parameter_count of_process Limits.process_parameters ∷ processes_due (suc n)
 
 -- The words of a constant after one that is not its last.
 abbrev pub more_words : (ℕ → List ℕ → Due) → ℕ → List ℕ → ℕ → List Due
@@ -275,7 +275,7 @@ arguments Γ ds = map (argument_code Γ) ds
 abbrev pub follow : Edition → Declared → Due → ℕ → Next
 follow L D domain_count w = next D (replicate w domain_size)
 follow L D domain_size w = next (record { domains = D.domains ++ (w ∷ []); labels = D.labels; functions = D.functions; processes = D.processes }) []
-follow L D label_count w = next D (replicate w (parameter_count of-label Limits.label_parameters))
+follow L D label_count w = next D (replicate w (parameter_count of_label Limits.label_parameters))
 follow L D function_count w = pick L.counts_written (parameter_counts L D w w []) (declare_functions L D w (replicate w 1))
 follow L D (function_parameter_count n k counts) w = parameter_counts L D n k (counts ++ (w ∷ []))
 follow L D process_count w = next D (processes_due w)
@@ -296,8 +296,8 @@ follow L D (mask_word n) w = next D []
 follow L D (argument_code Γ d) w = next D (operands (argument_operands L Γ d w))
 follow L D (argument_constant d n vs) w = next D (more_words (argument_constant d) n vs w)
 follow L D (argument_variable Γ d) w = next D []
-follow L D running-code w = next D (operands (running_operands L D w))
-follow L D running-label w = next D (map element_code (get_or D.labels w []))
+follow L D running_code w = next D (operands (running_operands L D w))
+follow L D running_label w = next D (map element_code (get_or D.labels w []))
 follow L D (element_code d) w = next D (element_constant d L.width [] ∷ [])
 follow L D (element_constant d n vs) w = next D (more_words (element_constant d) n vs w)
 

@@ -8,7 +8,7 @@ use Rattle.eb3.specs.Spelling.{words}
 use Rattle.eb3.specs.RuleSets.{Function, Process, RuleSet}
 use Rattle.eb3.specs.TermReading.{term_of_action}
 use Rattle.eb3.specs.WellFormedness.{WellFormedTerm, WellFormedAction}
-use Rattle.first_word.specs.FirstOffendingWord.{Declared, running-code, verdict}
+use Rattle.first_word.specs.FirstOffendingWord.{Declared, running_code, verdict}
 
 -- What a rule set declares.
 abbrev pub declared_by : RuleSet → Declared
@@ -21,7 +21,7 @@ declared_by R = record {
 
 -- The first word that is not due in a running term, by the number of its test; none: the words are exactly one.
 abbrev pub first_stray : RuleSet → List ℕ → Option ℕ
-first_stray R words = verdict 0 R.edition words (declared_by R) (running-code ∷ [])
+first_stray R words = verdict 0 R.edition words (declared_by R) (running_code ∷ [])
 
 pub record GivenWords (R : RuleSet) : Type 0 where
   -- The words of a running term of R: none is stray, none is missing, none is left.

@@ -23,7 +23,7 @@ use Rattle.eb3.specs.TermReading.{term_of_action, given_event}
 use Rattle.eb3.specs.Laws.TermReading.{given_event_exact}
 use Rattle.eb3.specs.Answers.{refused}
 use Rattle.eb3.specs.Operations.{even, event_in}
-use Rattle.eb3.specs.Answers.{or-refused}
+use Rattle.eb3.specs.Answers.{or_refused}
 use Rattle.eb3.specs.Laws.Editions.{width_is_1}
 use Rattle.declarations.specs.Declaring.{Declares}
 use Rattle.cells.specs.Preparing.{Loaded}
@@ -31,7 +31,7 @@ use Rattle.cells.specs.MemoryLaws.{loaded_words}
 use Rattle.actions.specs.Codes.{action_code}
 use Rattle.events.specs.Events.{event_as}
 use Rattle.events.specs.declared.Event.{Event}
-use Rattle.events.specs.declared.Event.TheVariants.{Action as Event·action, Stranger as Event·stranger}
+use Rattle.events.specs.declared.Event.TheVariants.{Action as Event_action, Stranger as Event_stranger}
 use Rattle.given.specs.declared.asking.Asked.{Asked}
 use Rattle.given.specs.declared.asking.Asked.TheVariants.{Wanted, Stranger}
 use Rattle.given.specs.Asking.{asked_as}
@@ -59,12 +59,12 @@ module _ (R : RuleSet) (form : Form R) where
 
 -- ── what the reading says ──
 
-stranger_from : (o : Option Action) → Event·stranger ≡ event_as o → o ≡ none
+stranger_from : (o : Option Action) → Event_stranger ≡ event_as o → o ≡ none
 unfolding event_as
 stranger_from none e = refl
 stranger_from (some ρ) e = absurd (let z : ◌≡◌ {A = ℕ} 0 1 = cc in omega arith)
 
-action_from : (o : Option Action) (code : ℕ) → Event·action code ≡ event_as o → (ρ : Action) × (o ≡ some ρ) × (code ≡ action_code ρ)
+action_from : (o : Option Action) (code : ℕ) → Event_action code ≡ event_as o → (ρ : Action) × (o ≡ some ρ) × (code ≡ action_code ρ)
 unfolding event_as
 action_from none code e = absurd (let z : ◌≡◌ {A = ℕ} 0 1 = cc in omega arith)
 action_from (some ρ) code e = (ρ, refl, cc)
@@ -72,7 +72,7 @@ action_from (some ρ) code e = (ρ, refl, cc)
 module _ (event : List ℕ) (R : RuleSet) (k : ℕ) where
   -- What is asked for, where the number of bytes is even or odd.
   asked_at : Bool → Asked
-  asked_at b = asked_as true k (pick b (or-refused Refusal.stranger (given_event R (words_in event))) (refused Refusal.stranger))
+  asked_at b = asked_as true k (pick b (or_refused Refusal.stranger (given_event R (words_in event))) (refused Refusal.stranger))
 
   odd_stranger : (length event % 2 ≡ 0 → ⊥) → Stranger ≡ asked_as true k (event_in R event)
   unfolding asked_as asked_at
@@ -84,14 +84,14 @@ module _ (event : List ℕ) (R : RuleSet) (k : ℕ) where
   none_asked e = go (even event)
     where
       go : (b : Bool) → Stranger ≡ asked_at b
-      go true = sym (ap (λ o. asked_as true k (or-refused Refusal.stranger o)) e)
+      go true = sym (ap (λ o. asked_as true k (or_refused Refusal.stranger o)) e)
       go false = refl
 
-  some_asked : length event % 2 ≡ 0 → (code z : ℕ) → Event·action code ≡ event_as (given_event R (words_in event)) → z ≡ code → Wanted z ≡ asked_as true k (event_in R event)
+  some_asked : length event % 2 ≡ 0 → (code z : ℕ) → Event_action code ≡ event_as (given_event R (words_in event)) → z ≡ code → Wanted z ≡ asked_as true k (event_in R event)
   unfolding asked_as asked_at
   some_asked ev code z e ez =
       let p = action_from (given_event R (words_in event)) code e in
-      ap Wanted (ez ∙ p.2) ∙ sym (ap asked_at (eq-eqb (length event % 2) 0 ev) ∙ ap (λ o. asked_as true k (or-refused Refusal.stranger o)) p.1)
+      ap Wanted (ez ∙ p.2) ∙ sym (ap asked_at (eq-eqb (length event % 2) 0 ev) ∙ ap (λ o. asked_as true k (or_refused Refusal.stranger o)) p.1)
 
 -- ── the ways of returning ──
 
@@ -111,10 +111,10 @@ module _ (T event : List ℕ) where
     told_event : (R : RuleSet) → Form R → Declares T R → g ≡ event_as (given_event R (words_in event))
     told_event R form d = told R form d ∙ ap (λ u. event_as (given_event R u)) (es ∙ loaded_words event M M' (word_count event) refl room l)
 
-    pub asked_stranger : g ≡ Event·stranger → EventAsked Stranger
+    pub asked_stranger : g ≡ Event_stranger → EventAsked Stranger
     asked_stranger f R form d k = none_asked event R k (stranger_from (given_event R (words_in event)) (sym f ∙ told_event R form d))
 
-    pub asked_action : length event % 2 ≡ 0 → (code z : ℕ) → g ≡ Event·action code → z ≡ code → EventAsked (Wanted z)
+    pub asked_action : length event % 2 ≡ 0 → (code z : ℕ) → g ≡ Event_action code → z ≡ code → EventAsked (Wanted z)
     asked_action ev code z f ez R form d k = some_asked event R k ev code z (sym f ∙ told_event R form d) ez
 
   -- By a number, or by an event.

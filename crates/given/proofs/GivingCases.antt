@@ -23,9 +23,9 @@ use Rattle.eb3.specs.WellFormedness.{Form, Running}
 use Rattle.eb3.specs.TermReading.{given_term}
 use Rattle.eb3.specs.Laws.TermReading.{given_term_exact}
 use Rattle.eb3.specs.Answers.{Answer, refused, answered}
-use Rattle.eb3.specs.Laws.Answers.{not_both, answered-injective}
+use Rattle.eb3.specs.Laws.Answers.{not_both, answered_injective}
 use Rattle.eb3.specs.Operations.{even, term_in}
-use Rattle.eb3.specs.Answers.{or-refused}
+use Rattle.eb3.specs.Answers.{or_refused}
 use Rattle.eb3.specs.Laws.Editions.{width_is_1}
 use Rattle.arguments.specs.Tables.{declared}
 use Rattle.declarations.specs.Declaring.{Declares}
@@ -35,9 +35,9 @@ use Rattle.cells.specs.MemoryLaws.{loaded_words}
 use Rattle.terms.specs.Given.{given}
 use Rattle.terms.specs.Alike.{given_term_alike}
 use Rattle.terms.specs.declared.Given.{Given as Weighed}
-use Rattle.terms.specs.declared.Given.TheVariants.{Running as Weighed·running, Wrong}
+use Rattle.terms.specs.declared.Given.TheVariants.{Running as Weighed_running, Wrong}
 use Rattle.given.specs.declared.giving.Given.{Given}
-use Rattle.given.specs.declared.giving.Given.TheVariants.{Term as Given·term, Refused}
+use Rattle.given.specs.declared.giving.Given.TheVariants.{Term as Given_term, Refused}
 use Rattle.given.specs.Giving.{checked_as, Spelled, TermChecked}
 
 -- Loaded from a buffer's front, all its words: as a part that begins there.
@@ -59,7 +59,7 @@ unfolding given
 given_wrong none e = refl
 given_wrong (some E) e = absurd (let z : ◌≡◌ {A = ℕ} 0 1 = cc in omega arith)
 
-given_running : (o : Option Term) (g b : ℕ) → Weighed·running g b ≡ given o → (E : Term) × (o ≡ some E) × (g ≡ reach 1 E)
+given_running : (o : Option Term) (g b : ℕ) → Weighed_running g b ≡ given o → (E : Term) × (o ≡ some E) × (g ≡ reach 1 E)
 unfolding given
 given_running none g b e = absurd (let z : ◌≡◌ {A = ℕ} 0 1 = cc in omega arith)
 given_running (some E) g b e = (E, refl, cc)
@@ -73,13 +73,13 @@ module _ (R : RuleSet) (form : Form R) (c : ℕ) (term ws : List ℕ) where
   refused_so e = by_answer (refused Refusal.term) (Refused 10) e refl (λ E f. absurd (not_both 10 E f))
 
   pub checked_odd : (length term % 2 ≡ 0 → ⊥) → TermChecked R c term ws (Refused 10)
-  checked_odd h = refused_so (ap (λ b. pick b (or-refused Refusal.term (given_term R (words_in term))) (refused Refusal.term)) (ne_eqb (length term % 2) 0 h))
+  checked_odd h = refused_so (ap (λ b. pick b (or_refused Refusal.term (given_term R (words_in term))) (refused Refusal.term)) (ne_eqb (length term % 2) 0 h))
 
   module _ (ev : length term % 2 ≡ 0) where
-    by_term : (o : Option Term) → given_term R (words_in term) ≡ o → term_in R term ≡ or-refused Refusal.term o
+    by_term : (o : Option Term) → given_term R (words_in term) ≡ o → term_in R term ≡ or_refused Refusal.term o
     by_term o e =
-        ap (λ b. pick b (or-refused Refusal.term (given_term R (words_in term))) (refused Refusal.term)) (eq-eqb (length term % 2) 0 ev)
-        ∙ ap (or-refused Refusal.term) e
+        ap (λ b. pick b (or_refused Refusal.term (given_term R (words_in term))) (refused Refusal.term)) (eq-eqb (length term % 2) 0 ev)
+        ∙ ap (or_refused Refusal.term) e
 
     read_so : (E : Term) → given_term R (words_in term) ≡ some E → (words_in term ≡ words 1 E) × Running R E
     read_so E e =
@@ -102,10 +102,10 @@ module _ (R : RuleSet) (form : Form R) (c : ℕ) (term ws : List ℕ) where
       pub checked_wrong : g ≡ Wrong → TermChecked R c term ws (Refused 10)
       checked_wrong f = refused_so (by_term none (given_wrong (given_term R (words_in term)) (sym f ∙ told)))
 
-      pub checked_running : (x y z : ℕ) → g ≡ Weighed·running x y → z ≡ x → take (word_count term) ws ≡ s → TermChecked R c term ws (Given·term c z)
+      pub checked_running : (x y z : ℕ) → g ≡ Weighed_running x y → z ≡ x → take (word_count term) ws ≡ s → TermChecked R c term ws (Given_term c z)
       unfolding checked_as
       checked_running x y z f ez l =
           let p = given_running (given_term R (words_in term)) x y (sym f ∙ told) in
           let q = read_so p.0 p.1 in
-          by_answer (answered p.0) (Given·term c z) (by_term (some p.0) p.1) (ap (Given·term c) (ez ∙ p.2))
-          (λ E h. subst (λ F. Spelled R F (take (word_count term) ws)) (answered-injective p.0 E h) (record { words_are = l ∙ same ∙ q.0; running = q.1 }))
+          by_answer (answered p.0) (Given_term c z) (by_term (some p.0) p.1) (ap (Given_term c) (ez ∙ p.2))
+          (λ E h. subst (λ F. Spelled R F (take (word_count term) ws)) (answered_injective p.0 E h) (record { words_are = l ∙ same ∙ q.0; running = q.1 }))

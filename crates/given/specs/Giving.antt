@@ -14,14 +14,14 @@ use Rattle.eb3.specs.Operations.{cells_needed, term_in}
 use Rattle.declarations.specs.Declaring.{Declares}
 use Rattle.declarations.specs.Directory.{Directory}
 use Rattle.given.specs.declared.giving.Given.{Given}
-use Rattle.given.specs.declared.giving.Given.TheVariants.{Term as Given·term, Refused}
+use Rattle.given.specs.declared.giving.Given.TheVariants.{Term as Given_term, Refused}
 
 -- ── the term ──
 
 -- The cells of its rule set and the term's reach, or the refusal's number.
 unfoldable pub checked_as : ℕ → Answer Term → Given
 checked_as c (refused k) = Refused k
-checked_as c (answered E) = Given·term c (reach 1 E)
+checked_as c (answered E) = Given_term c (reach 1 E)
 
 -- s is a running term of R.
 pub record Spelled (R : RuleSet) (E : Term) (s : List ℕ) : Type 0 where
@@ -40,7 +40,7 @@ given_in rules term = and_then (admission rules) λ R. and_then (term_in R term)
 
 unfoldable pub given_as : Answer (RuleSet × Term) → Given
 given_as (refused k) = Refused k
-given_as (answered p) = Given·term (cells_needed p.0) (reach 1 p.1)
+given_as (answered p) = Given_term (cells_needed p.0) (reach 1 p.1)
 
 -- What is known of both: the stream, the tables and the directory, and the term's words.
 pub record Described (R : RuleSet) (E : Term) (t T D s : List ℕ) : Type 0 where

@@ -13,7 +13,7 @@ use Rattle.eb3.specs.Admission.{admission}
 use Rattle.eb3.specs.RuleSets.{RuleSet}
 use Rattle.eb3.specs.WellFormedness.{Form}
 use Rattle.eb3.specs.Answers.{Answer, refused, answered, and_then}
-use Rattle.eb3.specs.Laws.Answers.{and-then-answered, answered-injective, not_both}
+use Rattle.eb3.specs.Laws.Answers.{and_then_answered, answered_injective, not_both}
 use Rattle.eb3.specs.Operations.{cells_needed, term_in}
 use Rattle.eb3.specs.Laws.Editions.{width_is_1}
 use Rattle.weights.specs.declared.Limits.{Limits}
@@ -22,7 +22,7 @@ use Rattle.cells.specs.Readying.{few}
 use Rattle.steps.specs.Storing.{Ruled}
 use Rattle.steps.specs.RuledLaws.{tables_few, ruled_there}
 use Rattle.given.specs.declared.giving.Given.{Given}
-use Rattle.given.specs.declared.giving.Given.TheVariants.{Term as Given·term, Refused}
+use Rattle.given.specs.declared.giving.Given.TheVariants.{Term as Given_term, Refused}
 use Rattle.admission.specs.Knowing.{Known}
 use Rattle.given.specs.Giving.{checked_as, TermChecked, given_in, given_as, Described, GivenDone}
 
@@ -48,8 +48,8 @@ module _ (rules term words₀ : List ℕ) (n : ℕ) (words' T D ws : List ℕ) (
 
     described_so : TermChecked R l.cells term ws (checked_as l.cells (term_in R term)) → (Q : RuleSet) (E : Term) → given_in rules term ≡ answered (Q, E) → Described Q E (drop 2 (stream rules)) T D (take (word_count term) ws)
     described_so h Q E e =
-        let p = and-then-answered (term_in R term) (λ F. answered (R, F)) (Q, E) (sym read_so ∙ e) in
-        let q : ◌≡◌ {A = RuleSet × Term} (R, p.0) (Q, E) = answered-injective (R, p.0) (Q, E) p.2 in
+        let p = and_then_answered (term_in R term) (λ F. answered (R, F)) (Q, E) (sym read_so ∙ e) in
+        let q : ◌≡◌ {A = RuleSet × Term} (R, p.0) (Q, E) = answered_injective (R, p.0) (Q, E) p.2 in
         subst (λ (x : RuleSet × Term). Described x.0 x.1 (drop 2 (stream rules)) T D (take (word_count term) ws)) q
         (record { form = k.well.form; directory = k.directory; term = h.spelled p.0 p.1 })
 
@@ -80,7 +80,7 @@ pub record Found (a : Answer (RuleSet × Term)) (c g : ℕ) : Type 0 where
   pub cells_are : c ≡ cells_needed rule_set
   pub reach_is : g ≡ reach 1 running_term
 
-found_from : (a : Answer (RuleSet × Term)) (c g : ℕ) → Given·term c g ≡ given_as a → Found a c g
+found_from : (a : Answer (RuleSet × Term)) (c g : ℕ) → Given_term c g ≡ given_as a → Found a c g
 unfolding given_as
 found_from (refused j) c g e = absurd (let z : ◌≡◌ {A = ℕ} 0 1 = cc in omega arith)
 found_from (answered p) c g e = record { rule_set = p.0; running_term = p.1; given_so = refl; cells_are = cc; reach_is = cc }
@@ -89,7 +89,7 @@ module _ (rules term words₀ : List ℕ) (n : ℕ) (r : Given) (words' T D ws :
   pub told_refused : (k : ℕ) → r ≡ Refused k → given_in rules term ≡ refused k
   told_refused k e = refused_from (given_in rules term) k (sym e ∙ d.answer)
 
-  pub told_found : (c g : ℕ) → r ≡ Given·term c g → Found (given_in rules term) c g
+  pub told_found : (c g : ℕ) → r ≡ Given_term c g → Found (given_in rules term) c g
   told_found c g e = found_from (given_in rules term) c g (sym e ∙ d.answer)
 
 -- ── what is described ──

@@ -22,8 +22,8 @@ use Rattle.listing.specs.ShownLaws.{shown_all, shown_below}
 
 -- ── the whole ──
 
-pub sound-lost : (entry exit : List ℕ) → length exit ≡ length entry → Sound entry exit full
-sound-lost entry exit h = record { same_length = h; bounded = le_refl full; count_bounded = λ z. absurd (omega (arith, z)) }
+pub sound_lost : (entry exit : List ℕ) → length exit ≡ length entry → Sound entry exit full
+sound_lost entry exit h = record { same_length = h; bounded = le_refl full; count_bounded = λ z. absurd (omega (arith, z)) }
 
 pub never_full : {A : Type 0} → full < full → A
 never_full z = absurd (omega (arith, z))
@@ -36,8 +36,8 @@ pub listed_of : {x : ℕ} {s M entry exit : List ℕ} {r : ℕ} → Sound entry 
     → ((P : Scope) (E : Term) (rest : List ℕ) → TermAt s P E rest → Told x M entry exit r P E rest) → ShownListed x s M entry exit r
 listed_of h f = record { sound = h; has_room = λ P E rest k. (f P E rest k).0; right = λ P E rest k. (f P E rest k).1 }
 
-pub lists-as : {l o exit : List ℕ} {left n r : ℕ} → l ≡ o → left ≡ n → Lists o left exit r → Lists l n exit r
-lists-as {l} {o} {exit} {left} {n} {r} e f h = record {
+pub lists_as : {l o exit : List ℕ} {left n r : ℕ} → l ≡ o → left ≡ n → Lists o left exit r → Lists l n exit r
+lists_as {l} {o} {exit} {left} {n} {r} e f h = record {
   counted = h.counted ∙ (λ i. answer (f i) (length (sym e i)));
   listed = (λ i. take (length (e i)) exit) ∙ h.listed ∙ sym e;
 }
@@ -50,7 +50,7 @@ all_listed s M entry exit r h = record {
   count_bounded = h.sound.count_bounded;
   has_room = h.has_room;
   right = λ P E rest k z.
-      let l : Lists (codes (holding M) E) (length rest) exit r = lists-as (sym (shown_all (holding M) E)) refl (h.right P E rest k z) in
+      let l : Lists (codes (holding M) E) (length rest) exit r = lists_as (sym (shown_all (holding M) E)) refl (h.right P E rest k z) in
       record { counted = l.counted; listed = l.listed };
 }
 
@@ -58,7 +58,7 @@ all_listed s M entry exit r h = record {
 
 pub one_none : (code left : ℕ) (entry : List ℕ) → length entry ≡ 0 → OneListed code left entry entry full
 one_none code left entry h = record {
-  sound = sound-lost entry entry refl;
+  sound = sound_lost entry entry refl;
   has_room = λ k. absurd (omega arith);
   right = λ z. never_full z;
 }
@@ -76,7 +76,7 @@ one-made code left entry l h = record {
 module _ {x : ℕ} (t M entry mid : List ℕ) (l : ℕ) (first : ShownListed x t M entry mid l) (short : length t ≤ 65535) (few : length entry ≤ 131072) where
   pub two-lost-first : full ≤ l → (exit : List ℕ) → length exit ≡ length entry → TwoListed x t M entry exit full
   two-lost-first f exit h = record {
-    sound = sound-lost entry exit h;
+    sound = sound_lost entry exit h;
     has_room = λ P E F rest k m. absurd (omega (arith, first.has_room P E (words 1 F ++ rest) k.first (omega arith)));
     right = λ P E F rest k z. never_full z;
   }
@@ -115,8 +115,8 @@ module _ {x : ℕ} (t M entry mid : List ℕ) (l : ℕ) (first : ShownListed x t
         second_here : TermAt u P F rest
         second_here = second_at (l % 65536) u k (first_left P E F rest k) isu
 
-        pub second-lost : full ≤ r → room (holding M) F ≤ length entry - l / 65536 → ⊥
-        second-lost f m = omega (arith, second.has_room P F rest second_here (omega (arith, length-drop (l / 65536) mid, first.sound.same_length)))
+        pub second_lost : full ≤ r → room (holding M) F ≤ length entry - l / 65536 → ⊥
+        second_lost f m = omega (arith, second.has_room P F rest second_here (omega (arith, length-drop (l / 65536) mid, first.sound.same_length)))
 
         second_right : r < full → Lists (shown x (holding M) F) (length rest) back r
         second_right z = second.right P F rest second_here z
@@ -130,25 +130,25 @@ module _ {x : ℕ} (t M entry mid : List ℕ) (l : ℕ) (first : ShownListed x t
         pub second_left : r < full → r % 65536 ≡ length rest
         second_left z = answered_left r (length rest) (length (shown x (holding M) F)) (second_right z).counted rest_short
 
-        pub second-listed : r < full → take (length (shown x (holding M) F)) back ≡ shown x (holding M) F
-        second-listed z = (second_right z).listed
+        pub second_listed : r < full → take (length (shown x (holding M) F)) back ≡ shown x (holding M) F
+        second_listed z = (second_right z).listed
 
-        pub both-front : whole ≡ shown x (holding M) E ++ back
-        both-front = whole_is ∙ ap (λ v. v ++ back) (first_listed P E F rest k)
+        pub both_front : whole ≡ shown x (holding M) E ++ back
+        both_front = whole_is ∙ ap (λ v. v ++ back) (first_listed P E F rest k)
 
       pub two-lost-second : full ≤ r → TwoListed x t M entry whole full
       two-lost-second f = record {
-        sound = sound-lost entry whole whole_length;
-        has_room = λ P E F rest k m. absurd (second-lost P E F rest k f (omega (arith, first_count P E F rest k, shown_below x (holding M) E)));
+        sound = sound_lost entry whole whole_length;
+        has_room = λ P E F rest k m. absurd (second_lost P E F rest k f (omega (arith, first_count P E F rest k, shown_below x (holding M) E)));
         right = λ P E F rest k z. never_full z;
       }
 
-      pub both-fit : r < full → l / 65536 + r / 65536 ≤ length entry
-      both-fit z = omega (arith, second.sound.count_bounded z, length-drop (l / 65536) mid, first.sound.same_length, first_fits)
+      pub both_fit : r < full → l / 65536 + r / 65536 ≤ length entry
+      both_fit z = omega (arith, second.sound.count_bounded z, length-drop (l / 65536) mid, first.sound.same_length, first_fits)
 
       pub two_made : r < full → TwoListed x t M entry whole (l / 65536 * 65536 + r)
       two_made z =
-          let fit = both-fit z in
+          let fit = both_fit z in
           let low : l / 65536 * 65536 + r < full = omega arith in
           record {
             sound = record { same_length = whole_length; bounded = omega arith; count_bounded = λ y. omega arith };
@@ -164,9 +164,9 @@ module _ {x : ℕ} (t M entry mid : List ℕ) (l : ℕ) (first : ShownListed x t
               );
               listed =
                   ap (λ n. take n whole) (length-append (shown x (holding M) E) (shown x (holding M) F))
-                  ∙ ap (take (length (shown x (holding M) E) + length (shown x (holding M) F))) (both-front P E F rest k)
+                  ∙ ap (take (length (shown x (holding M) E) + length (shown x (holding M) F))) (both_front P E F rest k)
                   ∙ take-append-add (shown x (holding M) E) back (length (shown x (holding M) F))
-                  ∙ ap (λ v. shown x (holding M) E ++ v) (second-listed P E F rest k z);
+                  ∙ ap (λ v. shown x (holding M) E ++ v) (second_listed P E F rest k z);
             };
           }
 

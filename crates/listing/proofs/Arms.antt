@@ -20,14 +20,14 @@ use Rattle.listing.specs.Shown.{shown}
 use Rattle.listing.specs.ShownLaws.{shown_done, shown_internal, shown_perform, shown_hidden, shown_after_done, shown_sequence, shown_choice}
 use Rattle.listing.specs.RoomLaws.{room_after_done, room_sequence, room_choice}
 use Rattle.listing.specs.Arms.{Lists, Sound, OneListed, ShownListed, TwoListed, SideListed}
-use Rattle.listing.proofs.Answers.{sound-lost, never_full, Told, listed_of, lists-as}
+use Rattle.listing.proofs.Answers.{sound_lost, never_full, Told, listed_of, lists_as}
 
 -- ── no operand, or two listed one behind the other ──
 
 pub internal_listed : {x : ℕ} (t M entry exit : List ℕ) (r : ℕ) → OneListed 0 (length t) entry exit r → ShownListed x (20 ∷ t) M entry exit r
 unfolding room
 internal_listed {x} t M entry exit r h = listed_of h.sound (internal_cases t (Told x M entry exit r)
-    (λ P rest e. (λ k. h.has_room k, λ z. lists-as (shown_internal x (holding M)) (ap length e) (h.right z))))
+    (λ P rest e. (λ k. h.has_room k, λ z. lists_as (shown_internal x (holding M)) (ap length e) (h.right z))))
 
 -- No move, whatever is left: a term that is done, or no term.
 pub none_sound : (entry : List ℕ) (n : ℕ) → n ≤ 65535 → Sound entry entry n
@@ -44,18 +44,18 @@ module _ (x : ℕ) (t entry : List ℕ) (code left : ℕ) (f : (a : VisibleActio
 
   pub action_hidden : b ≡ true → left ≤ 65535 → (M : List ℕ) → ShownListed x (21 ∷ t) M entry entry left
   action_hidden e h M = listed_of (none_sound entry left h) (perform_cases t (Told x M entry entry left)
-      (λ P a rest s. (λ k. omega arith, λ z. lists-as (shown_hidden x (holding M) a (told a rest s ∙ e)) refl (none_lists entry (length rest) left (g a rest s)))))
+      (λ P a rest s. (λ k. omega arith, λ z. lists_as (shown_hidden x (holding M) a (told a rest s ∙ e)) refl (none_lists entry (length rest) left (g a rest s)))))
 
   pub action_listed : (exit : List ℕ) (r : ℕ) → b ≡ false → OneListed code left entry exit r → (M : List ℕ) → ShownListed x (21 ∷ t) M entry exit r
   unfolding room
   action_listed exit r e h M = listed_of h.sound (perform_cases t (Told x M entry exit r)
-      (λ P a rest s. (λ k. h.has_room k, λ z. lists-as (shown_perform x (holding M) a (told a rest s ∙ e) ∙ ap (λ n. n ∷ []) (sym (f a rest s))) (g a rest s) (h.right z))))
+      (λ P a rest s. (λ k. h.has_room k, λ z. lists_as (shown_perform x (holding M) a (told a rest s ∙ e) ∙ ap (λ n. n ∷ []) (sym (f a rest s))) (g a rest s) (h.right z))))
 
 pub choice_listed : {x : ℕ} (t M entry exit : List ℕ) (r : ℕ) → TwoListed x t M entry exit r → ShownListed x (23 ∷ t) M entry exit r
 choice_listed {x} t M entry exit r h = listed_of h.sound (choice_cases t (Told x M entry exit r)
     (λ P E F rest s. (
       λ k. h.has_room P E F rest s (rw (room_choice (holding M) E F) at k),
-      λ z. lists-as (shown_choice x (holding M) E F) refl (h.right P E F rest s z),
+      λ z. lists_as (shown_choice x (holding M) E F) refl (h.right P E F rest s z),
     )))
 
 -- ── the moves of one operand, where b words are left behind the whole ──
@@ -63,7 +63,7 @@ choice_listed {x} t M entry exit r h = listed_of h.sound (choice_cases t (Told x
 module _ {x : ℕ} (t M entry exit : List ℕ) (l : ℕ) (h : ShownListed x t M entry exit l) where
   pub side_lost : (b : ℕ) → full ≤ l → SideListed x t M b entry exit full
   side_lost b f = record {
-    sound = sound-lost entry exit h.sound.same_length;
+    sound = sound_lost entry exit h.sound.same_length;
     has_room = λ P E rest s k. absurd (omega (arith, h.has_room P E rest s k, f));
     right = λ P E rest s z. never_full z;
   }
@@ -90,7 +90,7 @@ module _ {x : ℕ} (t M entry exit : List ℕ) (w : ℕ) (isw : w ≡ get_or t 0
       let d = first_done s (sym isw ∙ e) in
       let b = second_behind s u (sym isw ∙ e) f in (
         λ k. h.has_room P F rest b (rw (room_after_done (holding M) E F d) at k),
-        λ z. lists-as (shown_after_done x (holding M) E F d) refl (h.right P F rest b z),
+        λ z. lists_as (shown_after_done x (holding M) E F d) refl (h.right P F rest b z),
       )))
 
   -- b is the count of words behind the second operand, wherever there is one
@@ -100,7 +100,7 @@ module _ {x : ℕ} (t M entry exit : List ℕ) (w : ℕ) (isw : w ≡ get_or t 0
       (λ P E F rest s.
       let d = first_other s (λ e. n (isw ∙ e)) in (
         λ k. h.has_room P E (words 1 F ++ rest) s.first (rw (room_sequence (holding M) E F d) at k),
-        λ z. lists-as (shown_sequence x (holding M) E F d) (f P E F rest s z) (h.right P E (words 1 F ++ rest) s.first z),
+        λ z. lists_as (shown_sequence x (holding M) E F d) (f P E F rest s z) (h.right P E (words 1 F ++ rest) s.first z),
       )))
 
   module _ (l : ℕ) (h : ShownListed x t M entry exit l) (n : w ≡ 30 → ⊥) where
@@ -126,5 +126,5 @@ pub other_listed : {x : ℕ} (s t M entry : List ℕ) (w : ℕ) → w ≡ get_or
 unfolding words
 other_listed {x} s t M entry w a b l h = listed_of (none_sound entry (length t) l) (λ P X rest k.
     by_rest (λ Y. TermAt s P Y rest → Told x M entry entry (length t) P Y rest) w h
-    (λ j. (λ m. omega arith, λ z. lists-as (shown_done x (holding M)) (ap length (b ∙ ap (drop 1) j.spelled)) (none_lists entry (length t) (length t) refl)))
+    (λ j. (λ m. omega arith, λ z. lists_as (shown_done x (holding M)) (ap length (b ∙ ap (drop 1) j.spelled)) (none_lists entry (length t) (length t) refl)))
     X (a ∙ term_front s P X rest k) k)

@@ -24,7 +24,7 @@ use Rattle.listing.specs.ShownLaws.{mask_set_front, shown_below, shown_both_done
 use Rattle.listing.specs.RoomLaws.{room_both_done}
 use Rattle.listing.specs.Arms.{OneListed, ShownListed, TwoListed, SideListed, MaskedListed}
 use Rattle.listing.proofs.Skipping.{Tells}
-use Rattle.listing.proofs.Answers.{whole_length, first_count, second-lost, second_count, second_left, second-listed, both-front, both-fit, sound-lost, never_full, Told, listed_of, lists-as}
+use Rattle.listing.proofs.Answers.{whole_length, first_count, second_lost, second_count, second_left, second_listed, both_front, both_fit, sound_lost, never_full, Told, listed_of, lists_as}
 
 -- t stands behind the mask at the front of d
 sides : (d t : List ℕ) → t ≡ drop 4 d → {P : Scope} {Δ : List ℕ} {E F : Term} {rest : List ℕ} → MaskedAt d P Δ E F rest → TwoAt t P E F rest
@@ -39,7 +39,7 @@ joined_is x y d isy k = sym (isy ∙ ap (bit_or x) (set_is d k))
 module _ {x : ℕ} (d t M entry mid : List ℕ) (l : ℕ) (first : ShownListed x t M entry mid l) (short : length t ≤ 65535) (few : length entry ≤ 131072) (ist : t ≡ drop 4 d) where
   pub masked_lost_first : full ≤ l → (exit : List ℕ) → length exit ≡ length entry → MaskedListed x d M entry exit full
   masked_lost_first f exit h = record {
-    sound = sound-lost entry exit h;
+    sound = sound_lost entry exit h;
     has_room = λ P Δ E F rest k m. absurd (omega (arith, f, first.has_room P E (words 1 F ++ rest) (sides d t ist k).first (omega (arith, m))));
     right = λ P Δ E F rest k z. never_full z;
   }
@@ -56,14 +56,14 @@ module _ {x : ℕ} (d t M entry mid : List ℕ) (l : ℕ) (first : ShownListed x
 
     pub masked_lost_second : full ≤ r → MaskedListed x d M entry both full
     masked_lost_second f = record {
-      sound = sound-lost entry both both_length;
-      has_room = λ P Δ E F rest k m. absurd (second-lost t M entry mid l first short few ok u back r isu lent P E F rest (sides d t ist k) f
+      sound = sound_lost entry both both_length;
+      has_room = λ P Δ E F rest k m. absurd (second_lost t M entry mid l first short few ok u back r isu lent P E F rest (sides d t ist k) f
           (omega (arith, m, first_count t M entry mid l first short few ok P E F rest (sides d t ist k), shown_below x (holding M) E)));
       right = λ P Δ E F rest k z. never_full z;
     }
 
     pub masked_fits : r < full → l / 65536 + r / 65536 ≤ length both
-    masked_fits z = omega (arith, both-fit t M entry mid l first short few ok u back r isu lent z, both_length)
+    masked_fits z = omega (arith, both_fit t M entry mid l first short few ok u back r isu lent z, both_length)
 
     module _ (z : r < full) (δ : ℕ) (isδ : δ ≡ mask_set d) (exit : List ℕ) (c : ℕ)
         (made : Combined (combined (in_set δ) (slice 0 (l / 65536) both) (slice (l / 65536) (l / 65536 + r / 65536) both)) (l / 65536 + r / 65536) both exit c) where
@@ -84,11 +84,11 @@ module _ {x : ℕ} (d t M entry mid : List ℕ) (l : ℕ) (first : ShownListed x
 
         front_is : both ≡ cE ++ back
         unfolding cE
-        front_is = both-front t M entry mid l first short few ok u back r isu lent P E F rest (sides d t ist k)
+        front_is = both_front t M entry mid l first short few ok u back r isu lent P E F rest (sides d t ist k)
 
         back_is : take (length cF) back ≡ cF
         unfolding cF
-        back_is = second-listed t M entry mid l first short few ok u back r isu lent P E F rest (sides d t ist k) z
+        back_is = second_listed t M entry mid l first short few ok u back r isu lent P E F rest (sides d t ist k) z
 
         left_is : slice 0 (l / 65536) both ≡ cE
         left_is = ap (take (l / 65536)) front_is ∙ take_at cE back (l / 65536) (sym n_is)
@@ -112,7 +112,7 @@ module _ {x : ℕ} (d t M entry mid : List ℕ) (l : ℕ) (first : ShownListed x
 
       pub masked_lost_made : full ≤ c → MaskedListed x d M entry exit full
       masked_lost_made f = record {
-        sound = sound-lost entry exit (made.same_length ∙ both_length);
+        sound = sound_lost entry exit (made.same_length ∙ both_length);
         has_room = λ P Δ E F rest k m. absurd (omega (arith, m, made.lacked f, both_length, (count_is P Δ E F rest k).0, (count_is P Δ E F rest k).1, ap length (made_is P Δ E F rest k), shown_below x (holding M) E, shown_below x (holding M) F));
         right = λ P Δ E F rest k y. never_full y;
       }
@@ -148,7 +148,7 @@ module _ (x : ℕ) (d t u M entry exit : List ℕ) (ist : t ≡ drop 4 d) (n : �
   beside_left f e h isy = record {
     sound = h.sound;
     has_room = λ P Δ E F rest k m. h.has_room P F rest (right_at k) (omega (arith, m));
-    right = λ P Δ E F rest k z. lists-as
+    right = λ P Δ E F rest k z. lists_as
         (beside_idle_left x (holding M) (mask_set Δ) E F (idle_is t b f e P E (words 1 F ++ rest) (sides d t ist k).first) ∙ ap (λ v. shown v (holding M) F) (joined_is x y d isy k))
         refl (h.right P F rest (right_at k) z);
   }
@@ -158,7 +158,7 @@ module _ (x : ℕ) (d t u M entry exit : List ℕ) (ist : t ≡ drop 4 d) (n : �
   beside_right left f e g h isy = record {
     sound = h.sound;
     has_room = λ P Δ E F rest k m. h.has_room P E (words 1 F ++ rest) (sides d t ist k).first (omega (arith, m));
-    right = λ P Δ E F rest k z. lists-as
+    right = λ P Δ E F rest k z. lists_as
         (beside_idle_right x (holding M) (mask_set Δ) E F (idle_is u b f e P F rest (right_at k)) ∙ ap (λ v. shown v (holding M) E) (joined_is x y d isy k))
         (g P F rest (right_at k)) (h.right P E (words 1 F ++ rest) (sides d t ist k).first z);
   }
@@ -170,7 +170,7 @@ module _ (x : ℕ) (d t M entry exit : List ℕ) (ist : t ≡ drop 4 d) (b : Boo
   parallel_done v e f h = listed_of h.sound (parallel_cases d (Told x M entry exit r) (λ P Δ E F rest k.
       let q : (done? E && done? F) ≡ true = sym (tested P E F rest (sides d t ist k)) ∙ e in (
         λ m. h.has_room (omega (arith, m, room_both_done (holding M) Δ E F q)),
-        λ z. lists-as (shown_both_done x (holding M) Δ E F q) (ap length (f ∙ behind_both (sides d t ist k) q)) (h.right z),
+        λ z. lists_as (shown_both_done x (holding M) Δ E F q) (ap length (f ∙ behind_both (sides d t ist k) q)) (h.right z),
       )))
 
   module _ (e : b ≡ false) (y : ℕ) (isy : y ≡ bit_or x (mask_set d)) where
@@ -181,7 +181,7 @@ module _ (x : ℕ) (d t M entry exit : List ℕ) (ist : t ≡ drop 4 d) (b : Boo
     parallel_hidden f h = listed_of h.sound (parallel_cases d (Told x M entry exit r) (λ P Δ E F rest k.
         let s = sides d t ist k in (
           λ m. h.has_room P E F rest s (omega (arith, m, room_sides x (holding M) P Δ E F (other k) s.first.fits s.second.fits)),
-          λ w. lists-as (shown_parallel x (holding M) P Δ E F (other k) s.first.fits s.second.fits ∙ combined_hidden x (holding M) (mask_set Δ) E F (joined_is x y d isy k ∙ f)) refl (h.right P E F rest s w),
+          λ w. lists_as (shown_parallel x (holding M) P Δ E F (other k) s.first.fits s.second.fits ∙ combined_hidden x (holding M) (mask_set Δ) E F (joined_is x y d isy k ∙ f)) refl (h.right P E F rest s w),
         )))
 
     pub parallel_masked : (y ≡ x → ⊥) → MaskedListed x d M entry exit r → ShownListed x (25 ∷ d) M entry exit r
@@ -189,5 +189,5 @@ module _ (x : ℕ) (d t M entry exit : List ℕ) (ist : t ≡ drop 4 d) (b : Boo
         let s = sides d t ist k in
         let i : bit_or x (mask_set Δ) ≡ x → ⊥ = λ j. f (sym (joined_is x y d isy k) ∙ j) in (
           λ m. h.has_room P Δ E F rest k (omega (arith, m, room_combined x (holding M) P Δ E F (other k) s.first.fits s.second.fits i)),
-          λ w. lists-as (shown_parallel x (holding M) P Δ E F (other k) s.first.fits s.second.fits) refl (h.right P Δ E F rest k w),
+          λ w. lists_as (shown_parallel x (holding M) P Δ E F (other k) s.first.fits s.second.fits) refl (h.right P Δ E F rest k w),
         )))

@@ -16,13 +16,13 @@ use Rattle.listing.specs.Shown.{shown}
 use Rattle.listing.specs.ShownLaws.{shown_star, shown_guard, shown_shut}
 use Rattle.listing.specs.RoomLaws.{room_star, room_guard}
 use Rattle.listing.specs.Arms.{ShownListed}
-use Rattle.listing.proofs.Answers.{sound-lost, never_full, Told, listed_of, lists-as}
+use Rattle.listing.proofs.Answers.{sound_lost, never_full, Told, listed_of, lists_as}
 use Rattle.listing.proofs.Arms.{none_sound, none_lists}
 
 -- ── a star ──
 
 pub star_none : {x : ℕ} (t M entry : List ℕ) → length entry ≡ 0 → ShownListed x (24 ∷ t) M entry entry full
-star_none {x} t M entry e = listed_of (sound-lost entry entry refl) (star_cases t (Told x M entry entry full)
+star_none {x} t M entry e = listed_of (sound_lost entry entry refl) (star_cases t (Told x M entry entry full)
     (λ P E rest s. (λ k. absurd (omega (arith, room_star (holding M) E, k)), λ z. never_full z)))
 
 -- y is the array with the internal move in front
@@ -47,7 +47,7 @@ module _ {x : ℕ} (t M entry y back : List ℕ) (r : ℕ) (isy : y ≡ set entr
   star_length = omega (arith, ap length star_is, behind.sound.same_length, length-drop 1 y, y_length)
 
   pub star_lost : full ≤ r → ShownListed x (24 ∷ t) M entry star_whole full
-  star_lost f = listed_of (sound-lost entry star_whole star_length) (star_cases t (Told x M entry star_whole full)
+  star_lost f = listed_of (sound_lost entry star_whole star_length) (star_cases t (Told x M entry star_whole full)
       (λ P E rest s. (
         λ k. absurd (omega (arith, f, behind.has_room P E rest s (omega (arith, k, room_star (holding M) E, length-drop 1 y, y_length)))),
         λ z. never_full z,
@@ -62,7 +62,7 @@ module _ {x : ℕ} (t M entry y back : List ℕ) (r : ℕ) (isy : y ≡ set entr
       (λ P E rest s.
       let q = behind.right P E rest s z in (
         λ k. low,
-        λ w. lists-as (shown_star x (holding M) E) refl (record {
+        λ w. lists_as (shown_star x (holding M) E) refl (record {
           counted = omega (arith, q.counted, answer_is (length rest) (length (shown x (holding M) E)), answer_is (length rest) (length (0 ∷ shown x (holding M) E)));
           listed = ap (take (length (0 ∷ shown x (holding M) E))) star_is ∙ ap (λ l. 0 ∷ l) q.listed;
         }),
@@ -76,7 +76,7 @@ module _ {x : ℕ} (t M u : List ℕ) (c : ℕ) (judged : Judged t M c) (isu : u
   guard_shut entry b e bu ut short f = listed_of (none_sound entry b (omega arith)) (guard_cases t (Told x M entry entry b)
       (λ P C E rest s. (
         λ k. omega arith,
-        λ z. lists-as (shown_shut x (holding M) C E (truth_none (holding M C) (sym (holds t M u c judged isu P C E rest s) ∙ e))) refl (none_lists entry (length rest) b (f P E rest (guarded_here t M u c judged isu P C E rest s))),
+        λ z. lists_as (shown_shut x (holding M) C E (truth_none (holding M C) (sym (holds t M u c judged isu P C E rest s) ∙ e))) refl (none_lists entry (length rest) b (f P E rest (guarded_here t M u c judged isu P C E rest s))),
       )))
 
   pub guard_open : (entry exit : List ℕ) (r : ℕ) → (c % 65536 ≡ 0 → ⊥) → ShownListed x u M entry exit r → ShownListed x (26 ∷ t) M entry exit r
@@ -85,5 +85,5 @@ module _ {x : ℕ} (t M u : List ℕ) (c : ℕ) (judged : Judged t M c) (isu : u
       let b = truth_some (holding M C) (λ e. n (holds t M u c judged isu P C E rest s ∙ e)) in
       let k = guarded_here t M u c judged isu P C E rest s in (
         λ m. h.has_room P E rest k (rw (room_guard (holding M) C E b) at m),
-        λ z. lists-as (shown_guard x (holding M) C E b) refl (h.right P E rest k z),
+        λ z. lists_as (shown_guard x (holding M) C E b) refl (h.right P E rest k z),
       )))

@@ -20,7 +20,7 @@ use Rattle.eb3.specs.WellFormedness.{Running, Form}
 use Rattle.scan.specs.Laws.{last_all}
 use Rattle.expressions.specs.Answering.{answer}
 use Rattle.steps.specs.Judging.{whole}
-use Rattle.sharing.specs.Shared.{Shared, Ended as Done-there, Part, term_of, shared_words, Unmasked, PartAt, Stands}
+use Rattle.sharing.specs.Shared.{Shared, Ended as Done_there, Part, term_of, shared_words, Unmasked, PartAt, Stands}
 use Rattle.sharing.specs.Beginning.{put_at}
 use Rattle.sharing.specs.Splicing.{Expanded}
 use Rattle.runs.specs.ScratchLaws.{words_kept}
@@ -48,7 +48,7 @@ module _ (u : List ℕ) (P : Scope) where
 
   alone : (E : Term) → u ≡ words 1 E → PartAt u P (length u) E → Alone E
   unfolding words term_of shared_words done?
-  alone Done e p = (Done-there, tt, refl, ap (λ x. x ∷ []) (sym (by_word 30 (ap (λ v. get_or v 0 0) e))))
+  alone Done e p = (Done_there, tt, refl, ap (λ x. x ∷ []) (sym (by_word 30 (ap (λ v. get_or v 0 0) e))))
   alone Internal e p = (Part (length u) Internal, (refl, p), refl, ap (λ x. x ∷ []) (sym (by_word 20 (ap (λ v. get_or v 0 0) e))))
   alone (Perform a) e p = (Part (length u) (Perform a), (refl, p), refl, ap (λ x. x ∷ []) (sym (by_word 21 (ap (λ v. get_or v 0 0) e))))
   alone (Sequence E F) e p = (Part (length u) (Sequence E F), (refl, p), refl, ap (λ x. x ∷ []) (sym (by_word 22 (ap (λ v. get_or v 0 0) e))))
@@ -104,7 +104,7 @@ module _ {numbers t D : List ℕ} {w functions c reach : ℕ} {u d M : List ℕ}
       → Finished mid₂ (q / 65536) reach M₂ c term memory term' memory' → low ≡ q / 65536 % 4294967296
       → RunsBare numbers t D w functions c reach u d M paths acts middle term memory (record { size = low; visible = tally.visible; internal = tally.internal; refused = tally.refused }) term' memory'
   unfolding memory_run
-  bare_run {d₁} {d₂} {M₂} {f} {mid₁} {mid₂} {word} {q} {low} {tally} is_IsWord first same runs ef expanded same-middle done el R T at room eu unmasked spare =
+  bare_run {d₁} {d₂} {M₂} {f} {mid₁} {mid₂} {word} {q} {low} {tally} is_IsWord first same runs ef expanded same_middle done el R T at room eu unmasked spare =
       let well = at.well in
       let er = at.reach_is in
       let ec = at.ruled.cells_are in

@@ -252,7 +252,7 @@ module _ {numbers t T D : List ℕ} {w functions c reach n : ℕ} {ws ws₁ M sp
   -- With a label in some mask.
   pub words_masked : {path spare₂ : List ℕ} → Begun t T D w functions c n ws ws₁ M spare spare₁ → length path ≡ length ws
       → RunsMasked numbers t D w functions c reach n ws₁ M path term memory spare₁ r term' memory' spare₂ → RunsMain numbers t T D c reach (length ws) term memory spare r term' memory' spare₂
-  words_masked {path} {spare₂} begun same-path runs R well d ec er room term_room memory_room spare_room =
+  words_masked {path} {spare₂} begun same_path runs R well d ec er room term_room memory_room spare_room =
       let only = spare_words begun R well d ec er spare_room in
       let q = runs R T (at_start begun R well d ec er term_room memory_room)
       (record { words_room = omega (arith, begun.loaded.same_length); bytes_room = omega (arith, only.same_length); path_room = omega arith }) (main_held begun R well d ec er spare_room room) in
@@ -262,12 +262,12 @@ module _ {numbers t T D : List ℕ} {w functions c reach n : ℕ} {ws ws₁ M sp
   pub words_bare : {f u d₁ : List ℕ} {ok : Bool} {paths acts middle : ℕ} → Begun t T D w functions c n ws ws₁ M spare spare₁ → f ≡ take n ws₁ → Shareable f ok → ok ≡ true → u ≡ take n ws₁
       → length d₁ ≡ length ws → paths ≡ length ws → acts ≡ length ws → middle ≡ length ws → RunsBare numbers t D w functions c reach u d₁ M paths acts middle term memory r term' memory'
       → RunsMain numbers t T D c reach (length ws) term memory spare r term' memory' spare₁
-  words_bare {f} {u} begun ef shareable yes-ok eu same same-path same-acts same-middle runs R well d ec er room term_room memory_room spare_room =
+  words_bare {f} {u} begun ef shareable yes_ok eu same same_path same_acts same_middle runs R well d ec er room term_room memory_room spare_room =
       let held = main_held begun R well d ec er spare_room room in
       let only = spare_words begun R well d ec er spare_room in
       let there = (whole R well.form (unfold_main R) (main_there R well) f (ef ∙ held.spelled)).there in
       let l : length u ≤ length ws = omega (arith, ap length (eu ∙ held.spelled), main_size R well, er) in
       let q = runs R T (at_start begun R well d ec er term_room memory_room)
       (record { words_room = omega arith; middle_room = omega arith; path_room = omega arith; numbers_room = omega arith })
-      (eu ∙ held.spelled) (shareable yes-ok _ (unfold_main R) [] there) spare₁ in
+      (eu ∙ held.spelled) (shareable yes_ok _ (unfold_main R) [] there) spare₁ in
       record { answer = q.answer; term_after = q.term_after; memory_after = q.memory_after; words_only = words_then spare spare₁ spare₁ only q.words_only }

@@ -16,7 +16,7 @@ use Rattle.eb3.specs.Moves.{moves}
 use Rattle.eb3.specs.Derivations.{state_after}
 use Rattle.eb3.specs.Attributes.{function, domain, apply_in_domain, evaluate, guard_holds, now_below, before_values, attribute_value, value_at}
 use Rattle.eb3.specs.Cells.{cell_count, cell_index, offset, cell_at, concat_tabulate, tabulate, cells_up_to, renew, values_up_to}
-use Rattle.eb3.specs.TransitionSystems.{step as machine-step, run as machine-run}
+use Rattle.eb3.specs.TransitionSystems.{step as machine_step, run as machine_run}
 use Rattle.eb3.specs.Semantics.{Sem_T}
 use Rattle.eb3.specs.Machines.{Machine, history_run}
 use Rattle.eb3.specs.Sizes.{cond_size, arguments_size, size, reach, breadth, zero_mask, parallel_breadth}
@@ -83,11 +83,11 @@ pub record Both_in (numbers : List ℕ) : Type 0 where
   pub term_is : (history numbers).state.term ≡ Parallel mask_zero (Sequence Done (key 0)) (Sequence Done (key 1))
 
 four_in : Both_in four_events
-unfolding function history_run machine-run machine-step words_in unfold_main unfold_below unfold_term right_nest argument_value instantiate_cond moves done? in_mask bit same_action same_list state_after guard_holds value_at attribute_value before_values now_below apply_in_domain evaluate evaluate_data variables equal
+unfolding function history_run machine_run machine_step words_in unfold_main unfold_below unfold_term right_nest argument_value instantiate_cond moves done? in_mask bit same_action same_list state_after guard_holds value_at attribute_value before_values now_below apply_in_domain evaluate evaluate_data variables equal
 four_in = record { key_0 = refl; key_1 = refl; term_is = refl }
 
 six_in : Both_in six_events
-unfolding function history_run machine-run machine-step words_in unfold_main unfold_below unfold_term right_nest argument_value instantiate_cond moves done? in_mask bit same_action same_list state_after guard_holds value_at attribute_value before_values now_below apply_in_domain evaluate evaluate_data variables equal
+unfolding function history_run machine_run machine_step words_in unfold_main unfold_below unfold_term right_nest argument_value instantiate_cond moves done? in_mask bit same_action same_list state_after guard_holds value_at attribute_value before_values now_below apply_in_domain evaluate evaluate_data variables equal
 six_in = record { key_0 = refl; key_1 = refl; term_is = refl }
 
 module _ (numbers numbers' : List ℕ) (b : Both_in numbers) (b' : Both_in numbers') where
@@ -164,7 +164,7 @@ pub record Executed : Type 0 where
   pub off_further : (switched (2 ∷ 0 ∷ 3 ∷ 0 ∷ [])).answer ≡ answered (record { size = 19; visible = 1; internal = 0; refusals = 1 })
 
 pub executed : Executed
-unfolding admit and_then admission open_blocks edition_in edition_of functions_words blocks_right block_right sums_from contents words_in ended all_zero within_limits file_of blocks_from block_of bytes_of stream_words rules_words function_words process_words rule_words argument_words data_words number_words giving then both number_of by_number count_of repeat counted for_each series number_in constant_of args_of readers read_data read_cond mask_of read_parameter_counts read_function read_functions argument_of arguments_of rule_action_of call_of choice_over_of parallel_over_of rule_terms read_rule_term read_process read_processes read_rules unfold_main unfold_below unfold_term right_nest argument_value instantiate_cond size reach breadth parallel_breadth zero_mask cond_size arguments_size offset cell_count function run count written words arguments_words memory_words encode history_run machine-run machine-step moves done? in_mask bit same_action same_list state_after guard_holds value_at attribute_value before_values now_below apply_in_domain evaluate evaluate_data variables equal values_up_to tabulate concat_tabulate cells_in decode bounded cell_at cell_index terms read_term given_term element_of elements_of action_of
+unfolding admit and_then admission open_blocks edition_in edition_of functions_words blocks_right block_right sums_from contents words_in ended all_zero within_limits file_of blocks_from block_of bytes_of stream_words rules_words function_words process_words rule_words argument_words data_words number_words giving then both number_of by_number count_of repeat counted for_each series number_in constant_of args_of readers read_data read_cond mask_of read_parameter_counts read_function read_functions argument_of arguments_of rule_action_of call_of choice_over_of parallel_over_of rule_terms read_rule_term read_process read_processes read_rules unfold_main unfold_below unfold_term right_nest argument_value instantiate_cond size reach breadth parallel_breadth zero_mask cond_size arguments_size offset cell_count function run count written words arguments_words memory_words encode history_run machine_run machine_step moves done? in_mask bit same_action same_list state_after guard_holds value_at attribute_value before_values now_below apply_in_domain evaluate evaluate_data variables equal values_up_to tabulate concat_tabulate cells_in decode bounded cell_at cell_index terms read_term given_term element_of elements_of action_of
 executed = record {
   figures = refl;
   admitted_as = refl;

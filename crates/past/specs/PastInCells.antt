@@ -61,7 +61,7 @@ run_in rules b numbers = run rules numbers b.term b.memory b.spare_term b.spare_
 -- Count and Move on what two runs left, each term cut to its size: the same answers, also where one is a refusal, and the same bytes written.
 pub record SameOffers (rules : List ℕ) (term memory term' memory' : List ℕ) : Type 0 where
   pub same_count : count rules term memory ≡ count rules term' memory'
-  pub same_move : (k : ℕ) (next-term next-memory : List ℕ) → move rules term memory k next-term next-memory ≡ move rules term' memory' k next-term next-memory
+  pub same_move : (k : ℕ) (next_term next_memory : List ℕ) → move rules term memory k next_term next_memory ≡ move rules term' memory' k next_term next_memory
 
 -- The runs w and w' of two first lists, and v and v' of the same lists with a further one after each: v and v' leave the same term and the same memory in
 -- the parts that are written, answer the same size, and the further list has added as much to each count of one as of the other.

@@ -66,13 +66,13 @@ module _ (T Γ s t : List ℕ) (h : length s ≡ 0 → ⊥) (q : t ≡ drop 1 s)
     pub term_guard : get_or s 0 0 ≡ 26 → p ≡ answer T (by RuleKind.guard) → p ≡ answer T (terms T Γ s)
     term_guard e f = by_code 26 p e f
 
-    pub term_over : get_or s 0 0 ≡ 27 → length Γ < 8 → p ≡ answer T (by RuleKind.choice-quantifier) → p ≡ answer T (terms T Γ s)
-    term_over e l f = by_kind RuleKind.choice-quantifier p (ap (rule_kind Γ) e ∙ rw (lt-ltb (length Γ) 8 l)) f
+    pub term_over : get_or s 0 0 ≡ 27 → length Γ < 8 → p ≡ answer T (by RuleKind.choice_quantifier) → p ≡ answer T (terms T Γ s)
+    term_over e l f = by_kind RuleKind.choice_quantifier p (ap (rule_kind Γ) e ∙ rw (lt-ltb (length Γ) 8 l)) f
 
-    pub term_many : get_or s 0 0 ≡ 28 → length Γ < 8 → p ≡ answer T (by RuleKind.parallel-quantifier) → p ≡ answer T (terms T Γ s)
-    term_many e l f = by_kind RuleKind.parallel-quantifier p (ap (rule_kind Γ) e ∙ rw (lt-ltb (length Γ) 8 l)) f
+    pub term_many : get_or s 0 0 ≡ 28 → length Γ < 8 → p ≡ answer T (by RuleKind.parallel_quantifier) → p ≡ answer T (terms T Γ s)
+    term_many e l f = by_kind RuleKind.parallel_quantifier p (ap (rule_kind Γ) e ∙ rw (lt-ltb (length Γ) 8 l)) f
 
-    pub term_call : get_or s 0 0 ≡ 29 → p ≡ answer T (by RuleKind.process-call) → p ≡ answer T (terms T Γ s)
+    pub term_call : get_or s 0 0 ≡ 29 → p ≡ answer T (by RuleKind.process_call) → p ≡ answer T (terms T Γ s)
     term_call e f = by_code 29 p e f
 
   pub term_over_full : get_or s 0 0 ≡ 27 → 8 ≤ length Γ → Refused 4 ≡ answer T (terms T Γ s)

@@ -24,8 +24,8 @@ weighed_sides R M z (taken p t) = Found (length t) (weight (parallel_by z (measu
 -- ── quantifiers, by whether they have a mask ──
 
 abbrev pub quantifier : Bool → RuleKind
-quantifier true = RuleKind.parallel-quantifier
-quantifier false = RuleKind.choice-quantifier
+quantifier true = RuleKind.parallel_quantifier
+quantifier false = RuleKind.choice_quantifier
 
 unfoldable pub mask_if : Bool → RuleSet → Reader (List ℕ)
 mask_if true R t = rule_mask_of R t

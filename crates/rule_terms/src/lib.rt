@@ -245,7 +245,7 @@ fn quantified(t: &[u16], tb: &[u32], vars: &[u16], masked: bool) -> Weighed
 #[cycle(check_plain_check_term_copies_guarded_in_choice_in_parallel_in_sequence_many_operand_over_quantified_sides)]
 fn over(t: &[u16], tb: &[u32], vars: &[u16]) -> Weighed
     requires { (length vars.now < 8) × (length t.now ≤ 65535) }
-    ensures { result ≡ weighed (declared tb.now) (callee tb.now) (rule_by (declared tb.now) (read_rule_term (declared tb.now)) vars.now RuleKind.choice-quantifier t.now) }
+    ensures { result ≡ weighed (declared tb.now) (callee tb.now) (rule_by (declared tb.now) (read_rule_term (declared tb.now)) vars.now RuleKind.choice_quantifier t.now) }
 {
     quantified(t, tb, vars, false)
 }
@@ -253,7 +253,7 @@ fn over(t: &[u16], tb: &[u32], vars: &[u16]) -> Weighed
 #[cycle(check_plain_check_term_copies_guarded_in_choice_in_parallel_in_sequence_many_operand_over_quantified_sides)]
 fn many(t: &[u16], tb: &[u32], vars: &[u16]) -> Weighed
     requires { (length vars.now < 8) × (length t.now ≤ 65535) }
-    ensures { result ≡ weighed (declared tb.now) (callee tb.now) (rule_by (declared tb.now) (read_rule_term (declared tb.now)) vars.now RuleKind.parallel-quantifier t.now) }
+    ensures { result ≡ weighed (declared tb.now) (callee tb.now) (rule_by (declared tb.now) (read_rule_term (declared tb.now)) vars.now RuleKind.parallel_quantifier t.now) }
 {
     quantified(t, tb, vars, true)
 }

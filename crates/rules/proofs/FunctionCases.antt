@@ -11,7 +11,7 @@ use Rattle.eb3.specs.Measures.{sat, measure_main}
 use Rattle.eb3.specs.Reading.{Read, refused, taken, Reader, then, count_of, series}
 use Rattle.eb3.specs.RuleReading.{parameter_limit, read_parameter_counts, read_function, read_functions, read_process, with_process, read_processes, without_processes}
 use Rattle.scan.specs.declared.Checked.{Checked}
-use Rattle.scan.specs.declared.Checked.TheVariants.{Left, Refused as Checked·refused}
+use Rattle.scan.specs.declared.Checked.TheVariants.{Left, Refused as Checked_refused}
 use Rattle.scan.specs.Checking.{checked, last_of}
 use Rattle.scan.specs.Laws.{Tail, Fine, tail_at, tail_on, last_tail}
 use Rattle.scan.specs.ReadingLaws.{checked_refused, then_refused, then_taken, not_taken}
@@ -23,7 +23,7 @@ use Rattle.weights.specs.declared.Weight.{Weight}
 use Rattle.arguments.specs.Tables.{declared}
 use Rattle.arguments.specs.TableLaws.{domains_length, labels_length}
 use Rattle.declarations.specs.declared.Counted.{Counted}
-use Rattle.declarations.specs.declared.Counted.TheVariants.{Cells, Refused as Counted·refused}
+use Rattle.declarations.specs.declared.Counted.TheVariants.{Cells, Refused as Counted_refused}
 use Rattle.declarations.specs.Entering.{labels_of, all_cells, functions_cells}
 use Rattle.declarations.specs.Declaring.{Heads, Tables}
 use Rattle.declarations.specs.DeclaringLaws.{functions_entered}
@@ -33,7 +33,7 @@ use Rattle.declarations.specs.SectionFacts.{functions_read, cells_total}
 use Rattle.declarations.specs.Directory.{FunctionRows, row_width}
 use Rattle.declarations.specs.Noting.{function_of, FunctionsNoted}
 use Rattle.rules.specs.declared.Rules.{Rules}
-use Rattle.rules.specs.declared.Rules.TheVariants.{Found as Rules·found, Refused as Rules·refused}
+use Rattle.rules.specs.declared.Rules.TheVariants.{Found as Rules_found, Refused as Rules_refused}
 use Rattle.rules.specs.Filling.{ProcessSectionRead, Filled, FunctionSectionRead}
 use Rattle.rules.specs.Sections.{main_weighed, rules_weighed, joined, process_section, function_section}
 use Rattle.rules.proofs.SectionCases.{count_between, rules_out}
@@ -65,12 +65,12 @@ section_kept ds ls fs t = then_kept (without_processes edition_1 ds ls fs) (coun
 joined_main : (R : RuleSet) (c : ℕ) (r : Read RuleSet) → c ≡ all_cells R.domains R.functions → Kept R r → joined c (main_weighed r) ≡ rules_weighed r
 unfolding main_weighed rules_weighed
 joined_main R c (refused k) e s = refl
-joined_main R c (taken Q u) e s = ap (λ n. Rules·found (length u) n (weight (measure_main (sat cap) Q))) (e ∙ (λ i. all_cells (sym s.0 i) (sym s.1 i)) ∙ sym (cells_total Q))
+joined_main R c (taken Q u) e s = ap (λ n. Rules_found (length u) n (weight (measure_main (sat cap) Q))) (e ∙ (λ i. all_cells (sym s.0 i) (sym s.1 i)) ∙ sym (cells_total Q))
 
-pub joined_found : (c m : ℕ) (a : Weight) (w : Weighed) → w ≡ Found m a → Rules·found m c a ≡ joined c w
+pub joined_found : (c m : ℕ) (a : Weight) (w : Weighed) → w ≡ Found m a → Rules_found m c a ≡ joined c w
 joined_found c m a w e = rw e
 
-pub joined_refused : (c k : ℕ) (w : Weighed) → w ≡ Refused k → Rules·refused k ≡ joined c w
+pub joined_refused : (c k : ℕ) (w : Weighed) → w ≡ Refused k → Rules_refused k ≡ joined c w
 joined_refused c k w e = rw e
 
 pub ruleset joining = (joined_found, joined_refused)
@@ -87,7 +87,7 @@ rows_same ds ds' ls ls' Fs Fs' t D a b c h =
     subst (λ E. FunctionRows E t D (row_width (length ls')) 0 0 Fs') (sym a) (subst (λ k. FunctionRows ds t D (row_width (length k)) 0 0 Fs') (sym b) (subst (FunctionRows ds t D (row_width (length ls)) 0 0) (sym c) h))
 
 module _ (T t : List ℕ) (p : Checked) (e : p ≡ checked (count_of 0 16 t)) where
-  pub functions_none : (D : List ℕ) (k : ℕ) → p ≡ Checked·refused k → FunctionSectionRead t T D (Rules·refused k) T D
+  pub functions_none : (D : List ℕ) (k : ℕ) → p ≡ Checked_refused k → FunctionSectionRead t T D (Rules_refused k) T D
   unfolding function_section read_functions
   functions_none D k h =
       let r : (ds : List ℕ) (ls : List (List ℕ)) → read_functions edition_1 (length ds) ls t ≡ refused k = λ ds ls. then_refused (count_of 0 16 t) _ k (checked_refused (count_of 0 16 t) k (sym h ∙ e)) in
@@ -124,7 +124,7 @@ module _ (T t : List ℕ) (p : Checked) (e : p ≡ checked (count_of 0 16 t)) wh
           let c : get_or (set T 210 x) 0 0 ≡ length ds = sym (domains_length (set T 210 x)) ∙ ap length heads.same_domains in
           g.answer ∙ (λ j. functions_cells (heads.same_domains j) (series n 0 (read_function edition_1 (c j) (labels_are j) (replicate n 1)) u))
 
-      refused_here : (k : ℕ) (r : Read (List Function)) → Counted·refused k ≡ functions_cells ds r → r ≡ refused k
+      refused_here : (k : ℕ) (r : Read (List Function)) → Counted_refused k ≡ functions_cells ds r → r ≡ refused k
       unfolding functions_cells
       refused_here k (refused j) q = (let y : j ≡ k = cc in ap refused y)
       refused_here k (taken Fs v) q = absurd (let y : ◌≡◌ {A = ℕ} 0 1 = cc in omega arith)
@@ -137,7 +137,7 @@ module _ (T t : List ℕ) (p : Checked) (e : p ≡ checked (count_of 0 16 t)) wh
           let y : c ≡ all_cells ds Fs = cc in
           (Fs, ap (taken Fs) (sym (ap (λ n. last_of n u) o ∙ tail_at v u fine)), y)
 
-      functions_refused : (k : ℕ) → a ≡ Counted·refused k → read_functions edition_1 (length ds) ls t ≡ refused k
+      functions_refused : (k : ℕ) → a ≡ Counted_refused k → read_functions edition_1 (length ds) ls t ≡ refused k
       functions_refused k q = are ∙ refused_here k behind (sym q ∙ counts)
 
       module _ (j c : ℕ) (v : List ℕ) (y : a ≡ Cells j c) (o : v ≡ last_of j u) where
@@ -183,7 +183,7 @@ module _ (T t : List ℕ) (p : Checked) (e : p ≡ checked (count_of 0 16 t)) wh
               processes = placed.rows;
             }
 
-    pub functions_out : (u D D' : List ℕ) (a : Counted) (k : ℕ) → u ≡ last_of m t → FunctionsNoted (set T 210 x) n n 0 u D 0 a D' → a ≡ Counted·refused k → FunctionSectionRead t T D (Rules·refused k) (set T 210 x) D'
+    pub functions_out : (u D D' : List ℕ) (a : Counted) (k : ℕ) → u ≡ last_of m t → FunctionsNoted (set T 210 x) n n 0 u D 0 a D' → a ≡ Counted_refused k → FunctionSectionRead t T D (Rules_refused k) (set T 210 x) D'
     unfolding function_section
     functions_out u D D' a k l g q = record {
       answer = λ ds ls z. rules_out (read_functions edition_1 (length ds) ls t) _ k (functions_refused u D D' l a g ds ls z k q);

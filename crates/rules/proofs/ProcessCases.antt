@@ -13,7 +13,7 @@ use Rattle.eb3.specs.RuleReading.{parameter_limit, read_rule_term, read_process,
 use Rattle.weights.specs.Weighing.{measure}
 use Rattle.weights.specs.declared.Weight.{Weight}
 use Rattle.scan.specs.declared.Checked.{Checked}
-use Rattle.scan.specs.declared.Checked.TheVariants.{Left, Refused as Checked·refused}
+use Rattle.scan.specs.declared.Checked.TheVariants.{Left, Refused as Checked_refused}
 use Rattle.scan.specs.Checking.{checked, last_of}
 use Rattle.scan.specs.Laws.{Tail, tail_on, last_tail}
 use Rattle.rule_terms.specs.declared.Weighed.{Weighed}
@@ -64,11 +64,11 @@ module _ (T t : List ℕ) (hi d x : ℕ) (p : Checked) (e : p ≡ checked (count
         ∙ ap (λ r. process_weighed (declared T) (callee T) (then r after)) (sym (there m h).is)
         ∙ ap (λ n. process_weighed (declared T) (callee T) (then (counted 0 hi (number_of 5 n) t) after)) by_tables
 
-  pub process_out : (k : ℕ) → p ≡ Checked·refused k → Refused k ≡ process_weighed (declared T) (callee T) (read_process (declared T) hi t)
+  pub process_out : (k : ℕ) → p ≡ Checked_refused k → Refused k ≡ process_weighed (declared T) (callee T) (read_process (declared T) hi t)
   unfolding read_process then process_weighed checked
   process_out k h = go (counted 0 hi (number_of 5 d) t) (sym h ∙ e) ∙ ap (λ n. process_weighed (declared T) (callee T) (then (counted 0 hi (number_of 5 n) t) after)) by_tables
     where
-      go : (r : Read (List ℕ)) → Checked·refused k ≡ checked r → Refused k ≡ process_weighed (declared T) (callee T) (then r after)
+      go : (r : Read (List ℕ)) → Checked_refused k ≡ checked r → Refused k ≡ process_weighed (declared T) (callee T) (then r after)
       go (refused j) q = (let z : k ≡ j = cc in ap Refused z)
       go (taken l u) q = absurd (let z : ◌≡◌ {A = ℕ} 0 1 = cc in omega arith)
 

@@ -13,7 +13,7 @@ use Rattle.eb3.specs.Reading.{Read, refused, taken, Reader, then, count_of, numb
 use Rattle.eb3.specs.RuleReading.{read_domains, read_labels, read_processes, without_processes, read_rules}
 use Rattle.eb3.specs.Laws.Reading.{Sound, count_sound}
 use Rattle.scan.specs.declared.Checked.{Checked}
-use Rattle.scan.specs.declared.Checked.TheVariants.{Left, Refused as Checked·refused}
+use Rattle.scan.specs.declared.Checked.TheVariants.{Left, Refused as Checked_refused}
 use Rattle.scan.specs.Checking.{checked, last_of}
 use Rattle.scan.specs.Laws.{Tail, tail_on, number_ends, got, last_tail}
 use Rattle.scan.specs.ReadingLaws.{checked_refused, then_refused, then_taken, not_taken}
@@ -29,7 +29,7 @@ use Rattle.declarations.specs.ProcessLaws.{Bounded, set_bounded}
 use Rattle.declarations.specs.Rows.{RowAt, domains_row}
 use Rattle.declarations.specs.SectionFacts.{labels_read}
 use Rattle.rules.specs.declared.Rules.{Rules}
-use Rattle.rules.specs.declared.Rules.TheVariants.{Refused as Rules·refused}
+use Rattle.rules.specs.declared.Rules.TheVariants.{Refused as Rules_refused}
 use Rattle.rules.specs.Filling.{ProcessesRead, ProcessSectionRead, FunctionSectionRead, LabelSectionRead, RulesRead}
 use Rattle.rules.specs.Sections.{main_weighed, rules_weighed, process_section, function_section, label_section}
 
@@ -44,14 +44,14 @@ main_out : {A : Type 0} (r : Read A) (g : A → Reader RuleSet) (k : ℕ) → r 
 unfolding then main_weighed
 main_out r g k e = rw e
 
-pub rules_out : {A : Type 0} (r : Read A) (g : A → Reader RuleSet) (k : ℕ) → r ≡ refused k → Rules·refused k ≡ rules_weighed (then r g)
+pub rules_out : {A : Type 0} (r : Read A) (g : A → Reader RuleSet) (k : ℕ) → r ≡ refused k → Rules_refused k ≡ rules_weighed (then r g)
 unfolding then rules_weighed
 rules_out r g k e = rw e
 
 -- ── processes ──
 
 module _ (T t : List ℕ) (p : Checked) (e : p ≡ checked (count_of 1 32 t)) where
-  pub section_out : (k : ℕ) → p ≡ Checked·refused k → ProcessSectionRead t T (Refused k) T
+  pub section_out : (k : ℕ) → p ≡ Checked_refused k → ProcessSectionRead t T (Refused k) T
   unfolding process_section
   section_out k h =
       let r = checked_refused (count_of 1 32 t) k (sym h ∙ e) in
@@ -87,7 +87,7 @@ abbrev label_of : ℕ → Reader (List ℕ)
 label_of d = counted 0 2 (number_of 5 d)
 
 module _ (T t : List ℕ) (p : Checked) (e : p ≡ checked (count_of 1 64 t)) where
-  pub labels_none : (D : List ℕ) (k : ℕ) → p ≡ Checked·refused k → LabelSectionRead t T D (Rules·refused k) T D
+  pub labels_none : (D : List ℕ) (k : ℕ) → p ≡ Checked_refused k → LabelSectionRead t T D (Rules_refused k) T D
   unfolding label_section counted
   labels_none D k h =
       let r : (ds : List ℕ) → read_labels (length ds) t ≡ refused k = λ ds. then_refused (count_of 1 64 t) _ k (checked_refused (count_of 1 64 t) k (sym h ∙ e)) in
@@ -110,7 +110,7 @@ module _ (T t : List ℕ) (p : Checked) (e : p ≡ checked (count_of 1 64 t)) wh
           then_taken (count_of 1 64 t) (λ n. repeat n (label_of (length ds))) (get_or t 0 0) (last_of m t) (count_word 1 64 m t (sym h ∙ e))
           ∙ (λ j. repeat (sym i j) (label_of (c j)) (sym l j))
 
-      labels_refused : (k : ℕ) → r ≡ Checked·refused k → (ds : List ℕ) → (declared T).domains ≡ ds → read_labels (length ds) t ≡ refused k
+      labels_refused : (k : ℕ) → r ≡ Checked_refused k → (ds : List ℕ) → (declared T).domains ≡ ds → read_labels (length ds) t ≡ refused k
       labels_refused k q ds z = labels_read_are ds z ∙ checked_refused (repeat n (label_of d) u) k (sym q ∙ entered.answer)
 
       module _ (j : ℕ) (q : r ≡ Left j) where
@@ -152,7 +152,7 @@ module _ (T t : List ℕ) (p : Checked) (e : p ≡ checked (count_of 1 64 t)) wh
               (tail_on v u whole (tail_on u t whole tl (subst (λ y. Tail y t) (sym l) (last_tail m t))) (subst (λ y. Tail y u) (sym o) (last_tail j u))) small (sym (section_by v o ds z) ∙ g) room;
         }
 
-    pub labels_out : (u T' D : List ℕ) (r : Checked) (k : ℕ) → u ≡ last_of m t → Entered u (set T 17 x) n 18 d r T' → r ≡ Checked·refused k → LabelSectionRead t T D (Rules·refused k) T' D
+    pub labels_out : (u T' D : List ℕ) (r : Checked) (k : ℕ) → u ≡ last_of m t → Entered u (set T 17 x) n 18 d r T' → r ≡ Checked_refused k → LabelSectionRead t T D (Rules_refused k) T' D
     unfolding label_section
     labels_out u T' D r k l en q = record {
       answer = λ ds z. rules_out (read_labels (length ds) t) _ k (labels_refused u l r T' en k q ds z);
@@ -170,7 +170,7 @@ module _ (T t : List ℕ) (p : Checked) (e : p ≡ checked (count_of 1 64 t)) wh
 -- ── the whole ──
 
 module _ (T t : List ℕ) (p : Checked) (e : p ≡ checked (read_domains t)) where
-  pub read_out : (D : List ℕ) (k : ℕ) → p ≡ Checked·refused k → RulesRead t T D (Rules·refused k) T D
+  pub read_out : (D : List ℕ) (k : ℕ) → p ≡ Checked_refused k → RulesRead t T D (Rules_refused k) T D
   unfolding read_rules
   read_out D k h =
       let r = checked_refused (read_domains t) k (sym h ∙ e) in

@@ -11,7 +11,7 @@ use Rattle.weights.specs.Weighing.{cap, weight}
 use Rattle.rule_terms.specs.declared.Weighed.{Weighed}
 use Rattle.rule_terms.specs.declared.Weighed.TheVariants.{Found, Refused}
 use Rattle.rules.specs.declared.Rules.{Rules}
-use Rattle.rules.specs.declared.Rules.TheVariants.{Found as Rules·found, Refused as Rules·refused}
+use Rattle.rules.specs.declared.Rules.TheVariants.{Found as Rules_found, Refused as Rules_refused}
 
 -- What a check of a process answers: the words left, and its term's measures.
 unfoldable pub process_weighed : RuleSet → (ℕ → Measure) → Read Process → Weighed
@@ -24,12 +24,12 @@ main_weighed (refused k) = Refused k
 main_weighed (taken R t) = Found (length t) (weight (measure_main (sat cap) R))
 
 unfoldable pub rules_weighed : Read RuleSet → Rules
-rules_weighed (refused k) = Rules·refused k
-rules_weighed (taken R t) = Rules·found (length t) (total_cells (attributes R)) (weight (measure_main (sat cap) R))
+rules_weighed (refused k) = Rules_refused k
+rules_weighed (taken R t) = Rules_found (length t) (total_cells (attributes R)) (weight (measure_main (sat cap) R))
 
 abbrev pub joined : ℕ → Weighed → Rules
-joined c (Found n w) = Rules·found n c w
-joined c (Refused k) = Rules·refused k
+joined c (Found n w) = Rules_found n c w
+joined c (Refused k) = Rules_refused k
 
 -- The sections as they follow one another; `read_rules` is domains, then these.
 unfoldable pub process_section : List ℕ → List (List ℕ) → List Function → Reader RuleSet

@@ -117,7 +117,7 @@ module _ (numbers : List ℕ) {t D : List ℕ} {w functions c n : ℕ} {ws M out
   pub run_next : (i : ℕ) {k : ℕ} {ws₁ M₁ out₁ path₁ ws₂ M₂ out₂ : List ℕ} {r r' : Tally} {d : Done} → i < word_count numbers → length ws₁ ≡ length ws → length out₁ ≡ length out → length path₁ ≡ length path
       → Running_to numbers t D w functions c n ws M out path i ws₁ M₁ out₁ r → k ≡ get_or (words_in numbers) i 0 → StepsOnce t D w functions c r.size k ws₁ M₁ out₁ path₁ ws₂ M₂ out₂ d
       → r' ≡ counted r d → Running_to numbers t D w functions c n ws M out path (i + 1) ws₂ M₂ out₂ r'
-  run_next i {out₁ = out₁} {out₂ = out₂} less same same_out same-path go number once counting bound room =
+  run_next i {out₁ = out₁} {out₂ = out₂} less same same_out same_path go number once counting bound room =
       by_next Spelled bound numbers i less (words_then out out₁ out₂) (go bound room) number
       (once bound (record { words_room = omega (arith, room.words_room); bytes_room = omega (arith, room.bytes_room); path_room = omega (arith, room.path_room) })) counting
 

@@ -104,7 +104,7 @@ module _ (numbers : List ℕ) {t D : List ℕ} {w functions c : ℕ} {u : List �
   pub shared_next : (i : ℕ) {k : ℕ} {d₁ M₁ : List ℕ} {paths₁ acts₁ middle₁ : ℕ} {d₂ M₂ : List ℕ} {r r' : Tally} {o : Done} → i < word_count numbers → length d₁ ≡ length d → paths₁ ≡ paths → acts₁ ≡ acts → middle₁ ≡ middle
       → Shared_to numbers t D w functions c u n d M paths acts middle i d₁ M₁ r → k ≡ get_or (words_in numbers) i 0 → StepsShared t D w functions c u r.size k d₁ M₁ paths₁ acts₁ middle₁ d₂ M₂ o
       → r' ≡ counted r o → Shared_to numbers t D w functions c u n d M paths acts middle (i + 1) d₂ M₂ r'
-  shared_next i less same same-path same-acts same-middle go number once counting bound room =
+  shared_next i less same same_path same_acts same_middle go number once counting bound room =
       by_next (SharedOver u) bound numbers i less (λ x y. tt) (go bound room) number
       (once bound (record { words_room = omega (arith, room.words_room); middle_room = omega (arith, room.middle_room); path_room = omega (arith, room.path_room); numbers_room = omega (arith, room.numbers_room) }))
       counting

@@ -28,7 +28,7 @@ use Rattle.steps.specs.Taking.{taken_as, built_over, SuccessorFits, Took}
 use Rattle.steps.specs.Storing.{Ruled, StoreRenewed}
 use Rattle.steps.specs.Judging.{whole}
 use Rattle.steps.specs.declared.moving.Taken.{Taken}
-use Rattle.steps.specs.declared.moving.Taken.TheVariants.{Made, NotOffered as No-move}
+use Rattle.steps.specs.declared.moving.Taken.TheVariants.{Made, NotOffered as No_move}
 use Rattle.runs.specs.Scratch.{WordsOnly}
 use Rattle.runs.specs.ScratchLaws.{words_kept, words_written}
 use Rattle.runs.specs.Running.{Spelled, Situated, Roomy, done_as, Once, StepsOnce}
@@ -45,7 +45,7 @@ some_made none a n e = absurd (let z : ◌≡◌ {A = ℕ} 0 1 = cc in omega ari
 some_made (some x) a n e = (x, refl, cc, cc)
 
 -- and only where there is none, none.
-none_made : (o : Option Move) → No-move ≡ taken_as o → o ≡ none
+none_made : (o : Option Move) → No_move ≡ taken_as o → o ≡ none
 unfolding taken_as
 none_made none e = refl
 none_made (some x) e = absurd (let z : ◌≡◌ {A = ℕ} 0 1 = cc in omega arith)
@@ -81,7 +81,7 @@ module _ (t D : List ℕ) (w functions c n k : ℕ) (ws M out path : List ℕ) (
         (omega (arith, next_fits x e, room.words_room)) (subst (λ B. Loaded B ws ws' 0 size') buffer loaded);
   }
 
-  none_so : (out' : List ℕ) → Took offered out out' No-move → Once Spelled R s n k ws M NotOffered × WordsOnly out out'
+  none_so : (out' : List ℕ) → Took offered out out' No_move → Once Spelled R s n k ws M NotOffered × WordsOnly out out'
   unfolding built_over
   none_so out' h =
       let e : offered ≡ none = none_made offered h.answer in
@@ -114,7 +114,7 @@ module _ {t D : List ℕ} {w functions c n k : ℕ} {ws M out path : List ℕ} w
       made_so t D w functions c n k ws M out path bound room R T ruled s at reaches out' M' ws' a size' (Visible size')
       (subst (Took _ out out') made (took t D w functions c n k ws M out path bound room R T ruled s at reaches f out' r front sought)) renewed loaded (λ ρ e. done_visible ρ a size' e z)
 
-  pub step_refused : {f out' : List ℕ} {r : Taken} → f ≡ take n ws → TakenFrom f M k path out out' r → r ≡ No-move → StepsOnce t D w functions c n k ws M out path ws M out' NotOffered
+  pub step_refused : {f out' : List ℕ} {r : Taken} → f ≡ take n ws → TakenFrom f M k path out out' r → r ≡ No_move → StepsOnce t D w functions c n k ws M out path ws M out' NotOffered
   step_refused {f} {out'} {r} front sought none_there bound room R T ruled s at reaches =
       none_so t D w functions c n k ws M out path bound room R T ruled s at reaches out'
       (subst (Took _ out out') none_there (took t D w functions c n k ws M out path bound room R T ruled s at reaches f out' r front sought))

@@ -174,22 +174,22 @@ passed u m (taken a v) h e =
     let l : last_of m u ≡ v = ap (λ j. last_of j u) k ∙ tail_at v u h in
     rw l (h, sym k)
 
-module _ {A : Type 0} (f : Reader A) (ends : Ends f) (t u : List ℕ) (n left i : ℕ) (p : Checked) (inv : Repeating f t n left i) (lt : i < n) (is-u : u ≡ last_of left t) (e : p ≡ checked (f u)) where
+module _ {A : Type 0} (f : Reader A) (ends : Ends f) (t u : List ℕ) (n left i : ℕ) (p : Checked) (inv : Repeating f t n left i) (lt : i < n) (is_u : u ≡ last_of left t) (e : p ≡ checked (f u)) where
   one_more : n - i ≡ suc (n - (i + 1))
   one_more = omega arith
 
   pub loop_fail : (j : ℕ) → p ≡ Refused j → Refused j ≡ checked (repeat n f t)
-  loop_fail j h = both_out f (repeat (n - (i + 1)) f) u p j e h ∙ sym (repeat_next (n - (i + 1)) f u) ∙ ap (λ k. checked (repeat k f u)) (sym one_more) ∙ ap (λ v. checked (repeat (n - i) f v)) is-u ∙ sym inv.2
+  loop_fail j h = both_out f (repeat (n - (i + 1)) f) u p j e h ∙ sym (repeat_next (n - (i + 1)) f u) ∙ ap (λ k. checked (repeat k f u)) (sym one_more) ∙ ap (λ v. checked (repeat (n - i) f v)) is_u ∙ sym inv.2
 
   pub loop_next : (m : ℕ) → p ≡ Left m → Repeating f t n m (i + 1)
   loop_next m h =
       let w = passed u m (f u) (ends u) (sym h ∙ e) in
-      let tl : Tail (last_of m u) t = tail_on (last_of m u) u t (rw is-u (last_tail left t)) w.0 in
+      let tl : Tail (last_of m u) t = tail_on (last_of m u) u t (rw is_u (last_tail left t)) w.0 in
       let same : last_of m u ≡ last_of m t = sym (tail_at (last_of m u) t tl) ∙ ap (λ k. last_of k t) w.1 in
       let step : checked (repeat (n - (i + 1)) f (last_of m u)) ≡ checked (both f (repeat (n - (i + 1)) f) u) = both_in f (repeat (n - (i + 1)) f) u (last_of m u) p (checked (repeat (n - (i + 1)) f (last_of m u))) m ends e h refl refl in (
         omega arith,
         omega (arith, w.1, tail_short (last_of m u) t tl),
-        inv.2 ∙ ap (λ v. checked (repeat (n - i) f v)) (sym is-u) ∙ ap (λ k. checked (repeat k f u)) one_more ∙ repeat_next (n - (i + 1)) f u ∙ sym step ∙ ap (λ v. checked (repeat (n - (i + 1)) f v)) same,
+        inv.2 ∙ ap (λ v. checked (repeat (n - i) f v)) (sym is_u) ∙ ap (λ k. checked (repeat k f u)) one_more ∙ repeat_next (n - (i + 1)) f u ∙ sym step ∙ ap (λ v. checked (repeat (n - (i + 1)) f v)) same,
       )
 
 pub loop_end : {A : Type 0} (f : Reader A) (t : List ℕ) (n left i : ℕ) → Repeating f t n left i → n ≤ i → Left left ≡ checked (repeat n f t)

@@ -13,7 +13,7 @@ use Rattle.eb3.specs.Sizes.{size}
 use Rattle.actions.specs.Codes.{action_code}
 use Rattle.listing.specs.Listing.{TermAt}
 use Rattle.listing.specs.Positions.{code_in_front, term_front}
-use Rattle.listing.specs.ByCode.{by_perform as of-perform, by_sequence as of-sequence, by_choice as of-choice, by_star as of-star, by_parallel as of-parallel, by_guard as of_guard}
+use Rattle.listing.specs.ByCode.{by_perform as of_perform, by_sequence as of_sequence, by_choice as of_choice, by_star as of_star, by_parallel as of_parallel, by_guard as of_guard}
 use Rattle.paths.specs.Paths.{Followed, followed, within, follow, marked}
 use Rattle.sharing.specs.Shared.{Ended, Then, term_of, shared_words, Unmasked, PartAt}
 use Rattle.sharing.specs.Beginning.{began, BeganRight, Beginning, EndPut}
@@ -59,19 +59,19 @@ module _ {s p : List ℕ} {at : ℕ} {x y : List ℕ} {r : ℕ} where
     by_any f = from_led same small (λ u P rest G t. f u P rest G (term_front s P G rest t))
 
     pub by_action : get_or s 0 0 ≡ 21 → ((u : List ℕ) (P : Scope) (rest : List ℕ) (a : VisibleAction) → Led s p at x y r u P rest (Perform a)) → Beginning s p at x y r
-    by_action e f = by_any (λ u P rest G h. of-perform (Led s p at x y r u P rest) (f u P rest) G (sym e ∙ h))
+    by_action e f = by_any (λ u P rest G h. of_perform (Led s p at x y r u P rest) (f u P rest) G (sym e ∙ h))
 
     pub by_sequence : get_or s 0 0 ≡ 22 → ((u : List ℕ) (P : Scope) (rest : List ℕ) (E F : Term) → Led s p at x y r u P rest (Sequence E F)) → Beginning s p at x y r
-    by_sequence e f = by_any (λ u P rest G h. of-sequence (Led s p at x y r u P rest) (f u P rest) G (sym e ∙ h))
+    by_sequence e f = by_any (λ u P rest G h. of_sequence (Led s p at x y r u P rest) (f u P rest) G (sym e ∙ h))
 
     pub by_choice : get_or s 0 0 ≡ 23 → ((u : List ℕ) (P : Scope) (rest : List ℕ) (E F : Term) → Led s p at x y r u P rest (Choice E F)) → Beginning s p at x y r
-    by_choice e f = by_any (λ u P rest G h. of-choice (Led s p at x y r u P rest) (f u P rest) G (sym e ∙ h))
+    by_choice e f = by_any (λ u P rest G h. of_choice (Led s p at x y r u P rest) (f u P rest) G (sym e ∙ h))
 
     pub by_star : get_or s 0 0 ≡ 24 → ((u : List ℕ) (P : Scope) (rest : List ℕ) (E : Term) → Led s p at x y r u P rest (Star E)) → Beginning s p at x y r
-    by_star e f = by_any (λ u P rest G h. of-star (Led s p at x y r u P rest) (f u P rest) G (sym e ∙ h))
+    by_star e f = by_any (λ u P rest G h. of_star (Led s p at x y r u P rest) (f u P rest) G (sym e ∙ h))
 
     pub by_parallel : get_or s 0 0 ≡ 25 → ((u : List ℕ) (P : Scope) (rest : List ℕ) (Δ : Mask) (E F : Term) → Led s p at x y r u P rest (Parallel Δ E F)) → Beginning s p at x y r
-    by_parallel e f = by_any (λ u P rest G h. of-parallel (Led s p at x y r u P rest) (f u P rest) G (sym e ∙ h))
+    by_parallel e f = by_any (λ u P rest G h. of_parallel (Led s p at x y r u P rest) (f u P rest) G (sym e ∙ h))
 
     pub by_guard : get_or s 0 0 ≡ 26 → ((u : List ℕ) (P : Scope) (rest : List ℕ) (C : Cond) (E : Term) → Led s p at x y r u P rest (Guard C E)) → Beginning s p at x y r
     by_guard e f = by_any (λ u P rest G h. of_guard (Led s p at x y r u P rest) (f u P rest) G (sym e ∙ h))

@@ -124,7 +124,7 @@ module _ (e p q x y z : List ℕ) (n at r o : ℕ) (m : Beginning e p at x y r) 
         let left = what_is_left E p few s i g in
         let on : q ≡ (follow E p).rest = is ∙ rest_of_path E p (r / 65536 % 65536) left.0 in
         let lq : length q ≤ 65535 = omega (arith, ap length on, rest_short E p, s) in
-        let known-right : Given u (drop n e) P F rest q = record {
+        let known_right : Given u (drop n e) P F rest q = record {
           few = l;
           under = under_on (drop n e) known.under (n, refl);
           there = right_there t n isn;
@@ -134,7 +134,7 @@ module _ (e p q x y z : List ℕ) (n at r o : ℕ) (m : Beginning e p at x y r) 
         } in
         let room : r % 65536 + size 1 (follow F (follow E p).rest).successor ≤ length y = omega (arith, end.1, k, m.same_length) in
         let roomq : r % 65536 + size 1 (follow F q).successor ≤ length y = subst (λ w. r % 65536 + size 1 (follow F w).successor ≤ length y) (sym on) room in
-        let h = begun there u P rest F known-right roomq in
+        let h = begun there u P rest F known_right roomq in
         let fewy : length y ≤ 65535 = omega (arith, few, m.same_length) in
         let X = shared_words g.shared in
         let Y = shared_words h.shared in

@@ -36,7 +36,7 @@ module _ (t u entry : List ℕ) (at : ℕ) where
     beside_long : length mid ≡ length entry
     beside_long = h.same_length ∙ ap length f ∙ put_length at head entry free
 
-    module _ (P : Scope) (S T : Shared) (rest : List ℕ) (e : 25 ∷ t ≡ 25 ∷ ((shared_words S ++ shared_words T) ++ rest)) (s-stands : Stands u P S) (t-stands : Stands u P T)
+    module _ (P : Scope) (S T : Shared) (rest : List ℕ) (e : 25 ∷ t ≡ 25 ∷ ((shared_words S ++ shared_words T) ++ rest)) (s_stands : Stands u P S) (t_stands : Stands u P T)
         (room : at + (5 + (length (words 1 (term_of S)) + length (words 1 (term_of T)))) ≤ length entry) where
       abbrev S_words : List ℕ
       S_words = words 1 (term_of S)
@@ -48,7 +48,7 @@ module _ (t u entry : List ℕ) (at : ℕ) where
       behind = ap (drop 1) e ∙ append_assoc (shared_words S) (shared_words T) rest
 
       first : (a ≡ answer (length (shared_words T ++ rest)) (at + 5 + length S_words)) × (mid ≡ put_at (at + 5) S_words front)
-      first = h.right P S (shared_words T ++ rest) behind s-stands (omega (arith, ap length f, put_length at head entry free))
+      first = h.right P S (shared_words T ++ rest) behind s_stands (omega (arith, ap length f, put_length at head entry free))
 
       rest_short : length (shared_words T ++ rest) ≤ 65535
       rest_short = omega (arith, ap length behind, length-append (shared_words S) (shared_words T ++ rest))
@@ -63,7 +63,7 @@ module _ (t u entry : List ℕ) (at : ℕ) where
       here = vt ∙ ap (λ n. last_of n t) left ∙ ap (last_of (length (shared_words T ++ rest))) behind ∙ last_behind (shared_words S) (shared_words T ++ rest)
 
       second : (r ≡ answer (length rest) (a / 65536 + length T_words)) × (exit ≡ put_at (a / 65536) T_words mid)
-      second = g.right P T rest here t-stands (omega (arith, place, beside_long))
+      second = g.right P T rest here t_stands (omega (arith, place, beside_long))
 
       beside_answer : r ≡ answer (length rest) (at + (5 + (length S_words + length T_words)))
       beside_answer = omega (arith, second.0, place, answer_is (length rest) (a / 65536 + length T_words), answer_is (length rest) (at + (5 + (length S_words + length T_words))))

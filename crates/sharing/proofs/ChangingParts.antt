@@ -90,8 +90,8 @@ began_is : (at left a : ℕ) → began at left a ≡ at + 65536 * (left + 65536 
 unfolding began
 began_is at left a = refl
 
-module _ {u d : List ℕ} {n i e w : ℕ} {p mid mid1 d' mid2 s : List ℕ} {r k : ℕ} (within : n ≤ length d) (ie : i ≤ e) (en : e ≤ n) (short-u : length u ≤ 65503) (short-d : length d ≤ 65535)
-    (short-p : length p ≤ 65535) (short-mid : length mid ≤ 65535) (is : s ≡ last_of (w - 32) u) (b : Beginning s p 0 mid mid1 r) (c : Spliced d mid1 n i e (r % 65536) d' mid2 k) where
+module _ {u d : List ℕ} {n i e w : ℕ} {p mid mid1 d' mid2 s : List ℕ} {r k : ℕ} (within : n ≤ length d) (ie : i ≤ e) (en : e ≤ n) (short_u : length u ≤ 65503) (short_d : length d ≤ 65535)
+    (short_p : length p ≤ 65535) (short_mid : length mid ≤ 65535) (is : s ≡ last_of (w - 32) u) (b : Beginning s p 0 mid mid1 r) (c : Spliced d mid1 n i e (r % 65536) d' mid2 k) where
   module _ (P : Scope) (l : ℕ) (E : Term) (ρ : Action) (T : Term) (g : w ≡ part_word l) (a : PartAt u P l E) (f : follow E p ≡ followed ρ T []) (m : marked E p ≡ true)
       (room : RoomFor T i (n - e) (length d) (length mid)) where
     there : s ≡ last_of l u
@@ -105,7 +105,7 @@ module _ {u d : List ℕ} {n i e w : ℕ} {p mid mid1 d' mid2 s : List ℕ} {r k
     begun : BeganRight u P (follow E p) 0 mid mid1 r
     begun =
         let fits : 0 + size 1 (follow E p).successor ≤ length mid = omega (arith, ap (λ (y : Followed). size 1 y.successor) f, room.spelled) in
-        b.right u P E a.rest short-u (omega (arith, many, a.within)) (there ∙ ap (λ j. last_of j u) (sym many)) (subst (λ z. TermAt z P E a.rest) (sym there) a.there) a.unmasked m short-p fits
+        b.right u P E a.rest short_u (omega (arith, many, a.within)) (there ∙ ap (λ j. last_of j u) (sym many)) (subst (λ z. TermAt z P E a.rest) (sym there) a.there) a.unmasked m short_p fits
 
     abbrev X : Shared
     X = begun.shared

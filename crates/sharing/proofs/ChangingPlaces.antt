@@ -67,7 +67,7 @@ module _ {u d : List ℕ} {n i : ℕ} {p mid d' mid' : List ℕ} {r : ℕ} (with
   -- A word above the codes.
   pub part_changed : {w : ℕ} → w ≡ get_or d i 0 → (w ≡ 25 → ⊥) → (w ≡ 22 → ⊥) → PartChanged u d n i (i + 1) w p mid d' mid' r → Changed u d n i p mid d' mid' r
   unfolding shared_words
-  part_changed {w} f no-beside no-then h = record { same_length = h.same_length; mid_same_length = h.mid_same_length; right = go }
+  part_changed {w} f no_beside no_then h = record { same_length = h.same_length; mid_same_length = h.mid_same_length; right = go }
     where
       go : (P : Scope) (z : Shared) (after : List ℕ) (ρ : Action) (T : Term) → slice i n d ≡ shared_words z ++ after → Changes u P p z ρ T
           → RoomFor T i (length after) (length d) (length mid) → ChangedRight u P ρ T (take i d) after d' r
@@ -76,10 +76,10 @@ module _ {u d : List ℕ} {n i : ℕ} {p mid d' mid' : List ℕ} {r : ℕ} (with
           by_part h P l E ρ T (part_word l ∷ []) after s refl (f ∙ word_here d n i within here (part_word l ∷ []) after s) a b c room
       go P z after ρ T e (resumed l E q a b c) room =
           let s : slice i n d ≡ (22 ∷ part_word l ∷ 30 ∷ []) ++ after = e ∙ ap (λ y. shared_words y ++ after) q in
-          absurd (no-then (f ∙ word_here d n i within here (22 ∷ part_word l ∷ 30 ∷ []) after s))
+          absurd (no_then (f ∙ word_here d n i within here (22 ∷ part_word l ∷ 30 ∷ []) after s))
       go P z after ρ T e (joined q a b) room =
           let s : slice i n d ≡ (25 ∷ 30 ∷ 30 ∷ []) ++ after = e ∙ ap (λ y. shared_words y ++ after) q in
-          absurd (no-beside (f ∙ word_here d n i within here (25 ∷ 30 ∷ 30 ∷ []) after s))
+          absurd (no_beside (f ∙ word_here d n i within here (25 ∷ 30 ∷ 30 ∷ []) after s))
 
   pub then_changed : {w : ℕ} → get_or d i 0 ≡ 22 → w ≡ get_or d (i + 1) 0 → PartChanged u d n i (i + 3) w p mid d' mid' r → Changed u d n i p mid d' mid' r
   then_changed {w} f g h = record {

@@ -26,7 +26,7 @@ use Rattle.sharing.proofs.FindingCases.{Told, found_of, sound_of, sound_passed}
 
 -- ── both sides are done ──
 
-module _ (u t v M : List ℕ) (k : ℕ) (entry : List ℕ) (n : ℕ) (isv : v ≡ drop 1 t) (first_done : get_or t 0 0 ≡ 30) (second-done : get_or v 0 0 ≡ 30) where
+module _ (u t v M : List ℕ) (k : ℕ) (entry : List ℕ) (n : ℕ) (isv : v ≡ drop 1 t) (first_done : get_or t 0 0 ≡ 30) (second_done : get_or v 0 0 ≡ 30) where
   module _ (S T : Shared) (rest : List ℕ) (i : t ≡ shared_words S ++ (shared_words T ++ rest)) where
     is_left : S ≡ Ended
     is_left = when_ended S (sym (shared_front S (shared_words T ++ rest)) ∙ sym (ap (λ z. get_or z 0 0) i) ∙ first_done)
@@ -36,7 +36,7 @@ module _ (u t v M : List ℕ) (k : ℕ) (entry : List ℕ) (n : ℕ) (isv : v �
     behind_left = isv ∙ ap (drop 1) (i ∙ ap (λ X. shared_words X ++ (shared_words T ++ rest)) is_left)
 
     is_right : T ≡ Ended
-    is_right = when_ended T (sym (shared_front T rest) ∙ sym (ap (λ z. get_or z 0 0) behind_left) ∙ second-done)
+    is_right = when_ended T (sym (shared_front T rest) ∙ sym (ap (λ z. get_or z 0 0) behind_left) ∙ second_done)
 
     behind_right : drop 1 v ≡ rest
     unfolding shared_words

@@ -36,10 +36,10 @@ words_missing h = never_stepped (λ P S a b c e f x g. omega arith)
 module _ (u d : List ℕ) (n : ℕ) (M s : List ℕ) (k numbers : ℕ) (entry exit : List ℕ) (r : ℕ) (short : length d ≤ 65535) (is : s ≡ take n d) (f : Found u s M k entry exit numbers r) where
   -- ── what was found ──
 
-  module _ (within : n ≤ length d) (P : Scope) (S : Shared) (words : take n d ≡ shared_words S) (stands : Stands u P S) (paths-enough : length u ≤ length entry) (numbers-enough : length u ≤ numbers)
+  module _ (within : n ≤ length d) (P : Scope) (S : Shared) (words : take n d ≡ shared_words S) (stands : Stands u P S) (paths_enough : length u ≤ length entry) (numbers_enough : length u ≤ numbers)
       (x : Move) (e : get_elem? (moves (holding M) (term_of S)) k ≡ some x) where
     right : FoundRight u P M S [] k exit r
-    right = f.found P S [] (is ∙ words ∙ sym (append-nil (shared_words S))) stands paths-enough numbers-enough (some_within (moves (holding M) (term_of S)) k x e)
+    right = f.found P S [] (is ∙ words ∙ sym (append-nil (shared_words S))) stands paths_enough numbers_enough (some_within (moves (holding M) (term_of S)) k x e)
 
     abbrev place : Place u P M (drop right.q exit) S k
     place = right.place

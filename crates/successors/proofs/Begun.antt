@@ -15,7 +15,7 @@ use Rattle.actions.specs.Codes.{action_code}
 use Rattle.listing.specs.Listing.{Fits, TermAt}
 use Rattle.listing.specs.Rows.{terms_words, terms_append, all_append}
 use Rattle.listing.specs.Positions.{term_front}
-use Rattle.listing.specs.ByCode.{by_perform as of-perform, by_sequence as of-sequence, by_choice as of-choice, by_star as of-star, by_parallel as of-parallel, by_guard as of_guard}
+use Rattle.listing.specs.ByCode.{by_perform as of_perform, by_sequence as of_sequence, by_choice as of_choice, by_star as of_star, by_parallel as of_parallel, by_guard as of_guard}
 use Rattle.paths.specs.Paths.{follow, marked}
 use Rattle.successors.specs.Building.{built_words, Building}
 use Rattle.successors.specs.Parts.{Bounded, Unbuilt, Made, Whole, Going, Begun, BegunOf, Beginning, Behind, After, with_right, Closed}
@@ -217,19 +217,19 @@ module _ (s p x y : List ℕ) (r : Built) (b : Bounded (length s) (length p) x y
   Led P rest G = TermAt s P G rest → marked G p ≡ true → BegunOf P s (follow G p) rest x y r
 
   pub by_action : get_or s 0 0 ≡ 21 → ((P : Scope) (rest : List ℕ) (a : VisibleAction) → Led P rest (Perform a)) → Beginning s p x y r
-  by_action e f = record { bounds = b; begun = λ P G rest t. of-perform (Led P rest) (f P rest) G (sym e ∙ term_front s P G rest t) t }
+  by_action e f = record { bounds = b; begun = λ P G rest t. of_perform (Led P rest) (f P rest) G (sym e ∙ term_front s P G rest t) t }
 
   pub by_sequence : get_or s 0 0 ≡ 22 → ((P : Scope) (rest : List ℕ) (E F : Term) → Led P rest (Sequence E F)) → Beginning s p x y r
-  by_sequence e f = record { bounds = b; begun = λ P G rest t. of-sequence (Led P rest) (f P rest) G (sym e ∙ term_front s P G rest t) t }
+  by_sequence e f = record { bounds = b; begun = λ P G rest t. of_sequence (Led P rest) (f P rest) G (sym e ∙ term_front s P G rest t) t }
 
   pub by_choice : get_or s 0 0 ≡ 23 → ((P : Scope) (rest : List ℕ) (E F : Term) → Led P rest (Choice E F)) → Beginning s p x y r
-  by_choice e f = record { bounds = b; begun = λ P G rest t. of-choice (Led P rest) (f P rest) G (sym e ∙ term_front s P G rest t) t }
+  by_choice e f = record { bounds = b; begun = λ P G rest t. of_choice (Led P rest) (f P rest) G (sym e ∙ term_front s P G rest t) t }
 
   pub by_star : get_or s 0 0 ≡ 24 → ((P : Scope) (rest : List ℕ) (E : Term) → Led P rest (Star E)) → Beginning s p x y r
-  by_star e f = record { bounds = b; begun = λ P G rest t. of-star (Led P rest) (f P rest) G (sym e ∙ term_front s P G rest t) t }
+  by_star e f = record { bounds = b; begun = λ P G rest t. of_star (Led P rest) (f P rest) G (sym e ∙ term_front s P G rest t) t }
 
   pub by_parallel : get_or s 0 0 ≡ 25 → ((P : Scope) (rest : List ℕ) (Δ : Mask) (E F : Term) → Led P rest (Parallel Δ E F)) → Beginning s p x y r
-  by_parallel e f = record { bounds = b; begun = λ P G rest t. of-parallel (Led P rest) (f P rest) G (sym e ∙ term_front s P G rest t) t }
+  by_parallel e f = record { bounds = b; begun = λ P G rest t. of_parallel (Led P rest) (f P rest) G (sym e ∙ term_front s P G rest t) t }
 
   pub by_guard : get_or s 0 0 ≡ 26 → ((P : Scope) (rest : List ℕ) (C : Cond) (E : Term) → Led P rest (Guard C E)) → Beginning s p x y r
   by_guard e f = record { bounds = b; begun = λ P G rest t. of_guard (Led P rest) (f P rest) G (sym e ∙ term_front s P G rest t) t }

@@ -17,7 +17,7 @@ use Rattle.weights.specs.declared.Weight.{Weight}
 use Rattle.weights.specs.Weighing.{cap, measure}
 use Rattle.arguments.specs.Tables.{declared}
 use Rattle.terms.specs.Given.{wrong, weighed_running}
-use Rattle.terms.specs.Answers.{packed, Packs, join-of, weighed-pair}
+use Rattle.terms.specs.Answers.{packed, Packs, join_of, weighed_pair}
 use Rattle.terms.specs.Laws.{term_case}
 use Rattle.terms.proofs.Parts.{reads}
 
@@ -25,13 +25,13 @@ pub term_none : (T s : List ℕ) → length s ≡ 0 → wrong ≡ weighed_runnin
 unfolding read_term terms weighed_running
 term_none T s h = rw (nil_form s h)
 
-weighed_sequence : (s : Read (Term × Term)) → weighed-pair 22 s ≡ weighed_running (giving (λ p. Sequence p.0 p.1) s)
-unfolding weighed-pair weighed_running giving measure_running join-of
+weighed_sequence : (s : Read (Term × Term)) → weighed_pair 22 s ≡ weighed_running (giving (λ p. Sequence p.0 p.1) s)
+unfolding weighed_pair weighed_running giving measure_running join_of
 weighed_sequence (refused k) = refl
 weighed_sequence (taken s t) = refl
 
-weighed_choice : (s : Read (Term × Term)) → weighed-pair 23 s ≡ weighed_running (giving (λ p. Choice p.0 p.1) s)
-unfolding weighed-pair weighed_running giving measure_running join-of
+weighed_choice : (s : Read (Term × Term)) → weighed_pair 23 s ≡ weighed_running (giving (λ p. Choice p.0 p.1) s)
+unfolding weighed_pair weighed_running giving measure_running join_of
 weighed_choice (refused k) = refl
 weighed_choice (taken s t) = refl
 
@@ -79,11 +79,11 @@ module _ (T s t : List ℕ) (h : length s ≡ 0 → ⊥) (q : t ≡ drop 1 s) wh
     pub term_action : get_or s 0 0 ≡ 21 → x ≡ weighed_running (action_of (declared T) t) → x ≡ weighed_running (read_term (declared T) s)
     term_action e f = by_kind TermKind.action x (ap term_kind e) f
 
-    pub term_pair : (c : ℕ) → Other (get_or s 0 0) → 20 ≤ get_or s 0 0 → get_or s 0 0 < 24 → c ≡ get_or s 0 0 → x ≡ weighed-pair c (both (read_term (declared T)) (read_term (declared T)) t) → x ≡ weighed_running (read_term (declared T) s)
+    pub term_pair : (c : ℕ) → Other (get_or s 0 0) → 20 ≤ get_or s 0 0 → get_or s 0 0 < 24 → c ≡ get_or s 0 0 → x ≡ weighed_pair c (both (read_term (declared T)) (read_term (declared T)) t) → x ≡ weighed_running (read_term (declared T) s)
     term_pair c o l u e f =
         ⊎_elim
-        (λ d. by_kind (TermKind.pair Sequence) x (ap term_kind d) (f ∙ ap (λ k. weighed-pair k (both (reads T) (reads T) t)) (e ∙ d) ∙ weighed_sequence (both (reads T) (reads T) t)))
-        (λ d. by_kind (TermKind.pair Choice) x (ap term_kind d) (f ∙ ap (λ k. weighed-pair k (both (reads T) (reads T) t)) (e ∙ d) ∙ weighed_choice (both (reads T) (reads T) t)))
+        (λ d. by_kind (TermKind.pair Sequence) x (ap term_kind d) (f ∙ ap (λ k. weighed_pair k (both (reads T) (reads T) t)) (e ∙ d) ∙ weighed_sequence (both (reads T) (reads T) t)))
+        (λ d. by_kind (TermKind.pair Choice) x (ap term_kind d) (f ∙ ap (λ k. weighed_pair k (both (reads T) (reads T) t)) (e ∙ d) ∙ weighed_choice (both (reads T) (reads T) t)))
         (two_ways (get_or s 0 0) 22 (above (get_or s 0 0) o.0.0.0.0.0.1 o.0.0.0.0.1 l) (omega arith))
 
     pub term_star : get_or s 0 0 ≡ 24 → x ≡ weighed_running (giving Star (read_term (declared T) t)) → x ≡ weighed_running (read_term (declared T) s)

@@ -19,7 +19,7 @@ use Rattle.scan.specs.Checking.{last_of}
 use Rattle.weights.specs.Weighing.{cap}
 use Rattle.arguments.specs.Tables.{declared}
 use Rattle.terms.specs.Given.{wrong, weighed_running}
-use Rattle.terms.specs.Answers.{packed, unpacked, Answer, stars_of, starred-of, stars-in-front, InFront}
+use Rattle.terms.specs.Answers.{packed, unpacked, Answer, stars_of, starred_of, stars_in_front, InFront}
 use Rattle.terms.specs.Laws.{term_case}
 use Rattle.terms.specs.AnswerLaws.{refused_wrong, Got, got, none_read}
 
@@ -28,30 +28,30 @@ use Rattle.terms.specs.AnswerLaws.{refused_wrong, Got, got, none_read}
 -- i of the stars are counted.
 pub record Counted (t : List ℕ) (i : ℕ) : Type 0 where
   pub within : i ≤ length t
-  pub front : stars-in-front t ≡ i + stars-in-front (drop i t)
+  pub front : stars_in_front t ≡ i + stars_in_front (drop i t)
 
 pub front_start : (t : List ℕ) → Counted t 0
 front_start t = record { within = omega arith; front = omega arith }
 
 module _ (t : List ℕ) (i : ℕ) (c : Counted t i) where
   pub front_next : i < length t → get_or t i 0 ≡ 24 → Counted t (i + 1)
-  unfolding stars-in-front
+  unfolding stars_in_front
   front_next l e =
-      let a : stars-in-front (drop i t) ≡ suc (stars-in-front (drop (suc i) t)) = ap stars-in-front (drop-cons t i 0 l ∙ ap (λ w. w ∷ drop (suc i) t) e) in
-      let b : stars-in-front (drop (i + 1) t) ≡ stars-in-front (drop (suc i) t) = ap (λ j. stars-in-front (drop j t)) (add-one i) in
+      let a : stars_in_front (drop i t) ≡ suc (stars_in_front (drop (suc i) t)) = ap stars_in_front (drop-cons t i 0 l ∙ ap (λ w. w ∷ drop (suc i) t) e) in
+      let b : stars_in_front (drop (i + 1) t) ≡ stars_in_front (drop (suc i) t) = ap (λ j. stars_in_front (drop j t)) (add-one i) in
       record { within = omega arith; front = omega (arith, a, b, c.front) }
 
   pub front_stop : i < length t → (get_or t i 0 ≡ 24 → ⊥) → InFront t i
-  unfolding stars-in-front
+  unfolding stars_in_front
   front_stop l e =
-      let b : stars-in-front (get_or t i 0 ∷ drop (suc i) t) ≡ 0 = rw (ne_eqb (get_or t i 0) 24 e) in
-      let a : stars-in-front (drop i t) ≡ 0 = ap stars-in-front (drop-cons t i 0 l) ∙ b in
+      let b : stars_in_front (get_or t i 0 ∷ drop (suc i) t) ≡ 0 = rw (ne_eqb (get_or t i 0) 24 e) in
+      let a : stars_in_front (drop i t) ≡ 0 = ap stars_in_front (drop-cons t i 0 l) ∙ b in
       record { front = omega (arith, a, c.front); short = c.within }
 
   pub front_end : length t ≤ i → InFront t i
-  unfolding stars-in-front
+  unfolding stars_in_front
   front_end l =
-      let a : stars-in-front (drop i t) ≡ 0 = ap stars-in-front (drop_of_length-le t {i = i} l) in
+      let a : stars_in_front (drop i t) ≡ 0 = ap stars_in_front (drop_of_length-le t {i = i} l) in
       record { front = omega (arith, a, c.front); short = c.within }
 
 pub ruleset counting = (front_start, front_next, front_stop, front_end)
@@ -66,13 +66,13 @@ unfoldable stars_around : ℕ → Term → Term
 stars_around zero E = E
 stars_around (suc k) E = Star (stars_around k E)
 
-stars_read : (R : RuleSet) (t : List ℕ) → read_term R t ≡ stars_over (stars-in-front t) (read_term R (drop (stars-in-front t) t))
-unfolding stars-in-front stars_over
+stars_read : (R : RuleSet) (t : List ℕ) → read_term R t ≡ stars_over (stars_in_front t) (read_term R (drop (stars_in_front t) t))
+unfolding stars_in_front stars_over
 stars_read R [] = refl
 stars_read R (w ∷ t) = go (stars_read R t) (eqb w 24) refl
   where
-    go : read_term R t ≡ stars_over (stars-in-front t) (read_term R (drop (stars-in-front t) t)) → (b : Bool) → eqb w 24 ≡ b
-        → read_term R (w ∷ t) ≡ stars_over (pick b (suc (stars-in-front t)) 0) (read_term R (drop (pick b (suc (stars-in-front t)) 0) (w ∷ t)))
+    go : read_term R t ≡ stars_over (stars_in_front t) (read_term R (drop (stars_in_front t) t)) → (b : Bool) → eqb w 24 ≡ b
+        → read_term R (w ∷ t) ≡ stars_over (pick b (suc (stars_in_front t)) 0) (read_term R (drop (pick b (suc (stars_in_front t)) 0) (w ∷ t)))
     go h true e = term_case R (w ∷ t) TermKind.star (λ z. omega arith) (ap term_kind (eqb-true w 24 e)) ∙ ap (giving Star) h
     go h false e = refl
 
@@ -93,7 +93,7 @@ stars_measured (suc k) E = ap (star_of (sat cap)) (stars_measured k E)
 
 -- k stars stand in front of t, and r is what stands behind them
 module _ (T t : List ℕ) (k : ℕ) (r : List ℕ) (p : ℕ) (fits : length t ≤ 8192) (i : InFront t k) (l : r ≡ last_of (length t - k) t) (e : p ≡ weighed_running (read_term (declared T) r)) where
-  f : k ≡ stars-in-front t
+  f : k ≡ stars_in_front t
   f = i.front
 
   behind_stars : r ≡ drop k t
@@ -121,8 +121,8 @@ module _ (T t : List ℕ) (k : ℕ) (r : List ℕ) (p : ℕ) (fits : length t �
     pub star_fits : Answer (length t - k) p
     star_fits = rw (← long) under.answer
 
-    pub star_in : (x : ℕ) → x ≡ starred-of (k + 1) (length t - k) p → x ≡ weighed_running (giving Star (read_term (declared T) t))
-    unfolding starred-of weighed_running
+    pub star_in : (x : ℕ) → x ≡ starred_of (k + 1) (length t - k) p → x ≡ weighed_running (giving Star (read_term (declared T) t))
+    unfolding starred_of weighed_running
     star_in x g =
         let o = under in
         let m : unpacked (length t - k - p % 65536) p ≡ measure_running (sat cap) 1 o.value = (λ j. unpacked (sym long j - p % 65536) p) ∙ o.measured in

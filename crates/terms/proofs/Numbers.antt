@@ -12,7 +12,7 @@ use Rattle.eb3.specs.Measures.{sat, Measure, sequence_of, choice_of, star_of, gu
 use Rattle.eb3.specs.Reading.{pick}
 use Rattle.weights.specs.declared.Weight.{Weight}
 use Rattle.weights.specs.Weighing.{cap, measure, parallel_by}
-use Rattle.terms.specs.Answers.{packed, unpacked, Answer, Packs, Operands, Operand, join-of, joined_of, guarded-of, stars_of, starred-of}
+use Rattle.terms.specs.Answers.{packed, unpacked, Answer, Packs, Operands, Operand, join_of, joined_of, guarded_of, stars_of, starred_of}
 
 pub weigh_in : (n p g b : ℕ) → g ≡ p / 65536 % 131072 → b ≡ p / 8589934592 → ◌≡◌ {A = Measure} (record { size = n; reach = g; breadth = b }) (unpacked n p)
 weigh_in n p g b e f = λ j. record { size = n; reach = e j; breadth = f j }
@@ -20,20 +20,20 @@ weigh_in n p g b e f = λ j. record { size = n; reach = e j; breadth = f j }
 -- ── two operands ──
 
 module _ (c : ℕ) (a b x : Weight) where
-  pub join_sequence : c ≡ 22 → measure x ≡ sequence_of (sat cap) (measure a) (measure b) → measure x ≡ join-of c (measure a) (measure b)
-  unfolding join-of
-  join_sequence e h = h ∙ ap (λ k. join-of k (measure a) (measure b)) (sym e)
+  pub join_sequence : c ≡ 22 → measure x ≡ sequence_of (sat cap) (measure a) (measure b) → measure x ≡ join_of c (measure a) (measure b)
+  unfolding join_of
+  join_sequence e h = h ∙ ap (λ k. join_of k (measure a) (measure b)) (sym e)
 
-  pub join_choice : c ≡ 23 → measure x ≡ choice_of (sat cap) (measure a) (measure b) → measure x ≡ join-of c (measure a) (measure b)
-  unfolding join-of
-  join_choice e h = h ∙ ap (λ k. join-of k (measure a) (measure b)) (sym e)
+  pub join_choice : c ≡ 23 → measure x ≡ choice_of (sat cap) (measure a) (measure b) → measure x ≡ join_of c (measure a) (measure b)
+  unfolding join_of
+  join_choice e h = h ∙ ap (λ k. join_of k (measure a) (measure b)) (sym e)
 
-  pub join_apart : c ≡ 25 → measure x ≡ parallel_by true (measure a) (measure b) → measure x ≡ join-of c (measure a) (measure b)
-  unfolding join-of
-  join_apart e h = h ∙ ap (λ k. join-of k (measure a) (measure b)) (sym e)
+  pub join_apart : c ≡ 25 → measure x ≡ parallel_by true (measure a) (measure b) → measure x ≡ join_of c (measure a) (measure b)
+  unfolding join_of
+  join_apart e h = h ∙ ap (λ k. join_of k (measure a) (measure b)) (sym e)
 
-  pub join_joint : (((Unit {0} × (c ≡ 22 → ⊥)) × (c ≡ 23 → ⊥)) × (c ≡ 25 → ⊥)) → measure x ≡ parallel_by false (measure a) (measure b) → measure x ≡ join-of c (measure a) (measure b)
-  unfolding join-of
+  pub join_joint : (((Unit {0} × (c ≡ 22 → ⊥)) × (c ≡ 23 → ⊥)) × (c ≡ 25 → ⊥)) → measure x ≡ parallel_by false (measure a) (measure b) → measure x ≡ join_of c (measure a) (measure b)
+  unfolding join_of
   join_joint o h = rw (ne_eqb c 22 o.0.0.1, ne_eqb c 23 o.0.1, ne_eqb c 25 o.1) h
 
 pub ruleset joins = (join_sequence, join_choice, join_apart, join_joint)
@@ -51,8 +51,8 @@ small_parallel : (b : Bool) (l r : Measure) → Small (parallel_by b l r)
 small_parallel true l r = record { small_reach = omega arith; small_breadth = omega arith }
 small_parallel false l r = record { small_reach = omega arith; small_breadth = omega arith }
 
-join_small : (c : ℕ) (l r : Measure) → Small l → Small r → Small (join-of c l r)
-unfolding join-of
+join_small : (c : ℕ) (l r : Measure) → Small l → Small r → Small (join_of c l r)
+unfolding join_of
 join_small c l r p q =
     small_pick (eqb c 22) (sequence_of (sat cap) l r) _ (record { small_reach = omega arith; small_breadth = omega arith })
     (small_pick (eqb c 23) (choice_of (sat cap) l r) (parallel_by (eqb c 25) l r) (record { small_reach = omega arith; small_breadth = omega arith }) (small_parallel (eqb c 25) l r))
@@ -66,9 +66,9 @@ fits_small n w m h e s =
     let b : w.breadth ≡ m.breadth = ap (λ (x : Measure). x.breadth) e in
     record { few = h; cut_reach = omega arith; cut_breadth = omega arith }
 
-module _ (c n p q m k : ℕ) (a b x : Weight) (i : m ≡ p % 65536) (j : k ≡ q % 65536) (f : measure a ≡ unpacked (n - m) p) (g : measure b ≡ unpacked (m - k) q) (h : measure x ≡ join-of c (measure a) (measure b)) where
-  joint : measure x ≡ join-of c (unpacked (n - m) p) (unpacked (m - k) q)
-  joint = h ∙ (λ l. join-of c (f l) (g l))
+module _ (c n p q m k : ℕ) (a b x : Weight) (i : m ≡ p % 65536) (j : k ≡ q % 65536) (f : measure a ≡ unpacked (n - m) p) (g : measure b ≡ unpacked (m - k) q) (h : measure x ≡ join_of c (measure a) (measure b)) where
+  joint : measure x ≡ join_of c (unpacked (n - m) p) (unpacked (m - k) q)
+  joint = h ∙ (λ l. join_of c (f l) (g l))
 
   pub joined_fits : Operands n p q → Packs k (measure x)
   joined_fits o =
@@ -78,7 +78,7 @@ module _ (c n p q m k : ℕ) (a b x : Weight) (i : m ≡ p % 65536) (j : k ≡ q
 
   pub joined_in : (y : ℕ) → y ≡ packed k (measure x) → y ≡ joined_of c n p q
   unfolding joined_of
-  joined_in y e = e ∙ (λ l. packed (j l) (joint l)) ∙ (λ l. packed (q % 65536) (join-of c (unpacked (n - i l) p) (unpacked (i l - j l) q)))
+  joined_in y e = e ∙ (λ l. packed (j l) (joint l)) ∙ (λ l. packed (q % 65536) (join_of c (unpacked (n - i l) p) (unpacked (i l - j l) q)))
 
 pub ruleset joining = (joined_fits, joined_in)
 
@@ -93,8 +93,8 @@ module _ (n m p k z : ℕ) (a x : Weight) (i : k ≡ p % 65536) (j : z ≡ n - m
       let s = o.answer in
       fits_small k x _ (omega (arith, s.short, s.left)) over (record { small_reach = omega (arith, s.reach); small_breadth = s.breadth })
 
-  pub guard_in : (y : ℕ) → y ≡ packed k (measure x) → y ≡ guarded-of n m p
-  unfolding guarded-of
+  pub guard_in : (y : ℕ) → y ≡ packed k (measure x) → y ≡ guarded_of n m p
+  unfolding guarded_of
   guard_in y e = e ∙ (λ l. packed (i l) (over l)) ∙ (λ l. packed (p % 65536) (guard_of (sat cap) (n - m) (unpacked (m - i l) p)))
 
 pub ruleset guarding = (guard_fits, guard_in)
@@ -123,8 +123,8 @@ stars_next k i v w x s l e =
 pub stars_fit : (k n p m i : ℕ) (v : Measure) (w : Weight) → m ≡ p % 65536 → Answer n p → Starred k i v (measure w) → Packs m (measure w)
 stars_fit k n p m i v w e a s = record { few = omega (arith, a.short, a.left); cut_reach = s.low_reach; cut_breadth = s.low_breadth }
 
-pub stars_in : (k n p m i : ℕ) (v w : Weight) (y : ℕ) → m ≡ p % 65536 → measure v ≡ unpacked (n - m) p → Starred k i (measure v) (measure w) → k ≤ i → y ≡ packed m (measure w) → y ≡ starred-of k n p
-unfolding starred-of
+pub stars_in : (k n p m i : ℕ) (v w : Weight) (y : ℕ) → m ≡ p % 65536 → measure v ≡ unpacked (n - m) p → Starred k i (measure v) (measure w) → k ≤ i → y ≡ packed m (measure w) → y ≡ starred_of k n p
+unfolding starred_of
 stars_in k n p m i v w y e f s l g =
     let o : i ≡ k = omega (arith, s.within) in
     g ∙ (λ j. packed (e j) (s.nested j)) ∙ (λ j. packed (p % 65536) (stars_of (o j) (f j))) ∙ (λ j. packed (p % 65536) (stars_of k (unpacked (n - e j) p)))

@@ -30,7 +30,7 @@ use Rattle.weights.specs.Weighing.{cap, parallel_by}
 use Rattle.arguments.specs.Tables.{declared}
 use Rattle.arguments.specs.TableLaws.{labels_length, guard_declared, mask_ends, mask_read}
 use Rattle.terms.specs.Given.{wrong, weighed_running}
-use Rattle.terms.specs.Answers.{packed, unpacked, Answer, Operands, Operand, join-of, joined_of, weighed-pair, guarded-of}
+use Rattle.terms.specs.Answers.{packed, unpacked, Answer, Operands, Operand, join_of, joined_of, weighed_pair, guarded_of}
 use Rattle.terms.specs.AnswerLaws.{refused_wrong, Got, got, none_read}
 
 abbrev pub reads : List ℕ → Reader Term
@@ -39,8 +39,8 @@ reads T = read_term (declared T)
 -- ── two terms ──
 
 module _ (T t : List ℕ) (c p : ℕ) (fits : length t ≤ 8192) (e : p ≡ weighed_running (read_term (declared T) t)) where
-  pub pair_first : p ≡ wrong → wrong ≡ weighed-pair c (both (read_term (declared T)) (read_term (declared T)) t)
-  unfolding weighed-pair
+  pub pair_first : p ≡ wrong → wrong ≡ weighed_pair c (both (read_term (declared T)) (read_term (declared T)) t)
+  unfolding weighed_pair
   pair_first h =
       let g = none_read T t p fits e h in
       rw (both_first (reads T) (reads T) t g.0 g.1)
@@ -59,8 +59,8 @@ module _ (T t : List ℕ) (c p : ℕ) (fits : length t ≤ 8192) (e : p ≡ weig
     short : length r ≤ 8192
     short = omega (arith, last_len n t r l)
 
-    pub pair_second : q ≡ wrong → wrong ≡ weighed-pair c (both (read_term (declared T)) (read_term (declared T)) t)
-    unfolding weighed-pair
+    pub pair_second : q ≡ wrong → wrong ≡ weighed_pair c (both (read_term (declared T)) (read_term (declared T)) t)
+    unfolding weighed_pair
     pair_second o =
         let g = none_read T r q short f o in
         rw (both_second (reads T) (reads T) t first.value first.rest g.0 first.read (ap (reads T) rest_is ∙ g.1))
@@ -72,14 +72,14 @@ module _ (T t : List ℕ) (c p : ℕ) (fits : length t ≤ 8192) (e : p ≡ weig
       pub pair_fits : Operands (length t) p q
       pair_fits = record { first = first.answer; second = subst (λ k. Answer k q) long second.answer }
 
-      pub pair_in : (x : ℕ) → x ≡ joined_of c (length t) p q → x ≡ weighed-pair c (both (read_term (declared T)) (read_term (declared T)) t)
-      unfolding joined_of weighed-pair
+      pub pair_in : (x : ℕ) → x ≡ joined_of c (length t) p q → x ≡ weighed_pair c (both (read_term (declared T)) (read_term (declared T)) t)
+      unfolding joined_of weighed_pair
       pair_in x g =
           let a = first in
           let b = second in
           let m : unpacked (p % 65536 - q % 65536) q ≡ measure_running (sat cap) 1 b.value = (λ j. unpacked (sym long j - q % 65536) q) ∙ b.measured in
           let z : both (reads T) (reads T) t ≡ taken (a.value, b.value) b.rest = both_taken (reads T) (reads T) t a.value a.rest b.value b.rest a.read (ap (reads T) rest_is ∙ b.read) in
-          g ∙ (λ j. packed (b.left j) (join-of c (a.measured j) (m j))) ∙ sym (ap (weighed-pair c) z)
+          g ∙ (λ j. packed (b.left j) (join_of c (a.measured j) (m j))) ∙ sym (ap (weighed_pair c) z)
 
 pub ruleset pairs = (pair_first, pair_second, pair_fits, pair_in)
 
@@ -90,8 +90,8 @@ unfolding giving
 giving_giving f g (refused k) = refl
 giving_giving f g (taken a t) = refl
 
-weighed_parallel : (c : ℕ) (Δ : Mask) → ((l r : Measure) → join-of c l r ≡ parallel_of (sat cap) Δ l r) → (s : Read (Term × Term)) → weighed-pair c s ≡ weighed_running (giving (λ p. Parallel Δ p.0 p.1) s)
-unfolding weighed-pair weighed_running giving measure_running
+weighed_parallel : (c : ℕ) (Δ : Mask) → ((l r : Measure) → join_of c l r ≡ parallel_of (sat cap) Δ l r) → (s : Read (Term × Term)) → weighed_pair c s ≡ weighed_running (giving (λ p. Parallel Δ p.0 p.1) s)
+unfolding weighed_pair weighed_running giving measure_running
 weighed_parallel c Δ h (refused k) = refl
 weighed_parallel c Δ h (taken s t) = λ j. packed (length t) (h (measure_running (sat cap) 1 s.0) (measure_running (sat cap) 1 s.1) j)
 
@@ -114,19 +114,19 @@ module _ (T t : List ℕ) (b : ℕ) (p : Checked) (i : b ≡ get_or T 17 0) (e :
     mask_zero : z ≡ zero_mask mask.value
     mask_zero = o ∙ ap zero_mask (sym (mask_read 4 (length (declared T).labels) t mask.value mask.rest mask.read))
 
-    by_mask : (c : ℕ) → ((l r : Measure) → join-of c l r ≡ parallel_of (sat cap) mask.value l r) → x ≡ weighed-pair c (both (reads T) (reads T) r) → x ≡ weighed_running (term_by (declared T) (read_term (declared T)) TermKind.parallel t)
+    by_mask : (c : ℕ) → ((l r : Measure) → join_of c l r ≡ parallel_of (sat cap) mask.value l r) → x ≡ weighed_pair c (both (reads T) (reads T) r) → x ≡ weighed_running (term_by (declared T) (read_term (declared T)) TermKind.parallel t)
     by_mask c j f =
         let k : both masks (both (reads T) (reads T)) t ≡ giving (λ s. (mask.value, s)) (both (reads T) (reads T) r) =
         both_behind masks (both (reads T) (reads T)) t mask.value mask.rest mask.read ∙ ap (λ u. giving (λ s. (mask.value, s)) (both (reads T) (reads T) u)) (sym mask.words ∙ sym l) in
         f ∙ weighed_parallel c mask.value j (both (reads T) (reads T) r)
         ∙ sym (ap weighed_running (ap (giving (λ s. Parallel s.0 s.1.0 s.1.1)) k ∙ giving_giving _ _ (both (reads T) (reads T) r)))
 
-    pub parallel_zero : z ≡ true → x ≡ weighed-pair 25 (both (read_term (declared T)) (read_term (declared T)) r) → x ≡ weighed_running (term_by (declared T) (read_term (declared T)) TermKind.parallel t)
-    unfolding join-of
+    pub parallel_zero : z ≡ true → x ≡ weighed_pair 25 (both (read_term (declared T)) (read_term (declared T)) r) → x ≡ weighed_running (term_by (declared T) (read_term (declared T)) TermKind.parallel t)
+    unfolding join_of
     parallel_zero y f = by_mask 25 (λ u v. ap (λ k. parallel_by k u v) (sym y ∙ mask_zero)) f
 
-    pub parallel_some : z ≡ false → x ≡ weighed-pair 0 (both (read_term (declared T)) (read_term (declared T)) r) → x ≡ weighed_running (term_by (declared T) (read_term (declared T)) TermKind.parallel t)
-    unfolding join-of
+    pub parallel_some : z ≡ false → x ≡ weighed_pair 0 (both (read_term (declared T)) (read_term (declared T)) r) → x ≡ weighed_running (term_by (declared T) (read_term (declared T)) TermKind.parallel t)
+    unfolding join_of
     parallel_some y f = by_mask 0 (λ u v. ap (λ k. parallel_by k u v) (sym y ∙ mask_zero)) f
 
 pub ruleset parallels = (parallel_none, parallel_zero, parallel_some)
@@ -184,8 +184,8 @@ module _ (T t : List ℕ) (b : ℕ) (p : Checked) (i : b ≡ get_or T 210 0) (e 
       unfolding declared
       size_taken = ap (λ m. length t - m) condition.left ∙ words_taken (guard_scope (attributes (declared T)) 0) t condition.value condition.rest condition.read
 
-      pub guarded_in : (x : ℕ) → x ≡ guarded-of (length t) n q → x ≡ weighed_running (term_by (declared T) (read_term (declared T)) TermKind.guard t)
-      unfolding guarded-of weighed_running measure_running
+      pub guarded_in : (x : ℕ) → x ≡ guarded_of (length t) n q → x ≡ weighed_running (term_by (declared T) (read_term (declared T)) TermKind.guard t)
+      unfolding guarded_of weighed_running measure_running
       guarded_in x g =
           let a = condition in
           let b = operand in

@@ -46,35 +46,35 @@ pub record Operand (n m p : ℕ) : Type 0 where
   pub few : n ≤ 8192
 
 -- What two operands measure together: 22 a sequence, 23 a choice, 25 a parallel whose mask is zero, else one whose mask is not.
-unfoldable pub join-of : ℕ → Measure → Measure → Measure
-join-of c l r = pick (eqb c 22) (sequence_of (sat cap) l r) (pick (eqb c 23) (choice_of (sat cap) l r) (parallel_by (eqb c 25) l r))
+unfoldable pub join_of : ℕ → Measure → Measure → Measure
+join_of c l r = pick (eqb c 22) (sequence_of (sat cap) l r) (pick (eqb c 23) (choice_of (sat cap) l r) (parallel_by (eqb c 25) l r))
 
 -- p is the answer of the first, of n words, and q that of the second, of the words behind it.
 unfoldable pub joined_of : ℕ → ℕ → ℕ → ℕ → ℕ
-joined_of c n p q = packed (q % 65536) (join-of c (unpacked (n - p % 65536) p) (unpacked (p % 65536 - q % 65536) q))
+joined_of c n p q = packed (q % 65536) (join_of c (unpacked (n - p % 65536) p) (unpacked (p % 65536 - q % 65536) q))
 
 -- The answer of two terms in a row.
-unfoldable pub weighed-pair : ℕ → Read (Term × Term) → ℕ
-weighed-pair c (refused k) = wrong
-weighed-pair c (taken s t) = packed (length t) (join-of c (measure_running (sat cap) 1 s.0) (measure_running (sat cap) 1 s.1))
+unfoldable pub weighed_pair : ℕ → Read (Term × Term) → ℕ
+weighed_pair c (refused k) = wrong
+weighed_pair c (taken s t) = packed (length t) (join_of c (measure_running (sat cap) 1 s.0) (measure_running (sat cap) 1 s.1))
 
 -- Of n words m stand behind the guard's condition; p is the answer of these.
-unfoldable pub guarded-of : ℕ → ℕ → ℕ → ℕ
-guarded-of n m p = packed (p % 65536) (guard_of (sat cap) (n - m) (unpacked (m - p % 65536) p))
+unfoldable pub guarded_of : ℕ → ℕ → ℕ → ℕ
+guarded_of n m p = packed (p % 65536) (guard_of (sat cap) (n - m) (unpacked (m - p % 65536) p))
 
 -- So many stars around, and the answer of n words under them.
 unfoldable pub stars_of : ℕ → Measure → Measure
 stars_of zero m = m
 stars_of (suc k) m = star_of (sat cap) (stars_of k m)
 
-unfoldable pub starred-of : ℕ → ℕ → ℕ → ℕ
-starred-of k n p = packed (p % 65536) (stars_of k (unpacked (n - p % 65536) p))
+unfoldable pub starred_of : ℕ → ℕ → ℕ → ℕ
+starred_of k n p = packed (p % 65536) (stars_of k (unpacked (n - p % 65536) p))
 
 -- How many stars stand in front.
-unfoldable pub stars-in-front : List ℕ → ℕ
-stars-in-front [] = 0
-stars-in-front (w ∷ t) = pick (eqb w 24) (suc (stars-in-front t)) 0
+unfoldable pub stars_in_front : List ℕ → ℕ
+stars_in_front [] = 0
+stars_in_front (w ∷ t) = pick (eqb w 24) (suc (stars_in_front t)) 0
 
 pub record InFront (t : List ℕ) (k : ℕ) : Type 0 where
-  pub front : k ≡ stars-in-front t
+  pub front : k ≡ stars_in_front t
   pub short : k ≤ length t

@@ -10,7 +10,7 @@ ghost use Rattle.eb3.specs.TermReading.{elements_of, TermKind, action_of, term_b
 ghost use Rattle.weights.specs.Weighing.{measure};
 ghost use Rattle.arguments.specs.Tables.{declared};
 ghost use Rattle.terms.specs.Given.{weighed_running, given};
-ghost use Rattle.terms.specs.Answers.{left_of, packed, unpacked, Answer, Packs, Operands, Operand, join-of, joined_of, weighed-pair, guarded-of, starred-of, InFront};
+ghost use Rattle.terms.specs.Answers.{left_of, packed, unpacked, Answer, Packs, Operands, Operand, join_of, joined_of, weighed_pair, guarded_of, starred_of, InFront};
 
 use arguments::{check_mask, functions, labels, mask_zero, row_at, size_of, wide32};
 use grammar::{Scope, check_cond};
@@ -69,7 +69,7 @@ fn pack(n: usize, w: Weight) -> usize
 
 // Two operands by their code, 22 or 23; of a parallel, 25 where its mask is zero.
 fn join(c: usize, a: Weight, b: Weight) -> Weight
-    ensures { measure result ≡ join-of c (measure a) (measure b) }
+    ensures { measure result ≡ join_of c (measure a) (measure b) }
 {
     match c {
         22 => sequence(a, b),
@@ -92,7 +92,7 @@ fn joined(c: usize, n: usize, p: usize, q: usize) -> usize
 // The answer of a guard of n words, m of them behind its condition, from that of its operand.
 fn under_guard(n: usize, m: usize, p: usize) -> usize
     requires { Operand n m p }
-    ensures { result ≡ guarded-of n m p }
+    ensures { result ≡ guarded_of n m p }
 {
     let k = left(p);
     pack(k, guard(narrow(n - m), weigh(m - k, p)))
@@ -101,7 +101,7 @@ fn under_guard(n: usize, m: usize, p: usize) -> usize
 // The answer of n words under k stars, from that of the words: a loop, so that nested stars cost no recursion.
 fn under_stars(k: usize, n: usize, p: usize) -> usize
     requires { Answer n p }
-    ensures { result ≡ starred-of k n p }
+    ensures { result ≡ starred_of k n p }
 {
     let m = left(p);
     let mut w = weigh(n - m, p);
@@ -188,7 +188,7 @@ fn starred(t: &[u16], tb: &[u32]) -> usize
 #[cycle(check_running_guarded_in_parallel_pair_starred)]
 fn pair(t: &[u16], tb: &[u32], c: usize) -> usize
     requires { length t.now ≤ 8192 }
-    ensures { result ≡ weighed-pair c (both (read_term (declared tb.now)) (read_term (declared tb.now)) t.now) }
+    ensures { result ≡ weighed_pair c (both (read_term (declared tb.now)) (read_term (declared tb.now)) t.now) }
 {
     let p = check_running(t, tb);
     if p == WRONG {

@@ -20,9 +20,9 @@ module _ (t T x : List ℕ) where
   abbrev Main : List ℕ → ℕ → Type 0
   Main y w = (length y ≡ length x) × ((R : RuleSet) → Ready t T R → length (words 1 (unfold_main R)) ≤ 65535 → 2 * length (words 1 (unfold_main R)) ≤ length x → (w ≡ length (words 1 (unfold_main R))) × (y ≡ written (words 1 (unfold_main R)) x))
 
-  module _ (e k : ℕ) (is-e : e ≡ get_or T 211 0) (is-k : k ≡ e) where
+  module _ (e k : ℕ) (is_e : e ≡ get_or T 211 0) (is_k : k ≡ e) where
     counted : (R : RuleSet) → Ready t T R → k ≡ length R.processes
-    counted R ready = is-k ∙ is-e ∙ process_count t T R ready
+    counted R ready = is_k ∙ is_e ∙ process_count t T R ready
 
     pub main_none : k ≡ 0 → Main x 0
     main_none z = (refl, λ R ready few room. absurd (let f : ⊥ = omega (arith, counted R ready, ready.form.process_count.0) in f))
@@ -32,7 +32,7 @@ module _ (t T x : List ℕ) where
 
     pub main_put : (f start : ℕ) (y : List ℕ) (q : ℕ) → f ≡ get_or T (212 + 9 * (k - 1) + 8) 0 → start ≡ f → Unfolding t T start (k - 1) [] 0 x y q → Main y (q / 65536)
     unfolding unfold_main
-    main_put f start y q is_f is-start u = (
+    main_put f start y q is_f is_start u = (
       u.same_length,
       λ R ready few room.
           let p = main_process R in
@@ -41,7 +41,7 @@ module _ (t T x : List ℕ) where
           let below : p < length R.processes = omega arith in
           let p_is : k - 1 ≡ p = omega (arith, counted R ready) in
           let stands = body_stands t T R ready p below in
-          let start_is : start ≡ get_or T (212 + 9 * p + 8) 0 = is-start ∙ is_f ∙ ap (λ j. get_or T (212 + 9 * j + 8) 0) p_is in
+          let start_is : start ≡ get_or T (212 + 9 * p + 8) 0 = is_start ∙ is_f ∙ ap (λ j. get_or T (212 + 9 * j + 8) 0) p_is in
           let v : Unfolding t T (get_or T (212 + 9 * p + 8) 0) p [] 0 x y q = subst (λ j. Unfolding t T j p [] 0 x y q) start_is (subst (λ j. Unfolding t T start j [] 0 x y q) p_is u) in
           let there : RuleTermAt t (get_or T (212 + 9 * p + 8) 0) R p (process R p).parameters [] (process R p).term stands.0 = record {
             process_there = omega arith;

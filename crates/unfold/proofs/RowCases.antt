@@ -88,9 +88,9 @@ front_copied σ s m e l k = sym (ap (λ b. pick b (1 ∷ get_or σ (get_or s 1 0
     first_taken [] (suc m) l k = absurd (let z : ⊥ = omega arith in z)
     first_taken (w ∷ s) (suc m) l k = ap (λ n. w ∷ take n s) (let z : m ≡ suc m - 1 = omega arith in z)
 
-module _ (σ s : List ℕ) (at : ℕ) (x y : List ℕ) (m n q : ℕ) (l : 1 ≤ m) (k : m ≤ length s) (is-n : n ≡ length s - m) where
+module _ (σ s : List ℕ) (at : ℕ) (x y : List ℕ) (m n q : ℕ) (l : 1 ≤ m) (k : m ≤ length s) (is_n : n ≡ length s - m) where
   front_put : (ms : List ℕ) → ms ≡ front_words σ s m → Puts (Exactly ms n) at x y q → Puts (Exactly (front_words σ s m) (length s - m)) at x y q
-  front_put ms e p = subst (λ j. Puts (Exactly (front_words σ s m) j) at x y q) is-n (subst (λ o. Puts (Exactly o n) at x y q) e p)
+  front_put ms e p = subst (λ j. Puts (Exactly (front_words σ s m) j) at x y q) is_n (subst (λ o. Puts (Exactly o n) at x y q) e p)
 
   -- b is the words behind the first
   pub variable_put : (b : List ℕ) (i v : ℕ) → get_or s 0 0 ≡ 2 → b ≡ drop 1 s → i ≡ get_or b 0 0 → v ≡ get_or σ i 0 → Puts (Exactly (1 ∷ v ∷ []) n) at x y q → Puts (Exactly (front_words σ s m) (length s - m)) at x y q
@@ -117,21 +117,21 @@ module _ (t σ : List ℕ) (count n at : ℕ) where
     instantiated = h.instantiated;
   })
 
-  module _ (k left w : ℕ) (s x y : List ℕ) (c m : ℕ) (p : Putting (Instantiates t σ count n) (Instantiates t σ k left) at w x y) (some : 0 < k) (is-s : s ≡ last_of left t) (is_c : c ≡ get_or s 0 0) (is_m : m ≡ front_width c) where
+  module _ (k left w : ℕ) (s x y : List ℕ) (c m : ℕ) (p : Putting (Instantiates t σ count n) (Instantiates t σ k left) at w x y) (some : 0 < k) (is_s : s ≡ last_of left t) (is_c : c ≡ get_or s 0 0) (is_m : m ≡ front_width c) where
     m_is : m ≡ front_width (get_or s 0 0)
     m_is = is_m ∙ ap front_width is_c
 
     pub row_short : length s < m → Puts (Instantiates t σ count n) at x y 4294967296
-    row_short h = putting_stuck _ _ at w x y p (λ ws rest g. let l : m ≤ length s = row_there t σ s k left m is-s some m_is ws rest g in omega arith)
+    row_short h = putting_stuck _ _ at w x y p (λ ws rest g. let l : m ≤ length s = row_there t σ s k left m is_s some m_is ws rest g in omega arith)
 
     module _ (z : List ℕ) (a : ℕ) (q : Puts (Exactly (front_words σ s m) (length s - m)) w y z a) where
       pub row_none : 4294967296 ≤ a → Puts (Instantiates t σ count n) at x z 4294967296
-      row_none o = putting_fail _ _ at w x y p _ z a q _ (row_step t σ s k left m is-s some m_is) o
+      row_none o = putting_fail _ _ at w x y p _ z a q _ (row_step t σ s k left m is_s some m_is) o
 
       pub row_next : (o : ℕ) → a < 4294967296 → o ≡ operands c → Putting (Instantiates t σ count n) (Instantiates t σ (k - 1 + o) (length s - m)) at (a / 65536) x z
       row_next o e f =
           subst (λ j. Putting (Instantiates t σ count n) (Instantiates t σ (k - 1 + j) (length s - m)) at (a / 65536) x z) (sym (f ∙ ap operands is_c))
-          (putting_next _ _ at w x y p _ z a q _ (row_step t σ s k left m is-s some m_is) e)
+          (putting_next _ _ at w x y p _ z a q _ (row_step t σ s k left m is_s some m_is) e)
 
   pub row_end : (k left w : ℕ) (x y : List ℕ) → length t ≤ 65535 → Putting (Instantiates t σ count n) (Instantiates t σ k left) at w x y → k ≤ 0 → left ≤ length t → Puts (Instantiates t σ count n) at x y (65536 * w + left)
   row_end k left w x y few p z l =
@@ -145,23 +145,23 @@ pub one_taken : (s : List ℕ) → (length s ≡ 0 → ⊥) → 1 ≡ length (ta
 one_taken [] h = absurd (h refl)
 one_taken (w ∷ s) h = refl
 
-module _ (t T σ s : List ℕ) (n at : ℕ) (x : List ℕ) (is-s : s ≡ last_of n t) where
+module _ (t T σ s : List ℕ) (n at : ℕ) (x : List ℕ) (is_s : s ≡ last_of n t) where
   pub no_label : length s ≡ 0 → Puts (Performs t T n σ) at x x 4294967296
-  no_label e = where_none _ _ at x (λ h. let l : length (last_of n t) ≡ 0 = ap length (sym is-s) ∙ e in omega arith)
+  no_label e = where_none _ _ at x (λ h. let l : length (last_of n t) ≡ 0 = ap length (sym is_s) ∙ e in omega arith)
 
   module _ (y : List ℕ) (a : ℕ) (p : Puts (Exactly (21 ∷ take 1 s) (length s - 1)) at x y a) where
     p_is : Puts (Exactly (21 ∷ take 1 (last_of n t)) (length (last_of n t) - 1)) at x y a
-    p_is = subst (λ u. Puts (Exactly (21 ∷ take 1 u) (length u - 1)) at x y a) is-s p
+    p_is = subst (λ u. Puts (Exactly (21 ∷ take 1 u) (length u - 1)) at x y a) is_s p
 
     pub label_none : 4294967296 ≤ a → Puts (Performs t T n σ) at x y 4294967296
     label_none o = where_in _ _ at x y _ (then_fail _ _ at x y a p_is o)
 
     pub action_put : (l : ℕ) (ds z : List ℕ) (b : ℕ) → a < 4294967296 → l ≡ get_or s 0 0 → ds ≡ row T (18 + 3 * l) → Puts (Instantiates t σ (length ds) (length s - 1)) (a / 65536) y z b → Puts (Performs t T n σ) at x z b
     action_put l ds z b o e f q =
-        let k : length ds ≡ length (row T (18 + 3 * get_or (last_of n t) 0 0)) = ap length (f ∙ ap (λ j. row T (18 + 3 * j)) (e ∙ ap (λ u. get_or u 0 0) is-s)) in
+        let k : length ds ≡ length (row T (18 + 3 * get_or (last_of n t) 0 0)) = ap length (f ∙ ap (λ j. row T (18 + 3 * j)) (e ∙ ap (λ u. get_or u 0 0) is_s)) in
         where_in _ _ at x _ _
         (exactly_last _ _ (Instantiates t σ (length (row T (18 + 3 * get_or (last_of n t) 0 0)))) at x y a z b p_is o
-        (subst (λ j. Puts (Instantiates t σ j (length (last_of n t) - 1)) (a / 65536) y z b) k (subst (λ u. Puts (Instantiates t σ (length ds) (length u - 1)) (a / 65536) y z b) is-s q)))
+        (subst (λ j. Puts (Instantiates t σ j (length (last_of n t) - 1)) (a / 65536) y z b) k (subst (λ u. Puts (Instantiates t σ (length ds) (length u - 1)) (a / 65536) y z b) is_s q)))
 
 module _ (t T σ : List ℕ) (n at : ℕ) (x y : List ℕ) (a : ℕ) (p : Puts (Exactly (26 ∷ []) n) at x y a) where
   pub condition_none : 4294967296 ≤ a → Puts (Conditions t T n σ) at x y 4294967296

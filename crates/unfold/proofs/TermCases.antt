@@ -42,19 +42,19 @@ module _ (t T : List ℕ) (n i : ℕ) (σ : List ℕ) (at : ℕ) (x y : List ℕ
 
 -- ── a head, and two terms ──
 
-module _ (t T : List ℕ) (n i : ℕ) (σ : List ℕ) (c k : ℕ) (s : List ℕ) (is-s : s ≡ last_of n t) (at : ℕ) (x : List ℕ) where
+module _ (t T : List ℕ) (n i : ℕ) (σ : List ℕ) (c k : ℕ) (s : List ℕ) (is_s : s ≡ last_of n t) (at : ℕ) (x : List ℕ) where
   pub joined_short : length s < k → Puts (Joins t T n i σ c k) at x x 4294967296
-  joined_short h = where_none _ _ at x (λ l. let e : length s ≡ length (last_of n t) = ap length is-s in omega arith)
+  joined_short h = where_none _ _ at x (λ l. let e : length s ≡ length (last_of n t) = ap length is_s in omega arith)
 
   module _ (y : List ℕ) (a : ℕ) (p : Puts (Exactly (c ∷ take k s) (length s - k)) at x y a) where
     head_is : Puts (Exactly (c ∷ take k (last_of n t)) (length (last_of n t) - k)) at x y a
-    head_is = subst (λ u. Puts (Exactly (c ∷ take k u) (length u - k)) at x y a) is-s p
+    head_is = subst (λ u. Puts (Exactly (c ∷ take k u) (length u - k)) at x y a) is_s p
 
     pub joined_none : 4294967296 ≤ a → Puts (Joins t T n i σ c k) at x y 4294967296
     joined_none o = where_in _ _ at x y _ (then_fail _ _ at x y a head_is o)
 
     pub joined_put : (z : List ℕ) (b : ℕ) → a < 4294967296 → Puts (TwoTerms t T (length s - k) i σ) (a / 65536) y z b → Puts (Joins t T n i σ c k) at x z b
-    joined_put z b o q = where_in _ _ at x z b (exactly_last _ _ (λ m. TwoTerms t T m i σ) at x y a z b head_is o (subst (λ u. Puts (TwoTerms t T (length u - k) i σ) (a / 65536) y z b) is-s q))
+    joined_put z b o q = where_in _ _ at x z b (exactly_last _ _ (λ m. TwoTerms t T m i σ) at x y a z b head_is o (subst (λ u. Puts (TwoTerms t T (length u - k) i σ) (a / 65536) y z b) is_s q))
 
 -- k words of a mask are there
 pub mask_taken : (s : List ℕ) (k : ℕ) → k ≤ length s → k ≡ length (take k s)
@@ -117,16 +117,16 @@ module _ (t T : List ℕ) (n i : ℕ) (σ : List ℕ) where
           last : (ws rest : List ℕ) → Copies t T n i σ h e (size - 1 - e) ws rest → Copy t T n i σ e ws rest
           last ws rest s = subst (λ k. Copies t T n i σ h e k ws rest) (let k : size - 1 - e ≡ 0 = omega arith in k) s
 
-module _ (t T : List ℕ) (n i : ℕ) (σ : List ℕ) (c k : ℕ) (s : List ℕ) (is-s : s ≡ last_of n t) (at : ℕ) (x : List ℕ) where
+module _ (t T : List ℕ) (n i : ℕ) (σ : List ℕ) (c k : ℕ) (s : List ℕ) (is_s : s ≡ last_of n t) (at : ℕ) (x : List ℕ) where
   pub over_short : length s < 1 + k → Puts (Overs t T n i σ c k) at x x 4294967296
-  over_short h = where_none _ _ at x (λ l. let e : length s ≡ length (last_of n t) = ap length is-s in omega (arith, l.0))
+  over_short h = where_none _ _ at x (λ l. let e : length s ≡ length (last_of n t) = ap length is_s in omega (arith, l.0))
 
   pub over_full : 8 ≤ length σ → Puts (Overs t T n i σ c k) at x x 4294967296
   over_full h = where_none _ _ at x (λ l. omega (arith, l.1))
 
-  module _ (d size : ℕ) (is-d : d ≡ get_or s 0 0) (is-size : size ≡ domain_size (declared T) d) where
+  module _ (d size : ℕ) (is_d : d ≡ get_or s 0 0) (is_size : size ≡ domain_size (declared T) d) where
     size_is : size ≡ domain_size (declared T) (get_or (last_of n t) 0 0)
-    size_is = is-size ∙ ap (λ j. domain_size (declared T) j) (is-d ∙ ap (λ u. get_or u 0 0) is-s)
+    size_is = is_size ∙ ap (λ j. domain_size (declared T) j) (is_d ∙ ap (λ u. get_or u 0 0) is_s)
 
     pub over_large : 64 < size → Puts (Overs t T n i σ c k) at x x 4294967296
     over_large h = where_none _ _ at x (λ l. omega (arith, l.2, size_is))
@@ -136,16 +136,16 @@ module _ (t T : List ℕ) (n i : ℕ) (σ : List ℕ) (c k : ℕ) (s : List ℕ)
         where_in _ _ at x y q
         (subst (λ z. Puts (Copies t T (length (last_of n t) - (1 + k)) i σ (c ∷ take k (drop 1 (last_of n t))) 0 (z - 1)) at x y q) size_is
         (subst (λ j. Puts (Copies t T (length (last_of n t) - (1 + k)) i σ (c ∷ take j (drop 1 (last_of n t))) 0 (size - 1)) at x y q) (let j : 1 + k - 1 ≡ k = omega arith in j)
-        (subst (λ u. Puts (Copies t T (length u - (1 + k)) i σ (c ∷ take (1 + k - 1) (drop 1 u)) 0 (size - 1)) at x y q) is-s p)))
+        (subst (λ u. Puts (Copies t T (length u - (1 + k)) i σ (c ∷ take (1 + k - 1) (drop 1 u)) 0 (size - 1)) at x y q) is_s p)))
 
 -- ── calls ──
 
-module _ (t T : List ℕ) (n p : ℕ) (σ s ds : List ℕ) (at : ℕ) (x : List ℕ) (is-s : s ≡ last_of n t) (is_row : ds ≡ row T (212 + 9 * p)) where
+module _ (t T : List ℕ) (n p : ℕ) (σ s ds : List ℕ) (at : ℕ) (x : List ℕ) (is_s : s ≡ last_of n t) (is_row : ds ≡ row T (212 + 9 * p)) where
   pub body_many : 8 < length ds → Puts (Enters t T n p σ) at x x 4294967296
   body_many h = where_none _ _ at x (λ l. omega (arith, l.0, ap length is_row))
 
   pub body_short : length s < 2 * length ds → Puts (Enters t T n p σ) at x x 4294967296
-  body_short h = where_none _ _ at x (λ l. omega (arith, l.1, ap length is_row, ap length is-s))
+  body_short h = where_none _ _ at x (λ l. omega (arith, l.1, ap length is_row, ap length is_s))
 
   -- the body is read where the tables say that it stands
   module _ (vs y : List ℕ) (e start b : ℕ) (f : take (length ds) vs ≡ from 0 (length ds) (argument_at σ s)) (g : e ≡ get_or T (212 + 9 * p + 8) 0) (h : start ≡ e) (u : Unfolding t T start p (take (length ds) vs) at x y b) where
@@ -153,13 +153,13 @@ module _ (t T : List ℕ) (n p : ℕ) (σ s ds : List ℕ) (at : ℕ) (x : List 
     body_puts = term_puts t T start p (take (length ds) vs) at x y b u
 
     values_is : from 0 (length (row T (212 + 9 * p))) (argument_at σ (last_of n t)) ≡ take (length ds) vs
-    values_is = sym (f ∙ (λ j. from 0 (length (is_row j)) (argument_at σ (is-s j))))
+    values_is = sym (f ∙ (λ j. from 0 (length (is_row j)) (argument_at σ (is_s j))))
 
     unfolds_is : (ws rest : List ℕ) (w : Body t T n p σ (length (row T (212 + 9 * p))) ws rest) → Unfolds t T start p (take (length ds) vs) ws w.behind
     unfolds_is ws rest w = subst (λ k. Unfolds t T k p (take (length ds) vs) ws w.behind) (sym (h ∙ g)) (subst (λ v. Unfolds t T (get_or T (212 + 9 * p + 8) 0) p v ws w.behind) values_is w.unfolds)
 
     left_is : length s - 2 * length ds ≡ length (last_of n t) - 2 * length (row T (212 + 9 * p))
-    left_is = λ j. length (is-s j) - 2 * length (is_row j)
+    left_is = λ j. length (is_s j) - 2 * length (is_row j)
 
     pub body_none : 4294967296 ≤ b → Puts (Enters t T n p σ) at x y 4294967296
     body_none o =
@@ -168,7 +168,7 @@ module _ (t T : List ℕ) (n p : ℕ) (σ s ds : List ℕ) (at : ℕ) (x : List 
 
     pub body_put : length t ≤ 65535 → b < 4294967296 → Puts (Enters t T n p σ) at x y (b / 65536 * 65536 + (length s - 2 * length ds))
     body_put few o =
-        let few-left : length s ≤ 65535 = omega (arith, last_size n t s is-s) in
+        let few_left : length s ≤ 65535 = omega (arith, last_size n t s is_s) in
         where_in _ _ at x y _ (record {
           same_length = body_puts.same_length;
           end_bounded = λ _. omega (arith, body_puts.end_bounded o);
@@ -176,28 +176,28 @@ module _ (t T : List ℕ) (n p : ℕ) (σ s ds : List ℕ) (at : ℕ) (x : List 
           right = λ ws rest w _. let d = body_puts.right ws w.behind (unfolds_is ws rest w) o in record { ends = omega (arith, d.ends); left = omega (arith, left_is, w.same_left); written_there = d.written_there };
         })
 
-module _ (t T : List ℕ) (n i : ℕ) (σ s : List ℕ) (at : ℕ) (x : List ℕ) (is-s : s ≡ last_of n t) where
+module _ (t T : List ℕ) (n i : ℕ) (σ s : List ℕ) (at : ℕ) (x : List ℕ) (is_s : s ≡ last_of n t) where
   pub call_none : length s ≡ 0 → Puts (Calls t T n i σ) at x x 4294967296
-  call_none h = where_none _ _ at x (λ l. omega (arith, l.0, ap length is-s))
+  call_none h = where_none _ _ at x (λ l. omega (arith, l.0, ap length is_s))
 
-  module _ (p : ℕ) (is-p : p ≡ get_or s 0 0) where
+  module _ (p : ℕ) (is_p : p ≡ get_or s 0 0) where
     p_is : p ≡ get_or (last_of n t) 0 0
-    p_is = is-p ∙ ap (λ u. get_or u 0 0) is-s
+    p_is = is_p ∙ ap (λ u. get_or u 0 0) is_s
 
     pub call_high : i ≤ p → Puts (Calls t T n i σ) at x x 4294967296
     call_high h = where_none _ _ at x (λ l. omega (arith, l.1, p_is))
 
     pub call_put : (y : List ℕ) (q : ℕ) → Puts (Enters t T (length s - 1) p σ) at x y q → Puts (Calls t T n i σ) at x y q
-    call_put y q e = where_in _ _ at x y q (subst (λ j. Puts (Enters t T (length (last_of n t) - 1) j σ) at x y q) p_is (subst (λ u. Puts (Enters t T (length u - 1) p σ) at x y q) is-s e))
+    call_put y q e = where_in _ _ at x y q (subst (λ j. Puts (Enters t T (length (last_of n t) - 1) j σ) at x y q) p_is (subst (λ u. Puts (Enters t T (length u - 1) p σ) at x y q) is_s e))
 
 -- ── a term by its code ──
 
-module _ (t T : List ℕ) (n i : ℕ) (σ s : List ℕ) (is-s : s ≡ last_of n t) (at : ℕ) (x y : List ℕ) (q : ℕ) where
+module _ (t T : List ℕ) (n i : ℕ) (σ s : List ℕ) (is_s : s ≡ last_of n t) (at : ℕ) (x y : List ℕ) (q : ℕ) where
   by_code : (c : ℕ) (S : List ℕ → List ℕ → Type 0) → get_or s 0 0 ≡ c → ((ws rest : List ℕ) → Shape t T (length s - 1) i σ c ws rest → S ws rest) → Puts S at x y q → Unfolding t T n i σ at x y q
   by_code c S e f p =
       puts_term t T n i σ at x y q
       (puts_as (Unfolds t T n i σ) S at x y q
-      (λ ws rest u. f ws rest (subst (λ k. Shape t T (length s - 1) i σ k ws rest) e (subst (λ l. Shape t T (length l - 1) i σ (get_or l 0 0) ws rest) (sym is-s) (shape t T n i σ ws rest u)))) p)
+      (λ ws rest u. f ws rest (subst (λ k. Shape t T (length s - 1) i σ k ws rest) e (subst (λ l. Shape t T (length l - 1) i σ (get_or l 0 0) ws rest) (sym is_s) (shape t T n i σ ws rest u)))) p)
 
   pub term_internal : get_or s 0 0 ≡ 20 → Puts (Exactly (20 ∷ []) (length s - 1)) at x y q → Unfolding t T n i σ at x y q
   term_internal e p = by_code 20 _ e (λ ws rest h. h) p
@@ -229,13 +229,13 @@ module _ (t T : List ℕ) (n i : ℕ) (σ s : List ℕ) (is-s : s ≡ last_of n 
   pub term_call : get_or s 0 0 ≡ 29 → Puts (Calls t T (length s - 1) i σ) at x y q → Unfolding t T n i σ at x y q
   term_call e p = by_code 29 _ e (λ ws rest h. h) p
 
-module _ (t T : List ℕ) (n i : ℕ) (σ s : List ℕ) (is-s : s ≡ last_of n t) (at : ℕ) (x : List ℕ) where
+module _ (t T : List ℕ) (n i : ℕ) (σ s : List ℕ) (is_s : s ≡ last_of n t) (at : ℕ) (x : List ℕ) where
   pub term_none : length s ≡ 0 → Unfolding t T n i σ at x x 4294967296
-  term_none h = by_code t T n i σ s is-s at x x 4294967296 0 (λ ws rest. ⊥) (ap (λ l. get_or l 0 0) (nil_form s h)) (λ ws rest z. z) (puts_none (λ ws rest. ⊥) at x x (λ ws rest z few room. z) refl)
+  term_none h = by_code t T n i σ s is_s at x x 4294967296 0 (λ ws rest. ⊥) (ap (λ l. get_or l 0 0) (nil_form s h)) (λ ws rest z. z) (puts_none (λ ws rest. ⊥) at x x (λ ws rest z few room. z) refl)
 
   pub term_other : (((((((((Unit {0} × (get_or s 0 0 ≡ 20 → ⊥)) × (get_or s 0 0 ≡ 21 → ⊥)) × (get_or s 0 0 ≡ 22 → ⊥)) × (get_or s 0 0 ≡ 23 → ⊥)) × (get_or s 0 0 ≡ 24 → ⊥)) × (get_or s 0 0 ≡ 25 → ⊥)) × (get_or s 0 0 ≡ 26 → ⊥)) × (get_or s 0 0 ≡ 27 → ⊥)) × (get_or s 0 0 ≡ 28 → ⊥)) × (get_or s 0 0 ≡ 29 → ⊥)
       → Unfolding t T n i σ at x x 4294967296
-  term_other o = by_code t T n i σ s is-s at x x 4294967296 (get_or s 0 0) (λ ws rest. ⊥) refl (λ ws rest z. unshaped (get_or s 0 0) o ws rest z) (puts_none (λ ws rest. ⊥) at x x (λ ws rest z few room. z) refl)
+  term_other o = by_code t T n i σ s is_s at x x 4294967296 (get_or s 0 0) (λ ws rest. ⊥) refl (λ ws rest z. unshaped (get_or s 0 0) o ws rest z) (puts_none (λ ws rest. ⊥) at x x (λ ws rest z few room. z) refl)
     where
       unshaped : (c : ℕ)
           → (((((((((Unit {0} × (c ≡ 20 → ⊥)) × (c ≡ 21 → ⊥)) × (c ≡ 22 → ⊥)) × (c ≡ 23 → ⊥)) × (c ≡ 24 → ⊥)) × (c ≡ 25 → ⊥)) × (c ≡ 26 → ⊥)) × (c ≡ 27 → ⊥)) × (c ≡ 28 → ⊥)) × (c ≡ 29 → ⊥)

@@ -96,14 +96,14 @@ pub last_behind : (t u v : List ℕ) (n : ℕ) → last_of n t ≡ v ++ u → la
 unfolding last_of
 last_behind t u v n e = tail_at u t (tail_on u (v ++ u) t (length t - n, sym e) (length v, sym (drop-append_seam v u)))
 
-module _ (t σ s : List ℕ) (k n m : ℕ) (is-s : s ≡ last_of n t) (some : 0 < k) (is_m : m ≡ front_width (get_or s 0 0)) where
+module _ (t σ s : List ℕ) (k n m : ℕ) (is_s : s ≡ last_of n t) (some : 0 < k) (is_m : m ≡ front_width (get_or s 0 0)) where
   go : (row : List Expression) (ws rest : List ℕ) → length row ≡ k → All PlainExpression row → last_of n t ≡ all_words row ++ rest → ws ≡ all_put σ row
       → (m ≤ length s) × Then (Exactly (front_words σ s m) (length s - m)) (λ j. Instantiates t σ (k - 1 + operands (get_or s 0 0)) (length s - m)) ws rest
   go [] ws rest c p e i = absurd (let z : ⊥ = omega arith in z)
   go (a ∷ es) ws rest c p e i =
       let f = front_of σ a p.0 in
       let u = all_words f.parts ++ (all_words es ++ rest) in
-      let whole : s ≡ f.code ∷ (f.operand ++ u) = is-s ∙ e ∙ ap (λ z. (z ++ all_words es) ++ rest) f.spelled ∙ ap (λ z. f.code ∷ z) (regroup f.operand (all_words f.parts) (all_words es) rest) in
+      let whole : s ≡ f.code ∷ (f.operand ++ u) = is_s ∙ e ∙ ap (λ z. (z ++ all_words es) ++ rest) f.spelled ∙ ap (λ z. f.code ∷ z) (regroup f.operand (all_words f.parts) (all_words es) rest) in
       let code_is : get_or s 0 0 ≡ f.code = ap (λ z. get_or z 0 0) whole in
       let m_is : m ≡ suc (length f.operand) = is_m ∙ ap front_width code_is ∙ f.width in
       let long : length s ≡ suc (length f.operand + length u) = ap length whole ∙ ap suc (length-append f.operand u) in
@@ -118,7 +118,7 @@ module _ (t σ s : List ℕ) (k n m : ℕ) (is-s : s ≡ last_of n t) (some : 0 
             row = f.parts ++ es;
             counted = omega (arith, length-append f.parts es, f.counted, ap operands code_is, c);
             all_plain = plain_append f.parts es f.all_plain p.1;
-            spelled = ap (λ z. last_of z t) left ∙ last_behind t u (f.code ∷ f.operand) n (sym is-s ∙ whole) ∙ (sym (append_assoc (all_words f.parts) (all_words es) rest) ∙ ap (λ z. z ++ rest) (sym (words_append f.parts es)));
+            spelled = ap (λ z. last_of z t) left ∙ last_behind t u (f.code ∷ f.operand) n (sym is_s ∙ whole) ∙ (sym (append_assoc (all_words f.parts) (all_words es) rest) ∙ ap (λ z. z ++ rest) (sym (words_append f.parts es)));
             instantiated = refl;
           };
           joined = i ∙ ap (λ z. z ++ all_put σ es) f.instantiated ∙ (append_assoc f.put (all_put σ f.parts) (all_put σ es) ∙ ap (λ z. f.put ++ z) (sym (put_append σ f.parts es)));

@@ -12,7 +12,7 @@ use Rattle.eb3.specs.Moves.{moves, first_with}
 use Rattle.eb3.specs.Derivations.{state_after}
 use Rattle.eb3.specs.Attributes.{function, apply_in_domain, evaluate, guard_holds, now_below, before_values, attribute_value, value_at}
 use Rattle.eb3.specs.Cells.{cell_count, cell_index, offset, cell_at, concat_tabulate, tabulate, cells_up_to, initial_cells, renew, values_up_to}
-use Rattle.eb3.specs.TransitionSystems.{step as machine-step, run as machine-run}
+use Rattle.eb3.specs.TransitionSystems.{step as machine_step, run as machine_run}
 use Rattle.eb3.specs.Machines.{history_run}
 use Rattle.eb3.specs.Sizes.{cond_size, arguments_size, size, reach, breadth, zero_mask, parallel_breadth}
 use Rattle.eb3.specs.Editions.{edition_1, edition_of}
@@ -218,7 +218,7 @@ pub record Every_code_on_bytes : Type 0 where
   pub no_space : move file last_term last_memory 2 (replicate 139 7) memory_buffer ≡ record { answer = refused 9; term = replicate 139 7; memory = memory_buffer }
 
 pub every_code_on_bytes : Every_code_on_bytes
-unfolding admit and_then admission open_blocks edition_in edition_of functions_words blocks_right block_right sums_from contents words_in ended all_zero within_limits file_of blocks_from block_of bytes_of stream_words rules_words function_words process_words rule_words argument_words data_words number_words giving then both number_of by_number count_of repeat counted for_each series number_in constant_of args_of readers read_data read_cond mask_of read_parameter_counts read_function read_functions argument_of arguments_of rule_action_of call_of choice_over_of parallel_over_of rule_terms read_rule_term read_process read_processes read_rules unfold_main unfold_below unfold_term right_nest argument_value instantiate_cond size reach breadth parallel_breadth zero_mask cond_size arguments_size offset cell_count function run written words arguments_words memory_words encode history_run machine-run machine-step moves done? in_mask bit same_action same_list state_after guard_holds value_at attribute_value before_values now_below apply_in_domain evaluate evaluate_data variables equal values_up_to tabulate concat_tabulate start less add subtract bounded initial_cells cells_up_to cell_at cell_index count move present decode cells_in given_term given_event read_term terms action_of elements_of element_of first_with renew
+unfolding admit and_then admission open_blocks edition_in edition_of functions_words blocks_right block_right sums_from contents words_in ended all_zero within_limits file_of blocks_from block_of bytes_of stream_words rules_words function_words process_words rule_words argument_words data_words number_words giving then both number_of by_number count_of repeat counted for_each series number_in constant_of args_of readers read_data read_cond mask_of read_parameter_counts read_function read_functions argument_of arguments_of rule_action_of call_of choice_over_of parallel_over_of rule_terms read_rule_term read_process read_processes read_rules unfold_main unfold_below unfold_term right_nest argument_value instantiate_cond size reach breadth parallel_breadth zero_mask cond_size arguments_size offset cell_count function run written words arguments_words memory_words encode history_run machine_run machine_step moves done? in_mask bit same_action same_list state_after guard_holds value_at attribute_value before_values now_below apply_in_domain evaluate evaluate_data variables equal values_up_to tabulate concat_tabulate start less add subtract bounded initial_cells cells_up_to cell_at cell_index count move present decode cells_in given_term given_event read_term terms action_of elements_of element_of first_with renew
 every_code_on_bytes = record {
   spelled = refl;
   file_is = refl;

@@ -123,37 +123,37 @@ module _ (rules term memory : List ℕ) (R : RuleSet) (E : Term) (a : Admits rul
     count_answers : count rules term memory ≡ answered (length l)
     count_answers = (moves_of room).counted ∙ ap answered (sym listed_length)
 
-  module _ (next-term next-memory : List ℕ) (r : MoveRoom R E memory next-term next-memory) where
+  module _ (next_term next_memory : List ℕ) (r : MoveRoom R E memory next_term next_memory) where
     move_derived : (d : Derived R E memory) (k : ℕ) → ((numbering r.given_room).numbers.fun d).0 ≡ k
-        → move rules term memory k next-term next-memory ≡ derived_outcome R E memory next-term next-memory d
+        → move rules term memory k next_term next_memory ≡ derived_outcome R E memory next_term next_memory d
     unfolding cells_in decode bounded numbering
     move_derived d k e =
-        ap (λ k. move rules term memory k next-term next-memory) (sym e)
-        ∙ ((moves_of r.given_room).moved d next-term next-memory r.term_room r.memory_room
+        ap (λ k. move rules term memory k next_term next_memory) (sym e)
+        ∙ ((moves_of r.given_room).moved d next_term next_memory r.term_room r.memory_room
         ∙ (λ i. record {
           answer = answered (record { action = d.action; size = size R.edition.width d.successor });
-          term = written_is (words R.edition.width d.successor) next-term i;
-          memory = cells_written d.state next-memory i;
+          term = written_is (words R.edition.width d.successor) next_term i;
+          memory = cells_written d.state next_memory i;
         }))
 
-    move_none : (k : ℕ) → (moves_of r.given_room).moves_listed ≤ k → move rules term memory k next-term next-memory ≡ only_refused 12 next-term next-memory
-    move_none k h = (moves_of r.given_room).no_other k h next-term next-memory r.term_room r.memory_room
+    move_none : (k : ℕ) → (moves_of r.given_room).moves_listed ≤ k → move rules term memory k next_term next_memory ≡ only_refused 12 next_term next_memory
+    move_none k h = (moves_of r.given_room).no_other k h next_term next_memory r.term_room r.memory_room
 
     module _ (event : List ℕ) (ρ : Action) (presented : GivenEvent R event ρ) where
       present_derived : (d : Derived R E memory) → d.action ≡ ρ → ((e : Derived R E memory) → Earlier e d → e.action ≡ ρ → ⊥)
-          → present rules term memory event next-term next-memory ≡ derived_outcome R E memory next-term next-memory d
+          → present rules term memory event next_term next_memory ≡ derived_outcome R E memory next_term next_memory d
       unfolding cells_in decode bounded
       present_derived d e h =
           let n = numbering r.given_room in
           (moves_of r.given_room).presented ρ event (event_given R a.holds.form event ρ presented) (n.numbers.fun d).0
-          (some_first (Sem_M (attributes R)) (cells_of R memory) E n ρ d e h) next-term next-memory
+          (some_first (Sem_M (attributes R)) (cells_of R memory) E n ρ d e h) next_term next_memory
           ∙ move_derived d (n.numbers.fun d).0 refl
 
-      present_none : ((d : Derived R E memory) → d.action ≡ ρ → ⊥) → present rules term memory event next-term next-memory ≡ only_refused 12 next-term next-memory
+      present_none : ((d : Derived R E memory) → d.action ≡ ρ → ⊥) → present rules term memory event next_term next_memory ≡ only_refused 12 next_term next_memory
       unfolding cells_in decode bounded
       present_none h =
           (moves_of r.given_room).not_presented ρ event (event_given R a.holds.form event ρ presented)
-          (none_first (Sem_M (attributes R)) (cells_of R memory) E (numbering r.given_room) ρ h) next-term next-memory
+          (none_first (Sem_M (attributes R)) (cells_of R memory) E (numbering r.given_room) ρ h) next_term next_memory
           ∙ move_none (moves_of r.given_room).moves_listed (omega arith)
 
 count_meets : (rules term memory : List ℕ) → CountDemands count rules term memory
@@ -164,26 +164,26 @@ count_meets rules term memory = record {
   answers = λ R E a g r l n. count_answers rules term memory R E a g r l n;
 }
 
-move_meets : (rules term memory : List ℕ) (k : ℕ) (next-term next-memory : List ℕ) → MoveDemands move rules term memory k next-term next-memory
-move_meets rules term memory k next-term next-memory = record {
-  refuses = λ j r. ((order rules [] term memory [] next-term next-memory [] [] k).admission_first j (refuses_answer rules j r)).3;
-  no_term = λ R a n. ((order rules [] term memory [] next-term next-memory [] [] k).term_next R (admits_answer rules R a) 10 (no_term_given R a.holds.form term n)).1;
-  space = λ R E a g n. ((order rules [] term memory [] next-term next-memory [] [] k).space_before_offer R E (admits_answer rules R a) (term_given R a.holds.form term E g)
-      (not_true _ (λ t. n (move_in_room R E memory next-term next-memory t)))).0;
-  not_offered = λ R E a g r l n h. move_none rules term memory R E a g next-term next-memory r k
+move_meets : (rules term memory : List ℕ) (k : ℕ) (next_term next_memory : List ℕ) → MoveDemands move rules term memory k next_term next_memory
+move_meets rules term memory k next_term next_memory = record {
+  refuses = λ j r. ((order rules [] term memory [] next_term next_memory [] [] k).admission_first j (refuses_answer rules j r)).3;
+  no_term = λ R a n. ((order rules [] term memory [] next_term next_memory [] [] k).term_next R (admits_answer rules R a) 10 (no_term_given R a.holds.form term n)).1;
+  space = λ R E a g n. ((order rules [] term memory [] next_term next_memory [] [] k).space_before_offer R E (admits_answer rules R a) (term_given R a.holds.form term E g)
+      (not_true _ (λ t. n (move_in_room R E memory next_term next_memory t)))).0;
+  not_offered = λ R E a g r l n h. move_none rules term memory R E a g next_term next_memory r k
       (subst (λ m. m ≤ k) (listed_length rules term memory R E a g r.given_room l n) h);
-  answers = λ R E a g r l n d e. move_derived rules term memory R E a g next-term next-memory r d k (same_number (numbering rules term memory R E a g r.given_room) n d ∙ e);
+  answers = λ R E a g r l n d e. move_derived rules term memory R E a g next_term next_memory r d k (same_number (numbering rules term memory R E a g r.given_room) n d ∙ e);
 }
 
-present_meets : (rules term memory event next-term next-memory : List ℕ) → PresentDemands present rules term memory event next-term next-memory
-present_meets rules term memory event next-term next-memory = record {
-  refuses = λ j r. ((order rules [] term memory event next-term next-memory [] [] 0).admission_first j (refuses_answer rules j r)).4;
-  no_term = λ R a n. ((order rules [] term memory event next-term next-memory [] [] 0).term_next R (admits_answer rules R a) 10 (no_term_given R a.holds.form term n)).2;
-  no_event = λ R E a g n. (order rules [] term memory event next-term next-memory [] [] 0).event_next R E (admits_answer rules R a) (term_given R a.holds.form term E g) 11 (no_event_given R a.holds.form event n);
-  space = λ R E ρ a g v n. ((order rules [] term memory event next-term next-memory [] [] 0).space_before_offer R E (admits_answer rules R a) (term_given R a.holds.form term E g)
-      (not_true _ (λ t. n (move_in_room R E memory next-term next-memory t)))).1 ρ (event_given R a.holds.form event ρ v);
-  not_offered = λ R E ρ a g v r. present_none rules term memory R E a g next-term next-memory r event ρ v;
-  answers = λ R E ρ a g v r. present_derived rules term memory R E a g next-term next-memory r event ρ v;
+present_meets : (rules term memory event next_term next_memory : List ℕ) → PresentDemands present rules term memory event next_term next_memory
+present_meets rules term memory event next_term next_memory = record {
+  refuses = λ j r. ((order rules [] term memory event next_term next_memory [] [] 0).admission_first j (refuses_answer rules j r)).4;
+  no_term = λ R a n. ((order rules [] term memory event next_term next_memory [] [] 0).term_next R (admits_answer rules R a) 10 (no_term_given R a.holds.form term n)).2;
+  no_event = λ R E a g n. (order rules [] term memory event next_term next_memory [] [] 0).event_next R E (admits_answer rules R a) (term_given R a.holds.form term E g) 11 (no_event_given R a.holds.form event n);
+  space = λ R E ρ a g v n. ((order rules [] term memory event next_term next_memory [] [] 0).space_before_offer R E (admits_answer rules R a) (term_given R a.holds.form term E g)
+      (not_true _ (λ t. n (move_in_room R E memory next_term next_memory t)))).1 ρ (event_given R a.holds.form event ρ v);
+  not_offered = λ R E ρ a g v r. present_none rules term memory R E a g next_term next_memory r event ρ v;
+  answers = λ R E ρ a g v r. present_derived rules term memory R E a g next_term next_memory r event ρ v;
 }
 
 pub ours : Demanded our_operations
@@ -220,52 +220,52 @@ module _ (rules : List ℕ) where
       go (inl t) (inr n) = F.space R t.0 v t.1 n ∙ sym (H.space R t.0 v t.1 n)
       go (inl t) (inl r) = F.answers R t.0 v t.1 r _ (the_numbering R t.0 memory) ∙ sym (H.answers R t.0 v t.1 r _ (the_numbering R t.0 memory))
 
-  same_move : (f g : List ℕ → List ℕ → List ℕ → ℕ → List ℕ → List ℕ → Written Moved) (term memory : List ℕ) (k : ℕ) (next-term next-memory : List ℕ)
-      → MoveDemands f rules term memory k next-term next-memory → MoveDemands g rules term memory k next-term next-memory
-      → (r : Answer RuleSet) → Verdict rules r → f rules term memory k next-term next-memory ≡ g rules term memory k next-term next-memory
-  same_move f g term memory k next-term next-memory F H (refused j) v = F.refuses j v ∙ sym (H.refuses j v)
-  same_move f g term memory k next-term next-memory F H (answered R) v = go (term? R v.holds.form term)
+  same_move : (f g : List ℕ → List ℕ → List ℕ → ℕ → List ℕ → List ℕ → Written Moved) (term memory : List ℕ) (k : ℕ) (next_term next_memory : List ℕ)
+      → MoveDemands f rules term memory k next_term next_memory → MoveDemands g rules term memory k next_term next_memory
+      → (r : Answer RuleSet) → Verdict rules r → f rules term memory k next_term next_memory ≡ g rules term memory k next_term next_memory
+  same_move f g term memory k next_term next_memory F H (refused j) v = F.refuses j v ∙ sym (H.refuses j v)
+  same_move f g term memory k next_term next_memory F H (answered R) v = go (term? R v.holds.form term)
     where
-      there : (E : Term) → GivenTerm R term E → (room : MoveRoom R E memory next-term next-memory)
+      there : (E : Term) → GivenTerm R term E → (room : MoveRoom R E memory next_term next_memory)
           → (length ((system (Sem_M (attributes R))).transitions (situation E (cells_of R memory))) ≤ k) ⊎ (k < length ((system (Sem_M (attributes R))).transitions (situation E (cells_of R memory))))
-          → f rules term memory k next-term next-memory ≡ g rules term memory k next-term next-memory
+          → f rules term memory k next_term next_memory ≡ g rules term memory k next_term next_memory
       there E t r (inl h) = F.not_offered R E v t r _ (the_numbering R E memory) h ∙ sym (H.not_offered R E v t r _ (the_numbering R E memory) h)
       there E t r (inr h) =
           let d = numbered_there _ (the_numbering R E memory) k h in
           F.answers R E v t r _ (the_numbering R E memory) d.0 d.1 ∙ sym (H.answers R E v t r _ (the_numbering R E memory) d.0 d.1)
 
-      with_room : (E : Term) → GivenTerm R term E → MoveRoom R E memory next-term next-memory ⊎ (MoveRoom R E memory next-term next-memory → ⊥)
-          → f rules term memory k next-term next-memory ≡ g rules term memory k next-term next-memory
+      with_room : (E : Term) → GivenTerm R term E → MoveRoom R E memory next_term next_memory ⊎ (MoveRoom R E memory next_term next_memory → ⊥)
+          → f rules term memory k next_term next_memory ≡ g rules term memory k next_term next_memory
       with_room E t (inr n) = F.space R E v t n ∙ sym (H.space R E v t n)
       with_room E t (inl r) = there E t r (at_most_or (length ((system (Sem_M (attributes R))).transitions (situation E (cells_of R memory)))) k)
 
-      go : ((E : Term) × GivenTerm R term E) ⊎ ((E : Term) → GivenTerm R term E → ⊥) → f rules term memory k next-term next-memory ≡ g rules term memory k next-term next-memory
+      go : ((E : Term) × GivenTerm R term E) ⊎ ((E : Term) → GivenTerm R term E → ⊥) → f rules term memory k next_term next_memory ≡ g rules term memory k next_term next_memory
       go (inr n) = F.no_term R v n ∙ sym (H.no_term R v n)
-      go (inl t) = with_room t.0 t.1 (move_room? R t.0 memory next-term next-memory)
+      go (inl t) = with_room t.0 t.1 (move_room? R t.0 memory next_term next_memory)
 
-  same_present : (f g : List ℕ → List ℕ → List ℕ → List ℕ → List ℕ → List ℕ → Written Moved) (term memory event next-term next-memory : List ℕ)
-      → PresentDemands f rules term memory event next-term next-memory → PresentDemands g rules term memory event next-term next-memory
-      → (r : Answer RuleSet) → Verdict rules r → f rules term memory event next-term next-memory ≡ g rules term memory event next-term next-memory
-  same_present f g term memory event next-term next-memory F H (refused j) v = F.refuses j v ∙ sym (H.refuses j v)
-  same_present f g term memory event next-term next-memory F H (answered R) v = go (term? R v.holds.form term)
+  same_present : (f g : List ℕ → List ℕ → List ℕ → List ℕ → List ℕ → List ℕ → Written Moved) (term memory event next_term next_memory : List ℕ)
+      → PresentDemands f rules term memory event next_term next_memory → PresentDemands g rules term memory event next_term next_memory
+      → (r : Answer RuleSet) → Verdict rules r → f rules term memory event next_term next_memory ≡ g rules term memory event next_term next_memory
+  same_present f g term memory event next_term next_memory F H (refused j) v = F.refuses j v ∙ sym (H.refuses j v)
+  same_present f g term memory event next_term next_memory F H (answered R) v = go (term? R v.holds.form term)
     where
-      there : (E : Term) (ρ : Action) → GivenTerm R term E → GivenEvent R event ρ → MoveRoom R E memory next-term next-memory
+      there : (E : Term) (ρ : Action) → GivenTerm R term E → GivenEvent R event ρ → MoveRoom R E memory next_term next_memory
           → (o : Option ℕ) → FirstDerived (Sem_M (attributes R)) (cells_of R memory) E (the_numbering R E memory) ρ o
-          → f rules term memory event next-term next-memory ≡ g rules term memory event next-term next-memory
+          → f rules term memory event next_term next_memory ≡ g rules term memory event next_term next_memory
       there E ρ t e r none h = F.not_offered R E ρ v t e r h ∙ sym (H.not_offered R E ρ v t e r h)
       there E ρ t e r (some k) h = F.answers R E ρ v t e r h.0 h.2 h.3 ∙ sym (H.answers R E ρ v t e r h.0 h.2 h.3)
 
-      with_room : (E : Term) (ρ : Action) → GivenTerm R term E → GivenEvent R event ρ → MoveRoom R E memory next-term next-memory ⊎ (MoveRoom R E memory next-term next-memory → ⊥)
-          → f rules term memory event next-term next-memory ≡ g rules term memory event next-term next-memory
+      with_room : (E : Term) (ρ : Action) → GivenTerm R term E → GivenEvent R event ρ → MoveRoom R E memory next_term next_memory ⊎ (MoveRoom R E memory next_term next_memory → ⊥)
+          → f rules term memory event next_term next_memory ≡ g rules term memory event next_term next_memory
       with_room E ρ t e (inr n) = F.space R E ρ v t e n ∙ sym (H.space R E ρ v t e n)
       with_room E ρ t e (inl r) = there E ρ t e r (first_with ρ (moves ((Sem_M (attributes R)).satisfies (cells_of R memory)) E)) (first_derived (Sem_M (attributes R)) (cells_of R memory) E (the_numbering R E memory) ρ)
 
       with_event : (E : Term) → GivenTerm R term E → ((ρ : Action) × GivenEvent R event ρ) ⊎ ((ρ : Action) → GivenEvent R event ρ → ⊥)
-          → f rules term memory event next-term next-memory ≡ g rules term memory event next-term next-memory
+          → f rules term memory event next_term next_memory ≡ g rules term memory event next_term next_memory
       with_event E t (inr n) = F.no_event R E v t n ∙ sym (H.no_event R E v t n)
-      with_event E t (inl e) = with_room E e.0 t e.1 (move_room? R E memory next-term next-memory)
+      with_event E t (inl e) = with_room E e.0 t e.1 (move_room? R E memory next_term next_memory)
 
-      go : ((E : Term) × GivenTerm R term E) ⊎ ((E : Term) → GivenTerm R term E → ⊥) → f rules term memory event next-term next-memory ≡ g rules term memory event next-term next-memory
+      go : ((E : Term) × GivenTerm R term E) ⊎ ((E : Term) → GivenTerm R term E → ⊥) → f rules term memory event next_term next_memory ≡ g rules term memory event next_term next_memory
       go (inr n) = F.no_term R v n ∙ sym (H.no_term R v n)
       go (inl t) = with_event t.0 t.1 (event? R v.holds.form event)
 
@@ -287,10 +287,10 @@ theirs o d = record {
   admit = λ rules. same_admit rules o.admit admit d.admits admit_meets (admission rules) (verdict rules);
   start = λ rules term memory. same_start rules o.start start term memory (d.starts rules term memory) (start_meets rules term memory) (admission rules) (verdict rules);
   count = λ rules term memory. same_count rules o.count count term memory (d.counts rules term memory) (count_meets rules term memory) (admission rules) (verdict rules);
-  move = λ rules term memory k next-term next-memory. same_move rules o.move move term memory k next-term next-memory
-      (d.moves rules term memory k next-term next-memory) (move_meets rules term memory k next-term next-memory) (admission rules) (verdict rules);
-  present = λ rules term memory event next-term next-memory. same_present rules o.present present term memory event next-term next-memory
-      (d.presents rules term memory event next-term next-memory) (present_meets rules term memory event next-term next-memory) (admission rules) (verdict rules);
+  move = λ rules term memory k next_term next_memory. same_move rules o.move move term memory k next_term next_memory
+      (d.moves rules term memory k next_term next_memory) (move_meets rules term memory k next_term next_memory) (admission rules) (verdict rules);
+  present = λ rules term memory event next_term next_memory. same_present rules o.present present term memory event next_term next_memory
+      (d.presents rules term memory event next_term next_memory) (present_meets rules term memory event next_term next_memory) (admission rules) (verdict rules);
   run = λ rules numbers term memory spare_term spare_memory. same_run rules o.run run numbers term memory spare_term spare_memory
       (d.runs rules numbers term memory spare_term spare_memory) (run_meets rules numbers term memory spare_term spare_memory) (admission rules) (verdict rules);
 }
@@ -303,8 +303,8 @@ theirs_equal o d =
       admit = λ rules. s.admit rules i;
       start = λ rules term memory. s.start rules term memory i;
       count = λ rules term memory. s.count rules term memory i;
-      move = λ rules term memory k next-term next-memory. s.move rules term memory k next-term next-memory i;
-      present = λ rules term memory event next-term next-memory. s.present rules term memory event next-term next-memory i;
+      move = λ rules term memory k next_term next_memory. s.move rules term memory k next_term next_memory i;
+      present = λ rules term memory event next_term next_memory. s.present rules term memory event next_term next_memory i;
       run = λ rules numbers term memory spare_term spare_memory. s.run rules numbers term memory spare_term spare_memory i;
     }
 

@@ -18,7 +18,7 @@ use Rattle.eb3.specs.Bytes.{words_in, bytes_of, written}
 use Rattle.eb3.specs.Memory.{memory_words}
 use Rattle.eb3.specs.Answers.{refused, answered}
 use Rattle.eb3.specs.Operations.{even, term_in, event_in, term_fits, memory_fits, main_reach}
-use Rattle.eb3.specs.Answers.{or-refused}
+use Rattle.eb3.specs.Answers.{or_refused}
 use Rattle.eb3.specs.Laws.Files.{eq→eqb}
 use Rattle.demanded.specs.Admitting.{G}
 use Rattle.demanded.specs.Demanded.{overwritten, word_of, C, GivenTerm, GivenEvent, Room, MoveRoom, RunRoom}
@@ -67,26 +67,26 @@ module _ (R : RuleSet) where
   pub start_room : (term memory : List ℕ) → Room (G R) term → Room (C R) memory → T (start_fits term memory)
   start_room term memory r s = T_and (term_fits (main_reach R) term) (memory_fits R memory) (le→leb (G R) (length term / 2) r) (le→leb (C R) (length memory / 2) s)
 
-  module _ (E : Term) (memory next-term next-memory : List ℕ) where
+  module _ (E : Term) (memory next_term next_memory : List ℕ) where
     abbrev move_fits : Bool
-    move_fits = term_fits (reach R.edition.width E) next-term && (memory_fits R memory && memory_fits R next-memory)
+    move_fits = term_fits (reach R.edition.width E) next_term && (memory_fits R memory && memory_fits R next_memory)
 
-    pub move_in_room : T move_fits → MoveRoom R E memory next-term next-memory
+    pub move_in_room : T move_fits → MoveRoom R E memory next_term next_memory
     move_in_room t =
-        let u = T_snd (term_fits (reach R.edition.width E) next-term) (memory_fits R memory && memory_fits R next-memory) t in
+        let u = T_snd (term_fits (reach R.edition.width E) next_term) (memory_fits R memory && memory_fits R next_memory) t in
         record {
-          term_room = leb→le (reach R.edition.width E) (length next-term / 2) (T_fst (term_fits (reach R.edition.width E) next-term) (memory_fits R memory && memory_fits R next-memory) t);
-          given_room = leb→le (C R) (length memory / 2) (T_fst (memory_fits R memory) (memory_fits R next-memory) u);
-          memory_room = leb→le (C R) (length next-memory / 2) (T_snd (memory_fits R memory) (memory_fits R next-memory) u);
+          term_room = leb→le (reach R.edition.width E) (length next_term / 2) (T_fst (term_fits (reach R.edition.width E) next_term) (memory_fits R memory && memory_fits R next_memory) t);
+          given_room = leb→le (C R) (length memory / 2) (T_fst (memory_fits R memory) (memory_fits R next_memory) u);
+          memory_room = leb→le (C R) (length next_memory / 2) (T_snd (memory_fits R memory) (memory_fits R next_memory) u);
         }
 
-    pub move_room : MoveRoom R E memory next-term next-memory → T move_fits
+    pub move_room : MoveRoom R E memory next_term next_memory → T move_fits
     move_room r =
-        T_and (term_fits (reach R.edition.width E) next-term) (memory_fits R memory && memory_fits R next-memory) (le→leb (reach R.edition.width E) (length next-term / 2) r.term_room)
-        (T_and (memory_fits R memory) (memory_fits R next-memory) (le→leb (C R) (length memory / 2) r.given_room) (le→leb (C R) (length next-memory / 2) r.memory_room))
+        T_and (term_fits (reach R.edition.width E) next_term) (memory_fits R memory && memory_fits R next_memory) (le→leb (reach R.edition.width E) (length next_term / 2) r.term_room)
+        (T_and (memory_fits R memory) (memory_fits R next_memory) (le→leb (C R) (length memory / 2) r.given_room) (le→leb (C R) (length next_memory / 2) r.memory_room))
 
-    pub move_room? : MoveRoom R E memory next-term next-memory ⊎ (MoveRoom R E memory next-term next-memory → ⊥)
-    move_room? = decided (MoveRoom R E memory next-term next-memory) move_fits move_in_room move_room
+    pub move_room? : MoveRoom R E memory next_term next_memory ⊎ (MoveRoom R E memory next_term next_memory → ⊥)
+    move_room? = decided (MoveRoom R E memory next_term next_memory) move_fits move_in_room move_room
 
   module _ (term memory spare_term spare_memory : List ℕ) where
     abbrev run_fits : Bool
@@ -129,15 +129,15 @@ module _ (R : RuleSet) (good : Form R) where
       go true (some ρ) f g e = let x = (given_event_exact R wide (words_in event) ρ).0 e in inl (ρ, record { even = f tt; spelled = x.0; well_formed = x.1 })
 
   pub term_given : (term : List ℕ) (E : Term) → GivenTerm R term E → term_in R term ≡ answered E
-  term_given term E x = pick_true _ _ (even term) (eq→eqb (length term % 2) 0 x.even) ∙ ap (or-refused 10) ((given_term_exact R wide (words_in term) E).1 (x.spelled, record { form = x.form; reach_limit = x.reach_limit; breadth_limit = x.breadth_limit }))
+  term_given term E x = pick_true _ _ (even term) (eq→eqb (length term % 2) 0 x.even) ∙ ap (or_refused 10) ((given_term_exact R wide (words_in term) E).1 (x.spelled, record { form = x.form; reach_limit = x.reach_limit; breadth_limit = x.breadth_limit }))
 
   pub event_given : (event : List ℕ) (ρ : Action) → GivenEvent R event ρ → event_in R event ≡ answered ρ
-  event_given event ρ x = pick_true _ _ (even event) (eq→eqb (length event % 2) 0 x.even) ∙ ap (or-refused 11) ((given_event_exact R wide (words_in event) ρ).1 (x.spelled, x.well_formed))
+  event_given event ρ x = pick_true _ _ (even event) (eq→eqb (length event % 2) 0 x.even) ∙ ap (or_refused 11) ((given_event_exact R wide (words_in event) ρ).1 (x.spelled, x.well_formed))
 
   pub no_term_given : (term : List ℕ) → ((E : Term) → GivenTerm R term E → ⊥) → term_in R term ≡ refused 10
   no_term_given term n = go (even term) (given_term R (words_in term)) (eqb→eq (length term % 2) 0) refl
     where
-      go : (b : Bool) (o : Option Term) → (T b → length term % 2 ≡ 0) → given_term R (words_in term) ≡ o → pick b (or-refused 10 o) (refused 10) ≡ refused 10
+      go : (b : Bool) (o : Option Term) → (T b → length term % 2 ≡ 0) → given_term R (words_in term) ≡ o → pick b (or_refused 10 o) (refused 10) ≡ refused 10
       go false o f e = refl
       go true none f e = refl
       go true (some E) f e = let x = (given_term_exact R wide (words_in term) E).0 e in absurd (n E (record { even = f tt; spelled = x.0; form = x.1.form; reach_limit = x.1.reach_limit; breadth_limit = x.1.breadth_limit }))
@@ -145,7 +145,7 @@ module _ (R : RuleSet) (good : Form R) where
   pub no_event_given : (event : List ℕ) → ((ρ : Action) → GivenEvent R event ρ → ⊥) → event_in R event ≡ refused 11
   no_event_given event n = go (even event) (given_event R (words_in event)) (eqb→eq (length event % 2) 0) refl
     where
-      go : (b : Bool) (o : Option Action) → (T b → length event % 2 ≡ 0) → given_event R (words_in event) ≡ o → pick b (or-refused 11 o) (refused 11) ≡ refused 11
+      go : (b : Bool) (o : Option Action) → (T b → length event % 2 ≡ 0) → given_event R (words_in event) ≡ o → pick b (or_refused 11 o) (refused 11) ≡ refused 11
       go false o f e = refl
       go true none f e = refl
       go true (some ρ) f e = let x = (given_event_exact R wide (words_in event) ρ).0 e in absurd (n ρ (record { even = f tt; spelled = x.0; well_formed = x.1 }))

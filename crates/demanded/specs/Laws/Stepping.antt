@@ -15,7 +15,7 @@ use Rattle.eb3.specs.Derivations.{state_after}
 use Rattle.eb3.specs.Attributes.{Attributes, Trace}
 use Rattle.eb3.specs.Cells.{all_values}
 use Rattle.eb3.specs.Laws.Cells.{length_values, initial_values}
-use Rattle.eb3.specs.TransitionSystems.{TransitionSystem, Configuration, respond, step, run as machine-run}
+use Rattle.eb3.specs.TransitionSystems.{TransitionSystem, Configuration, respond, step, run as machine_run}
 use Rattle.eb3.specs.TransitionSystems as Systems
 use Rattle.eb3.specs.Laws.TransitionSystems.{getElem?_map}
 use Rattle.eb3.specs.Semantics.{Sem_T, Sem_M, Situation, situation, transition, system}
@@ -34,11 +34,11 @@ use Rattle.eb3.specs.Laws.Bytes.{bytes_length, written_length, written_cut}
 use Rattle.eb3.specs.Memory.{memory_words}
 use Rattle.eb3.specs.Laws.Memory.{memory_length}
 use Rattle.eb3.specs.Answers.{refused, answered, and_then, Sizes, Moved, Ran, Written}
-use Rattle.eb3.specs.Laws.Answers.{not_both, answered-injective, refused-injective}
+use Rattle.eb3.specs.Laws.Answers.{not_both, answered_injective, refused_injective}
 use Rattle.eb3.specs.Admission.{admission}
 use Rattle.eb3.specs.Laws.Admission.{admitted}
 use Rattle.eb3.specs.Operations.{main_reach, sizes_needed, term_in, cells_given, writing, moved, count, run}
-use Rattle.eb3.specs.Answers.{or-refused}
+use Rattle.eb3.specs.Answers.{or_refused}
 use Rattle.eb3.specs.Laws.Operations.{term_back, values_back}
 use Rattle.eb3.specs.Demands.{Roomy, last_term, last_trace, history_moves, values_words, run_result, cut}
 use Rattle.eb3.specs.Laws.DemandThree.{admit_reports, there, count_there, move_there, renewed_there, run_is, h}
@@ -47,8 +47,8 @@ use Rattle.demanded.specs.Stepping.{Host, host_after_start, host_start, host_of,
 
 -- ── one step of a machine more ──
 
-run_snoc : (L : TransitionSystem) (c : Configuration L) (ks : List ℕ) (k : ℕ) → machine-run L c (ks ++ (k ∷ [])) ≡ step L (machine-run L c ks) k
-unfolding machine-run
+run_snoc : (L : TransitionSystem) (c : Configuration L) (ks : List ℕ) (k : ℕ) → machine_run L c (ks ++ (k ∷ [])) ≡ step L (machine_run L c ks) k
+unfolding machine_run
 run_snoc L c [] k = refl
 run_snoc L c (j ∷ ks) k = run_snoc L (step L c j) ks k
 
@@ -161,7 +161,7 @@ module _ (rules : List ℕ) (S : Sizes) (R : RuleSet) (a : admission rules ≡ a
         ∙ values_back R good.form T_now g.memory (traced ks)
 
     move_here : (k : ℕ) (o : Option Move) → get_elem? (history_moves R (history ks)) k ≡ o
-        → host_move rules g k ≡ writing g.other_term g.other_memory (or-refused Refusal.not_offered o) (moved R g.memory g.other_term g.other_memory)
+        → host_move rules g k ≡ writing g.other_term g.other_memory (or_refused Refusal.not_offered o) (moved R g.memory g.other_term g.other_memory)
     unfolding there
     move_here k o e = move_there rules S R a s E_now T_now (cut g.size g.term) g.memory given cells r.room.current.memory_room (reach_within ks) k o e g.other_term g.other_memory r.room.other
 
@@ -244,7 +244,7 @@ module _ (rules : List ℕ) (S : Sizes) (R : RuleSet) (a : admission rules ≡ a
     only_12 k j e = go (get_elem? (history_moves R (history ks)) k) refl
       where
         go : (o : Option Move) → get_elem? (history_moves R (history ks)) k ≡ o → j ≡ Refusal.not_offered
-        go none f = refused-injective {X = Moved} j Refusal.not_offered (sym e ∙ ap (λ (w : Written Moved). w.answer) (move_here k none f))
+        go none f = refused_injective {X = Moved} j Refusal.not_offered (sym e ∙ ap (λ (w : Written Moved). w.answer) (move_here k none f))
         go (some x) f = absurd (not_both j _ (sym e ∙ ap (λ (w : Written Moved). w.answer) (move_here k (some x) f)))
 
   -- ── whole lists ──
@@ -277,7 +277,7 @@ module _ (rules : List ℕ) (S : Sizes) (R : RuleSet) (a : admission rules ≡ a
         ∙ ap (λ M. host_after_start other_term other_memory (record { answer = answered (size R.edition.width (unfold_main R)); term = written (words R.edition.width (unfold_main R)) term; memory = written (memory_words M) memory })) (initial_values (attributes R))
 
     first_reached : Reached [] first
-    unfolding history history_run machine-run first
+    unfolding history history_run machine_run first
     first_reached = record {
       size_is = refl;
       term_is = cut_written (unfold_main R) term (main_running R good);
@@ -348,7 +348,7 @@ module _ (rules : List ℕ) (S : Sizes) (R : RuleSet) (a : admission rules ≡ a
 
     from_run : (g : Host) → RoomyHost S g → SameAsRun S g result → Reached (words_in numbers) g
     from_run g o same =
-        let p = answered-injective _ _ (sym same.same_answer ∙ ap (λ (w : Written Ran). w.answer) ran_is) in
+        let p = answered_injective _ _ (sym same.same_answer ∙ ap (λ (w : Written Ran). w.answer) ran_is) in
         record {
           size_is = ap (λ (x : Ran). x.size) p;
           term_is = same.same_term ∙ ran_term g.size (ap (λ (x : Ran). x.size) p);
@@ -374,23 +374,23 @@ one_more rules term memory spare_term spare_memory S e room spare = record {
 }
 
 pub run_then_move : Run_then_move_holds
-run_then_move rules numbers numbers' term memory spare_term spare_memory next-term next-memory k S e f room spare next =
+run_then_move rules numbers numbers' term memory spare_term spare_memory next_term next_memory k S e f room spare next =
     let p = admit_reports rules S e in
     let r = ran_answer rules S p.0 p.1 p.2 numbers term memory spare_term spare_memory room spare in
     let q = ran_answered rules S p.0 p.1 p.2 numbers term memory spare_term spare_memory room spare in
-    let n = (one_more rules term memory spare_term spare_memory S e room spare).one_more numbers numbers' k f (host_of (run rules numbers term memory spare_term spare_memory) r next-term next-memory)
+    let n = (one_more rules term memory spare_term spare_memory S e room spare).one_more numbers numbers' k f (host_of (run rules numbers term memory spare_term spare_memory) r next_term next_memory)
     (record { current = ran_roomy rules S p.0 p.1 p.2 numbers term memory spare_term spare_memory room spare; other = next }) (record { same_answer = q; same_term = refl; same_cells = refl }) in
     record { ran = r; ran_is = q; host = n.0; moved_to = n.1; same_as_run = n.3 }
 
 pub steps_are_the_run : Steps_are_the_run_holds
 unfolding and_then
-steps_are_the_run rules numbers term memory spare_term spare_memory first-term first-memory second-term second-memory S e room spare room₁ room₂ =
+steps_are_the_run rules numbers term memory spare_term spare_memory first_term first_memory second_term second_memory S e room spare room₁ room₂ =
     let p = admit_reports rules S e in
-    let g = first rules S p.0 p.1 p.2 first-term first-memory second-term second-memory room₁ room₂ in
-    let m = steps_reach rules S p.0 p.1 p.2 (words_in numbers) [] g (first_reached rules S p.0 p.1 p.2 first-term first-memory second-term second-memory room₁ room₂) in
+    let g = first rules S p.0 p.1 p.2 first_term first_memory second_term second_memory room₁ room₂ in
+    let m = steps_reach rules S p.0 p.1 p.2 (words_in numbers) [] g (first_reached rules S p.0 p.1 p.2 first_term first_memory second_term second_memory room₁ room₂) in
     record {
       host = m.0;
-      stepped_to = ap (λ x. and_then x λ g. host_run rules g (words_in numbers)) (first_is rules S p.0 p.1 p.2 first-term first-memory second-term second-memory room₁ room₂) ∙ m.1;
+      stepped_to = ap (λ x. and_then x λ g. host_run rules g (words_in numbers)) (first_is rules S p.0 p.1 p.2 first_term first_memory second_term second_memory room₁ room₂) ∙ m.1;
       same_as_run = to_run rules S p.0 p.1 p.2 numbers term memory spare_term spare_memory room spare m.0 m.2;
       room_kept = m.2.room;
       count_answers = (_, count_here rules S p.0 p.1 p.2 (words_in numbers) m.0 m.2);

@@ -19,8 +19,8 @@ use Rattle.eb3.specs.Laws.Reading.{pick_true, pick_false}
 use Rattle.eb3.specs.RuleReading.{read_rules}
 use Rattle.eb3.specs.Laws.RuleReadingComplete.{rules_takes}
 use Rattle.eb3.specs.Laws.Refusals.{rules_refuse}
-use Rattle.eb3.specs.Answers.{Answer, refused, answered, and_then, or-refused}
-use Rattle.eb3.specs.Laws.Answers.{answered-injective, refused-injective, not_both}
+use Rattle.eb3.specs.Answers.{Answer, refused, answered, and_then, or_refused}
+use Rattle.eb3.specs.Laws.Answers.{answered_injective, refused_injective, not_both}
 use Rattle.eb3.specs.Blocks.{Sums, sums, sums_from, block_right, blocks_right, block_count, stream, whole_blocks, edition_in, Opened, open_blocks}
 use Rattle.eb3.specs.Admission.{ends_right, ended, within_limits, admission}
 use Rattle.eb3.specs.Laws.Admission.{two_words, read_whole}
@@ -76,7 +76,7 @@ module _ (rules : List ℕ) where
   unfolding edition_in edition_of
   edition_is = go (eqb (get_or (stream rules) 0 0) 1) (eqb (get_or (stream rules) 1 0) (length rules / 512))
     where
-      go : (x y : Bool) → pick y (or-refused 3 (pick x (some edition_1) none)) (refused 3) ≡ pick (x && y) (answered edition_1) (refused 3)
+      go : (x y : Bool) → pick y (or_refused 3 (pick x (some edition_1) none)) (refused 3) ≡ pick (x && y) (answered edition_1) (refused 3)
       go true true = refl
       go true false = refl
       go false true = refl
@@ -268,10 +268,10 @@ module _ (rules : List ℕ) where
 
       ends : (b : Bool) (R : RuleSet) → pick b (answered R) (refused 4) ≡ refused k → (4 ≤ k) × (k ≤ 6)
       ends true R e = absurd (not_both k R (sym e))
-      ends false R e = let z : 4 ≡ k = refused-injective {X = RuleSet} 4 k e in (omega arith, omega arith)
+      ends false R e = let z : 4 ≡ k = refused_injective {X = RuleSet} 4 k e in (omega arith, omega arith)
 
       go : (r : Read RuleSet) → Rattle.eb3.specs.Laws.Refusals.Refuses r → ended r ≡ refused k → (4 ≤ k) × (k ≤ 6)
-      go (Read.refused j) s e = subst (λ n. (4 ≤ n) × (n ≤ 6)) (refused-injective {X = RuleSet} j k e) (of_three j s)
+      go (Read.refused j) s e = subst (λ n. (4 ≤ n) × (n ≤ 6)) (refused_injective {X = RuleSet} j k e) (of_three j s)
       go (Read.taken R rest) s e = ends (ends_right rest) R e
 
   not_by_limits : (R : RuleSet) (k : ℕ) → 4 ≤ k → k ≤ 6 → within_limits R ≡ refused k → ⊥
@@ -280,8 +280,8 @@ module _ (rules : List ℕ) where
     where
       go : (a b : Bool) → pick a (pick b (answered R) (refused 8)) (refused 7) ≡ refused k → ⊥
       go true true e = not_both k R (sym e)
-      go true false e = let z : 8 ≡ k = refused-injective {X = RuleSet} 8 k e in omega arith
-      go false b e = let z : 7 ≡ k = refused-injective {X = RuleSet} 7 k e in omega arith
+      go true false e = let z : 8 ≡ k = refused_injective {X = RuleSet} 8 k e in omega arith
+      go false b e = let z : 7 ≡ k = refused_injective {X = RuleSet} 7 k e in omega arith
 
   pub admission_exact : AdmissionExact rules
   unfolding and_then
@@ -292,7 +292,7 @@ module _ (rules : List ℕ) where
       (λ x R h. not_by_limits R x.0 x.1 x.2 (sym (after_holding R h) ∙ x.3)),
       (λ n. go n w b e (ended (read_rules edition_1 words)) refl),
     );
-    one_rule_set = λ Q R h g. answered-injective Q R (sym (held_read Q h) ∙ held_read R g);
+    one_rule_set = λ Q R h g. answered_injective Q R (sym (held_read Q h) ∙ held_read R g);
     wrong_block = λ e. wrong (subst Verdict e verdict);
   }
     where

@@ -6,7 +6,7 @@ use lib.Dec.{lit<}
 use Rattle.scan.specs.Laws.{behind_len, last_len}
 use Rattle.listing.specs.Operands.{answer_is, front_len, mask_len}
 use Rattle.derivation.specs.AnswerLaws.{sized}
-use Rattle.derivation.proofs.Answers.{sound-single}
+use Rattle.derivation.proofs.Answers.{sound_single}
 use Rattle.derivation.proofs.Arms.{internal_derived, perform_derived, two_lost, two_left, rest_count, two_right, choice_derived, sequence_right, sequence_lost, sequence_found, sequence_passed, star_end, star_round, guard_shut, guard_open, at_front, other_derived}
 use Rattle.derivation.proofs.Listed.{lent_few, listed_lost_first, whole_length, listed_lost_second, listed_fits, listed_none, listed_sides}
 use Rattle.derivation.proofs.Idle.{right_derived, left_lost, left_found, left_passed, masked_right, masked_left, masked_listed}
@@ -150,7 +150,7 @@ pub derive_parallel-single-requires : goal.derive_parallel-single-requires
 derive_parallel-single-requires t c = omega (arith, behind_len c.behind.result.now _ c.behind-v.ensures, behind_len c.behind_mask-t.result.now _ c.behind.ensures, mask_len c.args.d.now _ c.behind_mask-t.ensures)
 
 pub derive_parallel-decide-requires : goal.derive_parallel-decide-requires
-derive_parallel-decide-requires t c = let s = sound-single 65535 _ _ _ _ c.single.ensures.0 c.single.ensures.1 c.requires.2 (omega (arith, behind_len c.behind.result.now _ c.behind-v.ensures, behind_len c.behind_mask-t.result.now _ c.behind.ensures, mask_len c.args.d.now _ c.behind_mask-t.ensures)) (omega arith) c.requires.1 in (s.bounded, s.place_bounded)
+derive_parallel-decide-requires t c = let s = sound_single 65535 _ _ _ _ c.single.ensures.0 c.single.ensures.1 c.requires.2 (omega (arith, behind_len c.behind.result.now _ c.behind-v.ensures, behind_len c.behind_mask-t.result.now _ c.behind.ensures, mask_len c.args.d.now _ c.behind_mask-t.ensures)) (omega arith) c.requires.1 in (s.bounded, s.place_bounded)
 
 pub derive_parallel-returns-then-both_done : goal.derive_parallel-returns-then-both_done
 derive_parallel-returns-then-both_done t c = parallel_done _ _ _ _ _ _ _ _ c.behind_mask-t.ensures _ c.both_done.ensures _ _ _ c.if-both_done.true (c.behind-v.ensures ∙ ap (drop 1) c.behind.ensures) c.single.ensures.0 c.single.ensures.1 c.requires.0 c.requires.2 c.requires.1 c.decide.ensures

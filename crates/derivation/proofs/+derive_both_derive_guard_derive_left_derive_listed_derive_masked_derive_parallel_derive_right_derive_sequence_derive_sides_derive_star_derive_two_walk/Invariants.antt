@@ -9,7 +9,7 @@ use lib.Dec.{lit<}
 use Rattle.scan.specs.Laws.{behind_len, last_len}
 use Rattle.listing.specs.Operands.{answer_is, front_len, mask_len}
 use Rattle.derivation.specs.AnswerLaws.{sized}
-use Rattle.derivation.proofs.Answers.{sound-single}
+use Rattle.derivation.proofs.Answers.{sound_single}
 use Rattle.derivation.proofs.Arms.{internal_derived, perform_derived, two_lost, two_left, rest_count, two_right, choice_derived, sequence_right, sequence_lost, sequence_found, sequence_passed, star_end, star_round, guard_shut, guard_open, at_front, other_derived}
 use Rattle.derivation.proofs.Listed.{lent_few, listed_lost_first, whole_length, listed_lost_second, listed_fits, listed_none, listed_sides}
 use Rattle.derivation.proofs.Idle.{right_derived, left_lost, left_found, left_passed, masked_right, masked_left, masked_listed}

@@ -4,7 +4,7 @@ use borrow.Author.Rules.{rules}
 use Rattle.derivation.proofs.decide_right.Goals as goal
 
 pub decide-requires : goal.decide-requires
-decide-requires c = 
+decide-requires c =
     let d = c.decide-q.ensures in
     (d.bounded, λ z. placed_on d c.requires.1 z)
 

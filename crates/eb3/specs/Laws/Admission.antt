@@ -20,8 +20,8 @@ use Rattle.eb3.specs.Reading.{Read, pick}
 use Rattle.eb3.specs.Laws.Reading.{Sound}
 use Rattle.eb3.specs.Laws.RuleReading.{FormOf, rules_sound}
 use Rattle.eb3.specs.RuleReading.{read_rules}
-use Rattle.eb3.specs.Answers.{Answer, refused, answered, and_then, or-refused}
-use Rattle.eb3.specs.Laws.Answers.{not_both, answered-injective, and-then-answered, pick-answered}
+use Rattle.eb3.specs.Answers.{Answer, refused, answered, and_then, or_refused}
+use Rattle.eb3.specs.Laws.Answers.{not_both, answered_injective, and_then_answered, pick_answered}
 use Rattle.eb3.specs.Laws.Bytes.{words_counted}
 use Rattle.eb3.specs.Blocks.{block_bytes, content_bytes, content_words, content, contents, block_count, stream, whole_blocks, blocks_right, edition_in, Opened, open_blocks}
 use Rattle.eb3.specs.Admission.{all_zero, ends_right, ended, within_limits, admission}
@@ -63,9 +63,9 @@ stream_length rules t =
 abbrev pub Spelled : List ℕ → RuleSet → Type 0
 Spelled rules R = (n : ℕ) × (n < content_words) × (stream rules ≡ stream_words (block_count rules) R ++ replicate n 0)
 
-pub or_refused_answered : {X : Type 0} (k : ℕ) (o : Option X) (x : X) → or-refused k o ≡ answered x → o ≡ some x
+pub or_refused_answered : {X : Type 0} (k : ℕ) (o : Option X) (x : X) → or_refused k o ≡ answered x → o ≡ some x
 or_refused_answered k none x e = absurd (not_both k x e)
-or_refused_answered k (some y) x e = ap some (answered-injective y x e)
+or_refused_answered k (some y) x e = ap some (answered_injective y x e)
 
 module _ (rules : List ℕ) where
   -- The edition is the one that word 0 says, and the words are those after the first two.
@@ -77,14 +77,14 @@ module _ (rules : List ℕ) where
   pub opened : (o : Opened) → open_blocks rules ≡ answered o → OpenedAs o
   unfolding open_blocks edition_in
   opened o e =
-      let p = pick-answered (whole_blocks rules) _ Refusal.length o e in
-      let q = pick-answered (blocks_right 0 (block_count rules) rules) _ Refusal.block o p.1 in
-      let r = and-then-answered (edition_in rules) (λ L. answered (record { edition = L; words = drop 2 (stream rules) })) o q.1 in
-      let u = pick-answered (eqb (get_or (stream rules) 1 0) (block_count rules)) _ Refusal.edition r.0 r.1 in
+      let p = pick_answered (whole_blocks rules) _ Refusal.length o e in
+      let q = pick_answered (blocks_right 0 (block_count rules) rules) _ Refusal.block o p.1 in
+      let r = and_then_answered (edition_in rules) (λ L. answered (record { edition = L; words = drop 2 (stream rules) })) o q.1 in
+      let u = pick_answered (eqb (get_or (stream rules) 1 0) (block_count rules)) _ Refusal.edition r.0 r.1 in
       let d : edition_of (get_or (stream rules) 0 0) ≡ some r.0 = or_refused_answered Refusal.edition (edition_of (get_or (stream rules) 0 0)) r.0 u.1 in
       let n : r.0.number ≡ get_or (stream rules) 0 0 = edition_numbered (get_or (stream rules) 0 0) r.0 d in
       let defined : Defined r.0 = ap edition_of n ∙ d in
-      subst OpenedAs (answered-injective (record { edition = r.0; words = drop 2 (stream rules) }) o r.2) (record {
+      subst OpenedAs (answered_injective (record { edition = r.0; words = drop 2 (stream rules) }) o r.2) (record {
         whole = p.0;
         defined = defined;
         front = two_words (stream rules) r.0.number (block_count rules) (edition_proper r.0 defined).numbered.0 (blocks_there rules p.0) (sym n) (eqb→eq (get_or (stream rules) 1 0) (block_count rules) u.0);
@@ -111,8 +111,8 @@ module _ (rules : List ℕ) where
       go : (r : Read RuleSet) → Sound rules_words (FormOf L) words r → ended r ≡ answered R → Taken L words R
       go (Read.refused k) h e = absurd (not_both k R e)
       go (Read.taken Q rest) h e =
-          let p = pick-answered (ends_right rest) (answered Q) Refusal.form R e in
-          subst (Taken L words) (answered-injective Q R p.1) (
+          let p = pick_answered (ends_right rest) (answered Q) Refusal.form R e in
+          subst (Taken L words) (answered_injective Q R p.1) (
             (
               length rest,
               ltb→lt (length rest) content_words (T_fst (ltb (length rest) content_words) (all_zero rest) p.0),
@@ -124,9 +124,9 @@ module _ (rules : List ℕ) where
   limited : (Q R : RuleSet) → within_limits Q ≡ answered R → Form Q → (Q ≡ R) × WellFormed R
   unfolding within_limits
   limited Q R e f =
-      let p = pick-answered (leb (reach Q.edition.width (unfold_main Q)) Limits.reach) _ Refusal.size R e in
-      let q = pick-answered (leb (breadth (unfold_main Q)) Limits.breadth) (answered Q) Refusal.breadth R p.1 in
-      let same = answered-injective Q R q.1 in (
+      let p = pick_answered (leb (reach Q.edition.width (unfold_main Q)) Limits.reach) _ Refusal.size R e in
+      let q = pick_answered (leb (breadth (unfold_main Q)) Limits.breadth) (answered Q) Refusal.breadth R p.1 in
+      let same = answered_injective Q R q.1 in (
         same,
         subst WellFormed same (record {
           form = f;
@@ -144,8 +144,8 @@ module _ (rules : List ℕ) where
   pub admitted : (R : RuleSet) → admission rules ≡ answered R → AdmittedAs R
   unfolding admission stream_words
   admitted R e =
-      let p = and-then-answered (and_then (open_blocks rules) λ o. ended (read_rules o.edition o.words)) within_limits R e in
-      let q = and-then-answered (open_blocks rules) (λ o. ended (read_rules o.edition o.words)) p.0 p.1 in
+      let p = and_then_answered (and_then (open_blocks rules) λ o. ended (read_rules o.edition o.words)) within_limits R e in
+      let q = and_then_answered (open_blocks rules) (λ o. ended (read_rules o.edition o.words)) p.0 p.1 in
       let o : Opened = q.0 in
       let w : OpenedAs o = opened o q.1 in
       let t = read_whole o.edition w.defined o.words p.0 q.2 in

@@ -18,7 +18,7 @@ use Rattle.eb3.specs.WellFormedness.{WellFormed}
 use Rattle.eb3.specs.RuleSpelling.{rules_words, stream_words}
 use Rattle.eb3.specs.RuleReading.{read_rules}
 use Rattle.eb3.specs.Bytes.{words_in, bytes_of}
-use Rattle.eb3.specs.Answers.{Answer, answered, and_then, or-refused}
+use Rattle.eb3.specs.Answers.{Answer, answered, and_then, or_refused}
 use Rattle.eb3.specs.Blocks.{Sums, add_byte, sums_from, block_bytes, content_bytes, content_words, content, block_right, blocks_right, contents, block_count, stream, whole_blocks, edition_in, Opened, open_blocks}
 use Rattle.eb3.specs.Files.{block_sums, block_of, blocks_from, words_used, blocks_needed, file_of}
 use Rattle.eb3.specs.Admission.{all_zero, ends_right, ended, within_limits, admission}
@@ -123,7 +123,7 @@ module _ (L : Edition) (defined : Defined L) (n : ℕ) (us : List ℕ) (small : 
   unfolding edition_in
   edition_there =
       pick_true _ _ (eqb (get_or (stream file) 1 0) (block_count file)) (eq→eqb (get_or (stream file) 1 0) (block_count file) (ap (λ s. get_or s 1 0) file_stream ∙ sym file_blocks))
-      ∙ ap (or-refused Refusal.edition) (ap (λ s. edition_of (get_or s 0 0)) file_stream ∙ defined)
+      ∙ ap (or_refused Refusal.edition) (ap (λ s. edition_of (get_or s 0 0)) file_stream ∙ defined)
 
   abbrev reopened : List ℕ → Answer Opened
   reopened s = answered (record { edition = L; words = drop 2 s })

@@ -49,7 +49,7 @@ module _ (P : Scope) (σ : Valuation) (small : (i : ℕ) → i < P.variables →
 
 module _ (R : RuleSet) where
   module _ (small : (d : ℕ) → domain_size R d ≤ suc R.edition.top) where
-    module _ (i : ℕ) (callee : ℕ → Valuation → Term) (callee-well-formed : (p : ℕ) → p < i → (vs : Valuation) → Within (sizes_of R (process R p).parameters) vs → WellFormedTerm R (callee p vs)) where
+    module _ (i : ℕ) (callee : ℕ → Valuation → Term) (callee_well_formed : (p : ℕ) → p < i → (vs : Valuation) → Within (sizes_of R (process R p).parameters) vs → WellFormedTerm R (callee p vs)) where
       pub unfold_well_formed : (E : RuleTerm) (Γ : List ℕ) → Allowed R i Γ E → (σ : Valuation) → Within (sizes_of R Γ) σ → WellFormedTerm R (unfold_term R callee E σ)
       unfolding unfold_term
       unfold_well_formed rule_internal Γ h σ w = tt
@@ -64,7 +64,7 @@ module _ (R : RuleSet) where
           right_nest_keeps (λ E. WellFormedTerm R E) Done Choice tt (λ E F p q. (p, q)) (domain_size R d) _ (λ x l. unfold_well_formed E (Γ ++ (d ∷ [])) h.2 (σ ++ (x ∷ [])) (within_more R Γ σ d x w l))
       unfold_well_formed (parallel_over d Δ E) Γ h σ w =
           right_nest_keeps (λ E. WellFormedTerm R E) Done (Parallel Δ) tt (λ E F p q. (h.2, p, q)) (domain_size R d) _ (λ x l. unfold_well_formed E (Γ ++ (d ∷ [])) h.3 (σ ++ (x ∷ [])) (within_more R Γ σ d x w l))
-      unfold_well_formed (call p rs) Γ h σ w = callee-well-formed p h.0 (map (argument_value σ) rs) (arguments_within R Γ σ w (process R p).parameters rs h.1)
+      unfold_well_formed (call p rs) Γ h σ w = callee_well_formed p h.0 (map (argument_value σ) rs) (arguments_within R Γ σ w (process R p).parameters rs h.1)
 
     either_well_formed : (b : Bool) (E F : Term) → (T b → WellFormedTerm R E) → ((T b → ⊥) → WellFormedTerm R F) → WellFormedTerm R (cond b E F)
     either_well_formed true E F h k = h tt

@@ -27,7 +27,7 @@ use Rattle.eb3.specs.Memory.{cell_room, memory_words}
 use Rattle.eb3.specs.Laws.Memory.{memory_length, cells_back}
 use Rattle.eb3.specs.Answers.{Answer, refused, answered}
 use Rattle.eb3.specs.Operations.{even, term_in, cells_given, cells_needed, main_reach, term_fits, memory_fits}
-use Rattle.eb3.specs.Answers.{or-refused}
+use Rattle.eb3.specs.Answers.{or_refused}
 use Rattle.eb3.specs.Laws.Editions.{form_proper}
 
 module _ (R : RuleSet) (good : Form R) where
@@ -40,7 +40,7 @@ module _ (R : RuleSet) (good : Form R) where
   term_back E w =
       let s = bytes_of (words R.edition.width E) in
       let twice : length s % 2 ≡ 0 = omega (arith, bytes_length (words R.edition.width E)) in
-      pick_true _ _ (even s) (subst (λ n. T (eqb n 0)) (sym twice) tt) ∙ ap (or-refused Refusal.term) ((given_term_exact R (form_proper good).constants.0 (words_in s) E).1 (bytes_back (words R.edition.width E) (spelling_small E w.form), w))
+      pick_true _ _ (even s) (subst (λ n. T (eqb n 0)) (sym twice) tt) ∙ ap (or_refused Refusal.term) ((given_term_exact R (form_proper good).constants.0 (words_in s) E).1 (bytes_back (words R.edition.width E) (spelling_small E w.form), w))
 
   -- So is a term buffer cut to the term that was written in front.
   pub cut_back : (E : Term) (vs buffer : List ℕ) → Running R E → term_in R (take (2 * size R.edition.width E) (written (words R.edition.width E ++ vs) buffer)) ≡ answered E

@@ -17,8 +17,8 @@ use Rattle.eb3.specs.Reading.{Read, refused, taken, Reader, pick, giving, then, 
 use Rattle.eb3.specs.ExpressionReading.{DataKind, CondKind, data_kind, cond_kind, constant_of, args_of, Readers, data_by, cond_by, data_step, cond_step, readers, read_data, read_cond}
 use Rattle.eb3.specs.TermReading.{mask_of}
 use Rattle.eb3.specs.RuleReading.{read_domains, read_labels, read_parameter_counts, count_for, at_start_scope, at_label_scope, function_from, read_function, read_functions, argument_of, arguments_of, rule_action_of, call_of, choice_over_of, parallel_over_of, RuleKind, rule_kind, rule_by, rule_step, rule_terms, read_rule_term, parameter_limit, read_process, with_process, read_processes, without_processes, read_rules}
-use Rattle.eb3.specs.Answers.{Answer, and_then, or-refused}
-use Rattle.eb3.specs.Laws.Answers.{not_both, refused-injective}
+use Rattle.eb3.specs.Answers.{Answer, and_then, or_refused}
+use Rattle.eb3.specs.Laws.Answers.{not_both, refused_injective}
 use Rattle.eb3.specs.Blocks.{block_count, whole_blocks, blocks_right, edition_in, stream, open_blocks}
 use Rattle.eb3.specs.Admission.{ends_right, ended, within_limits, admission}
 
@@ -195,10 +195,10 @@ module _ (R : RuleSet) where
         (both_refuses (mask_of 4 (length R.labels)) (both (e Γ) (e Γ)) (mask_refuses 4 (length R.labels)) (both_refuses (e Γ) (e Γ) (h Γ) (h Γ)) t)
     rule_by_refuses RuleKind.guard t = giving_refuses _ (both (read_cond R.edition.width (guard_scope (attributes R) (length Γ))) (e Γ) t)
         (both_refuses (read_cond R.edition.width (guard_scope (attributes R) (length Γ))) (e Γ) (cond_refuses R.edition.width (guard_scope (attributes R) (length Γ))) (h Γ) t)
-    rule_by_refuses RuleKind.choice-quantifier t = by_number_refuses (length R.domains) _ (λ d u. giving_refuses _ (e (Γ ++ (d ∷ [])) u) (h (Γ ++ (d ∷ [])) u)) t
-    rule_by_refuses RuleKind.parallel-quantifier t = by_number_refuses (length R.domains) _ (λ d u. giving_refuses _ (both (mask_of 4 (length R.labels)) (e (Γ ++ (d ∷ []))) u)
+    rule_by_refuses RuleKind.choice_quantifier t = by_number_refuses (length R.domains) _ (λ d u. giving_refuses _ (e (Γ ++ (d ∷ [])) u) (h (Γ ++ (d ∷ [])) u)) t
+    rule_by_refuses RuleKind.parallel_quantifier t = by_number_refuses (length R.domains) _ (λ d u. giving_refuses _ (both (mask_of 4 (length R.labels)) (e (Γ ++ (d ∷ []))) u)
         (both_refuses (mask_of 4 (length R.labels)) (e (Γ ++ (d ∷ []))) (mask_refuses 4 (length R.labels)) (h (Γ ++ (d ∷ []))) u)) t
-    rule_by_refuses RuleKind.process-call t = by_number_refuses (length R.processes) _ (λ p u. giving_refuses _ (arguments_of R Γ (process R p).parameters u) (arguments_refuse Γ (process R p).parameters u)) t
+    rule_by_refuses RuleKind.process_call t = by_number_refuses (length R.processes) _ (λ p u. giving_refuses _ (arguments_of R Γ (process R p).parameters u) (arguments_refuse Γ (process R p).parameters u)) t
     rule_by_refuses RuleKind.wrong t = by_form
 
   rule_terms_refuse : (n : ℕ) (Γ : List ℕ) → AllRefuse (rule_terms R n Γ)
@@ -249,7 +249,7 @@ unfolding and_then
 and_then_within ks (Answer.refused k) f h q = h
 and_then_within ks (Answer.answered x) f h q = q x
 
-pub or_refused_within : {X : Type 0} (ks : List ℕ) (k : ℕ) (o : Option X) → T (one_of ks k) → Within ks (or-refused k o)
+pub or_refused_within : {X : Type 0} (ks : List ℕ) (k : ℕ) (o : Option X) → T (one_of ks k) → Within ks (or_refused k o)
 or_refused_within ks k none h = h
 or_refused_within ks k (some x) h = tt
 

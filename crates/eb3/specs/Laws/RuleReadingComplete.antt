@@ -123,11 +123,11 @@ module _ (R : RuleSet) (positive : 1 ≤ R.edition.width) (small : (d : ℕ) →
           two_takes (cond_words R.edition.width) (λ C. CondInScope C G) words (Bounded n Γ) rule_guard (read_cond R.edition.width G) (e Γ) (cond_takes R.edition.width positive G) (operand Γ)
           C E rest h.0.0 (h.0.1, back_within (cond_words R.edition.width C) (words E) n (omega arith))
       step_takes Γ (choice_over d E) rest h =
-          quantifier_takes RuleKind.choice-quantifier Γ (d ∷ (words E ++ rest)) h.0.1
+          quantifier_takes RuleKind.choice_quantifier Γ (d ∷ (words E ++ rest)) h.0.1
           ∙ by_number_takes words (λ d. Bounded n (Γ ++ (d ∷ []))) choice_over Refusal.reference (length R.domains) (λ d. e (Γ ++ (d ∷ [])))
           d (operand (Γ ++ (d ∷ []))) E rest h.0.0 (h.0.2, omega arith)
       step_takes Γ (parallel_over d Δ E) rest h =
-          quantifier_takes RuleKind.parallel-quantifier Γ (d ∷ ((Δ ++ words E) ++ rest)) h.0.1
+          quantifier_takes RuleKind.parallel_quantifier Γ (d ∷ ((Δ ++ words E) ++ rest)) h.0.1
           ∙ by_number_takes (spell_both (λ (Δ : Mask). Δ) (MaskFits R) words (Bounded n Γ)) (λ d. Both (λ (Δ : Mask). Δ) (MaskFits R) words (Bounded n (Γ ++ (d ∷ [])))) (λ d p. parallel_over d p.0 p.1)
           Refusal.reference (length R.domains) (λ d. both (rule_mask_of R) (e (Γ ++ (d ∷ []))))
           d (both_takes (λ (Δ : Mask). Δ) (MaskFits R) words (Bounded n (Γ ++ (d ∷ []))) (rule_mask_of R) (e (Γ ++ (d ∷ []))) (mask_takes 4 (length R.labels)) (operand (Γ ++ (d ∷ []))))

@@ -74,7 +74,7 @@ module _ (R : RuleSet) where
     action_at = by_number_sound (concat_map (argument_words R.edition.width)) (λ l. ArgumentsFit R Γ (label R l)) rule_perform Refusal.reference (length R.labels) (λ l. arguments_of R Γ (label R l)) W (Ok Γ) 21
         (λ l. arguments_sound R Γ (label R l)) (λ l rs. refl) (λ l rs p q. (p, q)) t
 
-    call_at : At 29 RuleKind.process-call
+    call_at : At 29 RuleKind.process_call
     unfolding call_of rule_words
     call_at = by_number_sound (concat_map (argument_words R.edition.width)) (λ p. ArgumentsFit R Γ (process R p).parameters) call Refusal.reference (length R.processes) (λ p. arguments_of R Γ (process R p).parameters) W (Ok Γ) 29
         (λ p. arguments_sound R Γ (process R p).parameters) (λ p rs. refl) (λ p rs l q. (l, q)) t
@@ -98,12 +98,12 @@ module _ (R : RuleSet) where
         scope : Scope
         scope = guard_scope (attributes R) (length Γ)
 
-    choice_over_at : length Γ < Limits.variables → At 27 RuleKind.choice-quantifier
+    choice_over_at : length Γ < Limits.variables → At 27 RuleKind.choice_quantifier
     unfolding choice_over_of rule_words
     choice_over_at v = by_number_sound W (λ d. Ok (Γ ++ (d ∷ []))) choice_over Refusal.reference (length R.domains) (λ d. e (Γ ++ (d ∷ []))) W (Ok Γ) 27
         (λ d. h (Γ ++ (d ∷ []))) (λ d E. refl) (λ d E l q. (l, v, q)) t
 
-    parallel_over_at : length Γ < Limits.variables → At 28 RuleKind.parallel-quantifier
+    parallel_over_at : length Γ < Limits.variables → At 28 RuleKind.parallel_quantifier
     unfolding parallel_over_of rule_words
     parallel_over_at v = by_number_sound (spell_both (λ Δ. Δ) (MaskFits R) W (Ok Γ)) (λ d. Both (λ Δ. Δ) (MaskFits R) W (Ok (Γ ++ (d ∷ [])))) (λ d p. parallel_over d p.0 p.1) Refusal.reference (length R.domains) (λ d. both (rule_mask_of R) (e (Γ ++ (d ∷ [])))) W (Ok Γ) 28
         (λ d. both_sound (λ Δ. Δ) (MaskFits R) W (Ok (Γ ++ (d ∷ []))) (rule_mask_of R) (e (Γ ++ (d ∷ []))) (mask_sound 4 (length R.labels)) (h (Γ ++ (d ∷ [])))) (λ d p. refl) (λ d p l q. (l, v, q.0, q.1)) t

@@ -142,7 +142,7 @@ test_exact cap limit n h = ((λ l. omega arith), (λ l. omega arith))
 pub passed_exact : (cap limit n : ℕ) → limit < cap → sat cap n ≤ limit → sat cap n ≡ n
 passed_exact cap limit n h l = omega arith
 
-module _ (cap : ℕ) (reach-below : Limits.reach < cap) (breadth-below : Limits.breadth < cap) where
+module _ (cap : ℕ) (reach_below : Limits.reach < cap) (breadth_below : Limits.breadth < cap) where
   -- Refusals 7 and 8 are decided on saturated numbers, for main and for a given term.
   pub main_tests : (R : RuleSet)
       → (Limits.reach < (measure_main (sat cap) R).reach ↔ Limits.reach < reach R.edition.width (unfold_main R)) × (Limits.breadth < (measure_main (sat cap) R).breadth ↔ Limits.breadth < breadth (unfold_main R))

@@ -53,7 +53,7 @@ nest_not_done join j zero copy h c = let z : ⊥ = omega arith in absurd z
 nest_not_done join j (suc zero) copy h c = c zero
 nest_not_done join j (suc (suc n)) copy h c = j _ _
 
-module _ (R : RuleSet) (i : ℕ) (callee : ℕ → Valuation → Term) (callee-not-done : (p : ℕ) → p < i → (ts : Valuation) → T (not (done? (callee p ts)))) where
+module _ (R : RuleSet) (i : ℕ) (callee : ℕ → Valuation → Term) (callee_not_done : (p : ℕ) → p < i → (ts : Valuation) → T (not (done? (callee p ts)))) where
   term_not_done : (E : RuleTerm) → LowerCalls R i E → (σ : Valuation) → T (not (done? (unfold_term R callee E σ)))
   unfolding unfold_term done?
   term_not_done rule_internal l σ = tt
@@ -65,7 +65,7 @@ module _ (R : RuleSet) (i : ℕ) (callee : ℕ → Valuation → Term) (callee-n
   term_not_done (rule_guard C E) l σ = tt
   term_not_done (choice_over d E) l σ = nest_not_done Choice (λ E F. tt) (domain_size R d) _ l.0 (λ x. term_not_done E l.1 (σ ++ (x ∷ [])))
   term_not_done (parallel_over d Δ E) l σ = nest_not_done (Parallel Δ) (λ E F. tt) (domain_size R d) _ l.0 (λ x. term_not_done E l.1 (σ ++ (x ∷ [])))
-  term_not_done (call p rs) l σ = callee-not-done p l (map (argument_value σ) rs)
+  term_not_done (call p rs) l σ = callee_not_done p l (map (argument_value σ) rs)
 
 module _ (R : RuleSet) (low : Lower R) where
   abbrev n : ℕ

@@ -6,7 +6,7 @@ use mathlib.Core.List.{List, [], ◌++◌, append-nil}
 use Rattle.std.proofs.Math.ListN.{length, take}
 use Rattle.eb3.specs.Cells.{all_values}
 use Rattle.eb3.specs.Laws.Cells.{initial_values}
-use Rattle.eb3.specs.TransitionSystems.{run as machine-run}
+use Rattle.eb3.specs.TransitionSystems.{run as machine_run}
 use Rattle.eb3.specs.Machines.{history_run}
 use Rattle.eb3.specs.Sizes.{size}
 use Rattle.eb3.specs.RuleSets.{RuleSet, attributes}
@@ -39,7 +39,7 @@ module _ (rules : List ℕ) (S : Sizes) (R : RuleSet) (a : admission rules ≡ a
   nothing_run = run_is rules S R a s [] term memory spare_term spare_memory room spare
 
   agreed : Start_is_run rules term memory spare_term spare_memory S
-  unfolding h history_run machine-run words_in
+  unfolding h history_run machine_run words_in
   agreed = record {
     same_size = ap (λ (w : Written ℕ). w.answer) (start_writes rules S R a s term memory room) ∙ ap (λ (x : Sizes). answered x.size) s;
     same_term = ap (λ (w : Written ℕ). cut S.size w.term) (start_writes rules S R a s term memory room)

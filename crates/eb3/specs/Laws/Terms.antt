@@ -6,7 +6,7 @@ use Rattle.std.proofs.Common.{eqb→eq}
 use Rattle.std.proofs.Math.Dec.{eqb_refl}
 use Rattle.eb3.specs.Generic.Booleans.{T_and, T_fst, T_snd}
 use Rattle.eb3.specs.Generic.Lists.{same_list, same_list→eq, same_list_refl}
-use Rattle.eb3.specs.Terms.{VisibleAction, Action, internal, visible, Action-set-over, same_action}
+use Rattle.eb3.specs.Terms.{VisibleAction, Action, internal, visible, Action_set_over, same_action}
 
 pub same_action→eq : (a b : Action) → T (same_action a b) → a ≡ b
 unfolding same_action
@@ -30,4 +30,4 @@ VisibleAction_set x y p q = λ i j. record {
 }
 
 pub Action_set : IsSet Action
-Action_set = Action-set-over VisibleAction_set
+Action_set = Action_set_over VisibleAction_set

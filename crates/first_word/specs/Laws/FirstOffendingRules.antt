@@ -26,7 +26,7 @@ use Rattle.eb3.specs.Laws.Reading.{Sound, series_sound}
 use Rattle.eb3.specs.Laws.RuleSets.{functions_counted}
 use Rattle.eb3.specs.Laws.ParameterCounts.{CountsRead, counts_sound}
 use Rattle.eb3.specs.Laws.RuleReading.{FunctionRead, function_sound, arities_are}
-use Rattle.first_word.specs.FirstOffendingWord.{Declared, nothing_declared, Owner, of-label, of-process, Due, domain_count, domain_size, label_count, function_count, process_count, parameter_count, parameter, function_parameter_count, function_parameter, data_code, guard_scope, label_scope, empty_trace_scope, parameters_of, by_form, by_reference, from_to, judge, Next, follow, declare, parameters, declare_functions, parameter_counts, expressions, functions_from, processes_due, padding, verdict, first_offending}
+use Rattle.first_word.specs.FirstOffendingWord.{Declared, nothing_declared, Owner, of_label, of_process, Due, domain_count, domain_size, label_count, function_count, process_count, parameter_count, parameter, function_parameter_count, function_parameter, data_code, guard_scope, label_scope, empty_trace_scope, parameters_of, by_form, by_reference, from_to, judge, Next, follow, declare, parameters, declare_functions, parameter_counts, expressions, functions_from, processes_due, padding, verdict, first_offending}
 use Rattle.first_word.specs.Laws.FirstOffendingWord.{followed, followed_giving, followed_then, followed_pick, nothing_due, Follows, giving_follows, both_follows, number_follows, data_follows}
 use Rattle.first_word.specs.Laws.FirstOffendingTerms.{rules, declared, rule_term_follows}
 
@@ -123,9 +123,9 @@ module _ (L : Edition) (one : 1 ≤ L.function_parameters) where
   unfolding verdict counted
   labels_due domains gs s =
       let head : Reader (List ℕ) = counted 0 Limits.label_parameters (number_of Refusal.reference (length domains)) in
-      count_due (with_domains domains) 1 Limits.labels label_count gs (λ n u. verdict 253 L u (with_domains domains) (replicate n (parameter_count of-label Limits.label_parameters) ++ gs)) (λ w t. refl) s
-      ∙ (followed_alike (count_of 1 Limits.labels s) _ _ (λ n u. row_due (with_labels domains) head (parameter_count of-label Limits.label_parameters)
-      (λ ls gs s. head_due (with_labels domains ls) of-label Limits.label_parameters gs s) n [] gs u)
+      count_due (with_domains domains) 1 Limits.labels label_count gs (λ n u. verdict 253 L u (with_domains domains) (replicate n (parameter_count of_label Limits.label_parameters) ++ gs)) (λ w t. refl) s
+      ∙ (followed_alike (count_of 1 Limits.labels s) _ _ (λ n u. row_due (with_labels domains) head (parameter_count of_label Limits.label_parameters)
+      (λ ls gs s. head_due (with_labels domains ls) of_label Limits.label_parameters gs s) n [] gs u)
       ∙ sym (followed_then (count_of 1 Limits.labels s) (λ n. repeat n head) (λ ls u. verdict 253 L u (with_labels domains ls) gs)))
 
   -- ── functions ──
@@ -266,7 +266,7 @@ module _ (L : Edition) (one : 1 ≤ L.function_parameters) where
       abbrev holding : List Process → RuleSet
       holding ps = record { edition = L; domains = domains; labels = labels; functions = Fs; processes = ps }
 
-      next_process : (k : ℕ) → processes_due (suc k) ++ [] ≡ parameter_count of-process (parameter_limit k) ∷ (processes_due k ++ [])
+      next_process : (k : ℕ) → processes_due (suc k) ++ [] ≡ parameter_count of_process (parameter_limit k) ∷ (processes_due k ++ [])
       next_process zero = refl
       next_process (suc k) = refl
 
@@ -275,7 +275,7 @@ module _ (L : Edition) (one : 1 ≤ L.function_parameters) where
       processes_follow zero ps s = nothing_due 253 L (with_heads (heads ps)) s
       processes_follow (suc k) ps s =
           ap (verdict 253 L s (with_heads (heads ps))) (next_process k)
-          ∙ (head_due (with_heads (heads ps)) of-process (parameter_limit k) (processes_due k ++ []) s
+          ∙ (head_due (with_heads (heads ps)) of_process (parameter_limit k) (processes_due k ++ []) s
           ∙ (followed_alike (head s) _ _ (λ ds u.
           rule_term_follows L domains labels Fs ps counts (heads ps ++ (ds ∷ [])) (length-map ps (λ (P : Process). P.parameters)) (same_scope ps (heads ps ++ (ds ∷ []))) (length u) ds
           253 (processes_due k ++ []) (λ E v. followed (rest (made ds E) v) (λ R u. padding 253 u)) u (omega arith)

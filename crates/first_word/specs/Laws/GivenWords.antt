@@ -22,7 +22,7 @@ use Rattle.eb3.specs.TermReading.{mask_of, element_of, elements_of, perform, Ter
 use Rattle.eb3.specs.WellFormedness.{WellFormedTerm, WellFormedAction}
 use Rattle.eb3.specs.Laws.Reading.{Sound}
 use Rattle.eb3.specs.Laws.TermReading.{term_sound, alone_taken, leaf_form}
-use Rattle.first_word.specs.FirstOffendingWord.{Declared, Due, condition_code, running-code, running-label, element_code, element_constant, parameters_of, guard_scope, mask, running_operands, judge, padding, verdict}
+use Rattle.first_word.specs.FirstOffendingWord.{Declared, Due, condition_code, running_code, running_label, element_code, element_constant, parameters_of, guard_scope, mask, running_operands, judge, padding, verdict}
 use Rattle.first_word.specs.GivenWords.{declared_by, first_stray, GivenWords}
 use Rattle.first_word.specs.Laws.FirstOffendingWord.{Offends, followed, followed_pick, alike, nothing_due, Follows, giving_follows, both_follows, by_number_follows, coded, code_judged, no_words, number_follows_in, condition_follows}
 use Rattle.first_word.specs.Laws.FirstOffendingTerms.{mask_follows}
@@ -79,14 +79,14 @@ module _ (R : RuleSet) where
 
   -- ── terms ──
 
-  action_follows : (n : ℕ) → Follows L D n (action_of R) (λ gs. running-label ∷ gs)
+  action_follows : (n : ℕ) → Follows L D n (action_of R) (λ gs. running_label ∷ gs)
   unfolding action_of verdict judge
-  action_follows n = by_number_follows L D n (length R.labels) running-label (λ l gs. map element_code (label R l) ++ gs) (λ l u. giving (perform l) (elements_of L.width (sizes_of R (label R l)) u))
+  action_follows n = by_number_follows L D n (length R.labels) running_label (λ l gs. map element_code (label R l) ++ gs) (λ l u. giving (perform l) (elements_of L.width (sizes_of R (label R l)) u))
       (λ zeros w t gs. refl) (λ l b. giving_follows L D n (perform l) (elements_of L.width (sizes_of R (label R l))) (λ gs. map element_code (label R l) ++ gs) (elements_follow n (label R l)))
 
-  module _ (n : ℕ) (e : Reader Term) (operand : Follows L D n e (λ gs. running-code ∷ gs)) where
+  module _ (n : ℕ) (e : Reader Term) (operand : Follows L D n e (λ gs. running_code ∷ gs)) where
     abbrev term : List Due → List Due
-    term gs = running-code ∷ gs
+    term gs = running_code ∷ gs
 
     abbrev mask_due : List Due → List Due
     mask_due gs = mask D ++ gs
@@ -128,14 +128,14 @@ module _ (R : RuleSet) where
         Q : Option (List Due) → TermKind → Type 0
         Q o k = coded L D zeros o t gs ≡ followed (term_by R e k t) g
 
-  terms_follow : (n : ℕ) → Follows L D n (terms R n) (λ gs. running-code ∷ gs)
+  terms_follow : (n : ℕ) → Follows L D n (terms R n) (λ gs. running_code ∷ gs)
   unfolding terms verdict followed
-  terms_follow zero zeros gs g s l h = no_words L D running-code zeros gs g s l h
+  terms_follow zero zeros gs g s l h = no_words L D running_code zeros gs g s l h
   terms_follow (suc n) zeros gs g [] l h = refl
   terms_follow (suc n) zeros gs g (w ∷ t) l h = code_judged L D zeros (running_operands L D w) t gs
       ∙ term_at n (terms R n) (terms_follow n) zeros gs t (omega arith) g (λ a u m. h a u (omega arith)) w
 
-  pub running_follows : (n : ℕ) → Follows L D n (read_term R) (λ gs. running-code ∷ gs)
+  pub running_follows : (n : ℕ) → Follows L D n (read_term R) (λ gs. running_code ∷ gs)
   unfolding read_term
   running_follows n zeros gs g s l h = terms_follow (length s) zeros gs g s (omega arith) (λ a u m. h a u (omega arith))
 

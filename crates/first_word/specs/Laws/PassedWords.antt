@@ -9,7 +9,7 @@ use Rattle.eb3.specs.Scopes.{Scope}
 use Rattle.eb3.specs.Generic.Booleans.{T_fst}
 use Rattle.eb3.specs.Laws.Refusals.{picked}
 use Rattle.eb3.specs.Generic.AllLists.{All, all_at, all_map}
-use Rattle.first_word.specs.FirstOffendingWord.{Declared, Owner, of-label, of-process, Due, domain_count, domain_size, label_count, function_count, process_count, parameter_count, parameter, function_parameter_count, function_parameter, data_code, condition_code, constant, variable_number, function_number, term_code, label_number, process_number, choice_domain, parallel_domain, mask_word, argument_code, argument_constant, argument_variable, running-code, running-label, element_code, element_constant, Tests, passed, tests, judge, Next, follow, declare, parameters, declare_functions, parameter_counts, parameters_of, label_scope, expressions, functions_from, processes_due, arguments, data_operands, condition_operands, term_operands, argument_operands, operands, mask_words, mask}
+use Rattle.first_word.specs.FirstOffendingWord.{Declared, Owner, of_label, of_process, Due, domain_count, domain_size, label_count, function_count, process_count, parameter_count, parameter, function_parameter_count, function_parameter, data_code, condition_code, constant, variable_number, function_number, term_code, label_number, process_number, choice_domain, parallel_domain, mask_word, argument_code, argument_constant, argument_variable, running_code, running_label, element_code, element_constant, Tests, passed, tests, judge, Next, follow, declare, parameters, declare_functions, parameter_counts, parameters_of, label_scope, expressions, functions_from, processes_due, arguments, data_operands, condition_operands, term_operands, argument_operands, operands, mask_words, mask}
 
 -- ── tests ──
 
@@ -71,8 +71,8 @@ facts (mask_word n) = free
 facts (argument_code Γ d) = record { lower = []; domains = d ∷ []; words = 1; opening = false; plain = true }
 facts (argument_constant d n vs) = record { lower = []; domains = d ∷ []; words = n; opening = false; plain = false }
 facts (argument_variable Γ d) = number
-facts running-code = never
-facts running-label = never
+facts running_code = never
+facts running_label = never
 facts (element_code d) = never
 facts (element_constant d n vs) = never
 
@@ -236,8 +236,8 @@ module _ (L : Edition) (one : L.width ≡ 1) where
   same_declared D ds s o h = record { sane = s; grows = grows_same D; dues = h; started = has_domain (length D.domains) o }
 
   pub declared_stepped : (D : Declared) (o : Owner) (ds : List ℕ) → Sane D → ⊥ ⊎ (1 ≤ length D.domains) → Elements D ds → Stepped D (declare D o ds)
-  declared_stepped D of-label ds s o h = record { sane = (s.0, all_append (Elements D) D.labels (ds ∷ []) s.1 (h, tt), s.2); grows = grows_same D; dues = tt; started = has_domain (length D.domains) o }
-  declared_stepped D of-process ds s o h = record { sane = (s.0, s.1, all_append (Elements D) D.processes (ds ∷ []) s.2 (h, tt)); grows = grows_same D; dues = ((s.2, tt, refl), tt); started = has_domain (length D.domains) o }
+  declared_stepped D of_label ds s o h = record { sane = (s.0, all_append (Elements D) D.labels (ds ∷ []) s.1 (h, tt), s.2); grows = grows_same D; dues = tt; started = has_domain (length D.domains) o }
+  declared_stepped D of_process ds s o h = record { sane = (s.0, s.1, all_append (Elements D) D.processes (ds ∷ []) s.2 (h, tt)); grows = grows_same D; dues = ((s.2, tt, refl), tt); started = has_domain (length D.domains) o }
 
   pub parameters_stepped : (D : Declared) (o : Owner) (n : ℕ) (ds : List ℕ) → Sane D → ⊥ ⊎ (1 ≤ length D.domains) → Elements D ds → Stepped D (parameters D o n ds)
   parameters_stepped D o zero ds s b h = declared_stepped D o ds s b h
@@ -270,7 +270,7 @@ module _ (L : Edition) (one : L.width ≡ 1) where
 
       up : (ds : List ℕ) → Elements D ds → Elements E ds
       up ds h = all_map (Element D) (Element E) (grown D.domains w) ds h
-  step D label_count w h s o p = same_declared D _ s o (dues_of_tail D (replicate w (parameter_count of-label Limits.label_parameters)) (tail_replicate D w (parameter_count of-label Limits.label_parameters) (tt, tt, refl) tt))
+  step D label_count w h s o p = same_declared D _ s o (dues_of_tail D (replicate w (parameter_count of_label Limits.label_parameters)) (tail_replicate D w (parameter_count of_label Limits.label_parameters) (tt, tt, refl) tt))
   step D function_count w h s o p = picked (Stepped D) L.counts_written _ _ (counts_stepped D w w [] s o) (functions_stepped D w (replicate w 1) s o)
   step D (function_parameter_count n k counts) w h s o p = counts_stepped D n k (counts ++ (w ∷ [])) s o
   step D process_count w h s o p = same_declared D _ s o (dues_of_tail D (processes_due w) (tail_processes D w))
@@ -298,7 +298,7 @@ module _ (L : Edition) (one : L.width ≡ 1) where
   step D (argument_constant d (suc zero) vs) w h s o p = same_declared D [] s o tt
   step D (argument_constant d (suc (suc n)) vs) w h s o p = let z : ⊥ = omega (arith, h.2) in absurd z
   step D (argument_variable Γ d) w h s o p = same_declared D [] s o tt
-  step D running-code w h s o p = let z : ⊥ = omega (arith, h.2) in absurd z
-  step D running-label w h s o p = let z : ⊥ = omega (arith, h.2) in absurd z
+  step D running_code w h s o p = let z : ⊥ = omega (arith, h.2) in absurd z
+  step D running_label w h s o p = let z : ⊥ = omega (arith, h.2) in absurd z
   step D (element_code d) w h s o p = let z : ⊥ = omega (arith, h.2) in absurd z
   step D (element_constant d n vs) w h s o p = let z : ⊥ = omega (arith, h.2) in absurd z

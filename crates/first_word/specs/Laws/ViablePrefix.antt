@@ -16,7 +16,7 @@ use Rattle.eb3.specs.Reading.{pick}
 use Rattle.eb3.specs.Generic.Booleans.{T_and, T_fst}
 use Rattle.eb3.specs.Laws.Refusals.{picked}
 use Rattle.eb3.specs.Generic.AllLists.{all_at}
-use Rattle.first_word.specs.FirstOffendingWord.{Declared, nothing_declared, Owner, of-label, of-process, Due, domain_count, domain_size, label_count, function_count, process_count, parameter_count, parameter, function_parameter_count, function_parameter, data_code, condition_code, constant, variable_number, function_number, term_code, label_number, process_number, choice_domain, parallel_domain, mask_word, argument_code, argument_constant, argument_variable, running-code, running-label, element_code, element_constant, passed, by_form, tests, Next, follow, declare, parameters, declare_functions, parameter_counts, functions_from, mask, padding, padding_place, verdict, place, first_offending, first_place, with_last}
+use Rattle.first_word.specs.FirstOffendingWord.{Declared, nothing_declared, Owner, of_label, of_process, Due, domain_count, domain_size, label_count, function_count, process_count, parameter_count, parameter, function_parameter_count, function_parameter, data_code, condition_code, constant, variable_number, function_number, term_code, label_number, process_number, choice_domain, parallel_domain, mask_word, argument_code, argument_constant, argument_variable, running_code, running_label, element_code, element_constant, passed, by_form, tests, Next, follow, declare, parameters, declare_functions, parameter_counts, functions_from, mask, padding, padding_place, verdict, place, first_offending, first_place, with_last}
 use Rattle.eb3.specs.RuleSets.{RuleSet}
 use Rattle.eb3.specs.RuleSpelling.{rules_words}
 use Rattle.eb3.specs.WellFormedness.{Form}
@@ -69,20 +69,20 @@ module _ (L : Edition) (one : L.width ≡ 1) where
 
     -- The parameter count of a label or a process, and the term.
     head_ends : (D : Declared) (b : Owner) (limit : ℕ) (gs : List Due) → Sane D → 1 ≤ length D.domains → Rest D gs → Ends D (parameter_count b limit ∷ gs)
-    head_ends D of-label limit gs s o r = alone D (parameter_count of-label limit) gs 0 (tt, tt, refl) s (inr o) (count_passed 0 limit 0 (omega arith) (omega arith)) refl r
-    head_ends D of-process limit gs s o r =
-        let st : Stepped D (declare D of-process []) = declared_stepped L one D of-process [] s (inr o) tt in
-        ends_step D (parameter_count of-process limit) gs 0 (count_passed 0 limit 0 (omega arith) (omega arith))
-        (alone (declare D of-process []).declared (term_code D.processes []) gs 20 (s.2, tt, refl) st.sane (inr st.started) tt refl (λ E q o g. r E q o g))
+    head_ends D of_label limit gs s o r = alone D (parameter_count of_label limit) gs 0 (tt, tt, refl) s (inr o) (count_passed 0 limit 0 (omega arith) (omega arith)) refl r
+    head_ends D of_process limit gs s o r =
+        let st : Stepped D (declare D of_process []) = declared_stepped L one D of_process [] s (inr o) tt in
+        ends_step D (parameter_count of_process limit) gs 0 (count_passed 0 limit 0 (omega arith) (omega arith))
+        (alone (declare D of_process []).declared (term_code D.processes []) gs 20 (s.2, tt, refl) st.sane (inr st.started) tt refl (λ E q o g. r E q o g))
 
     finish : (D : Declared) (d : Due) (gs : List Due) → Fine D d → T (facts d).plain → Sane D → Started D d → Rest D gs → Ends D (d ∷ gs)
     unfolding with_last
     finish D domain_count gs h q s o r = absurd q
     finish D domain_size gs h q s o r = alone D domain_size gs 1 h s o (count_passed 1 Limits.domain_size 1 (omega arith) (omega arith)) refl r
-    finish D label_count gs h q s o r = ends_step D label_count gs 1 (count_passed 1 Limits.labels 1 (omega arith) (omega arith)) (head_ends D of-label Limits.label_parameters gs s (has_domain (length D.domains) o) r)
+    finish D label_count gs h q s o r = ends_step D label_count gs 1 (count_passed 1 Limits.labels 1 (omega arith) (omega arith)) (head_ends D of_label Limits.label_parameters gs s (has_domain (length D.domains) o) r)
     finish D function_count gs h q s o r = alone D function_count gs 0 h s o (count_passed 0 Limits.functions 0 (omega arith) (omega arith)) (picked (λ (N : Next). N.due ≡ []) L.counts_written _ _ refl refl) r
     finish D (function_parameter_count n k counts) gs h q s o r = absurd q
-    finish D process_count gs h q s o r = ends_step D process_count gs 1 (count_passed 1 Limits.processes 1 (omega arith) (omega arith)) (head_ends D of-process 0 gs s (has_domain (length D.domains) o) r)
+    finish D process_count gs h q s o r = ends_step D process_count gs 1 (count_passed 1 Limits.processes 1 (omega arith) (omega arith)) (head_ends D of_process 0 gs s (has_domain (length D.domains) o) r)
     finish D (parameter_count b limit) gs h q s o r = head_ends D b limit gs s (has_domain (length D.domains) o) r
     finish D (parameter b n ds) gs h q s o r = absurd q
     finish D function_parameter gs h q s o r =
@@ -107,8 +107,8 @@ module _ (L : Edition) (one : L.width ≡ 1) where
         zero_fits d e = T_and (leb (with_last [] 0) L.top) (true && ltb (with_last [] 0) (get_or D.domains d 0)) (le→leb 0 L.top (omega arith)) (lt→ltb 0 (get_or D.domains d 0) e)
     finish D (argument_constant d n vs) gs h q s o r = absurd q
     finish D (argument_variable Γ d) gs h q s o r = absurd q
-    finish D running-code gs h q s o r = absurd q
-    finish D running-label gs h q s o r = absurd q
+    finish D running_code gs h q s o r = absurd q
+    finish D running_label gs h q s o r = absurd q
     finish D (element_code d) gs h q s o r = absurd q
     finish D (element_constant d n vs) gs h q s o r = absurd q
 
@@ -130,11 +130,11 @@ module _ (L : Edition) (one : L.width ≡ 1) where
         ends_step D d ds w p (complete (N.due ++ ds) N.declared st.sane (opened N.declared (N.due ++ ds) st.started) (tail_append N.declared N.due ds q (tail_grows D N.declared st.grows ds t)))
 
     parameters_end : (n : ℕ) (D : Declared) (b : Owner) (es : List ℕ) (gs : List Due) → Sane D → 1 ≤ length D.domains → Elements D es → Rest D gs → Ends (parameters D b n es).declared ((parameters D b n es).due ++ gs)
-    parameters_end zero D of-label es gs s o h r =
-        let st : Stepped D (declare D of-label es) = declared_stepped L one D of-label es s (inr o) h in r (declare D of-label es).declared st.sane st.started st.grows
-    parameters_end zero D of-process es gs s o h r =
-        let st : Stepped D (declare D of-process es) = declared_stepped L one D of-process es s (inr o) h in
-        alone (declare D of-process es).declared (term_code D.processes es) gs 20 (s.2, tt, refl) st.sane (inr st.started) tt refl (λ E q o g. r E q o g)
+    parameters_end zero D of_label es gs s o h r =
+        let st : Stepped D (declare D of_label es) = declared_stepped L one D of_label es s (inr o) h in r (declare D of_label es).declared st.sane st.started st.grows
+    parameters_end zero D of_process es gs s o h r =
+        let st : Stepped D (declare D of_process es) = declared_stepped L one D of_process es s (inr o) h in
+        alone (declare D of_process es).declared (term_code D.processes es) gs 20 (s.2, tt, refl) st.sane (inr st.started) tt refl (λ E q o g. r E q o g)
     parameters_end (suc n) D b es gs s o h r =
         ends_step D (parameter b n es) gs 0 (T_and (ltb 0 (length D.domains)) true (lt→ltb 0 (length D.domains) o) tt)
         (parameters_end n D b (es ++ (0 ∷ [])) gs s o (all_append (Element D) es (0 ∷ []) h (all_at (λ n. 1 ≤ n) D.domains s.0 0 0 o, tt)) r)
@@ -180,8 +180,8 @@ module _ (L : Edition) (one : L.width ≡ 1) where
     live D (argument_constant d (suc zero) vs) ds w h s o p t = through D (argument_constant d (suc zero) vs) ds w h s o p t tt
     live D (argument_constant d (suc (suc n)) vs) ds w h s o p t = let z : ⊥ = omega (arith, h.2) in absurd z
     live D (argument_variable Γ d) ds w h s o p t = through D (argument_variable Γ d) ds w h s o p t tt
-    live D running-code ds w h s o p t = let z : ⊥ = omega (arith, h.2) in absurd z
-    live D running-label ds w h s o p t = let z : ⊥ = omega (arith, h.2) in absurd z
+    live D running_code ds w h s o p t = let z : ⊥ = omega (arith, h.2) in absurd z
+    live D running_label ds w h s o p t = let z : ⊥ = omega (arith, h.2) in absurd z
     live D (element_code d) ds w h s o p t = let z : ⊥ = omega (arith, h.2) in absurd z
     live D (element_constant d n vs) ds w h s o p t = let z : ⊥ = omega (arith, h.2) in absurd z
 

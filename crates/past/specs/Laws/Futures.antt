@@ -10,7 +10,7 @@ use Rattle.eb3.specs.Values.{Value, undefined}
 use Rattle.eb3.specs.Attributes.{Attributes, number_of_functions, domain, attribute_value, Trace}
 use Rattle.eb3.specs.Cells.{cell_index, offset, concat_tabulate, tabulate, values_up_to}
 use Rattle.eb3.specs.Laws.Cells.{value_cell}
-use Rattle.eb3.specs.TransitionSystems.{TransitionSystem, Configuration, initial, reply, step, run as machine-run, tally, visible?, internal?, refused?}
+use Rattle.eb3.specs.TransitionSystems.{TransitionSystem, Configuration, initial, reply, step, run as machine_run, tally, visible?, internal?, refused?}
 use Rattle.eb3.specs.Laws.TransitionSystems.{step_state, run_tallied}
 use Rattle.eb3.specs.Semantics.{Sem_T, Sem_M, Situation, situation, system}
 use Rattle.eb3.specs.Machines.{Machine, history_start, cells_of}
@@ -51,13 +51,13 @@ module _ (A : Attributes) where
 -- ── a run over two lists in a row, and its states without its counts ──
 
 module _ (L : TransitionSystem) where
-  run_append : (c : Configuration L) (ks js : List ℕ) → machine-run L c (ks ++ js) ≡ machine-run L (machine-run L c ks) js
-  unfolding machine-run
+  run_append : (c : Configuration L) (ks js : List ℕ) → machine_run L c (ks ++ js) ≡ machine_run L (machine_run L c ks) js
+  unfolding machine_run
   run_append c [] js = refl
   run_append c (k ∷ ks) js = run_append (step L c k) ks js
 
-  run_states : (c d : Configuration L) (ks : List ℕ) → c.state ≡ d.state → (machine-run L c ks).state ≡ (machine-run L d ks).state
-  unfolding machine-run
+  run_states : (c d : Configuration L) (ks : List ℕ) → c.state ≡ d.state → (machine_run L c ks).state ≡ (machine_run L d ks).state
+  unfolding machine_run
   run_states c d [] e = e
   run_states c d (k ∷ ks) e = run_states (step L c k) (step L d k) ks (step_state L c k ∙ (ap (λ s. (reply L s k).1) e ∙ sym (step_state L d k)))
 
@@ -75,7 +75,7 @@ module _ (R : RuleSet) where
   start = history_start A (unfold_main R)
 
   abbrev pub on : Machine (Sem_T A) → List ℕ → Machine (Sem_T A)
-  on h further = machine-run (system (Sem_T A)) h further
+  on h further = machine_run (system (Sem_T A)) h further
 
   -- On from where a first list ended.
   pub goes_on : (ks further : List ℕ) (h : Machine (Sem_T A)) → Ends_with R ks h → Ends_with R (ks ++ further) (on h further)

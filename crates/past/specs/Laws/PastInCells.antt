@@ -32,14 +32,14 @@ use Rattle.eb3.specs.Bytes.{words_in, bytes_of, written}
 use Rattle.eb3.specs.Laws.Bytes.{written_length, written_cut}
 use Rattle.eb3.specs.Memory.{cell_room, memory_words}
 use Rattle.eb3.specs.Laws.Memory.{memory_length}
-use Rattle.eb3.specs.Answers.{Answer, refused, answered, and_then, or-refused, Sizes, Moved, Ran, Written, unwritten}
-use Rattle.eb3.specs.Laws.Answers.{answered-injective}
+use Rattle.eb3.specs.Answers.{Answer, refused, answered, and_then, or_refused, Sizes, Moved, Ran, Written, unwritten}
+use Rattle.eb3.specs.Laws.Answers.{answered_injective}
 use Rattle.eb3.specs.Admission.{admission}
 use Rattle.eb3.specs.Laws.Admission.{admitted}
 use Rattle.eb3.specs.Operations.{cells_needed, sizes_needed, main_reach, term_fits, memory_fits, term_in, cells_given, listed, writing, chosen, count, move}
 use Rattle.eb3.specs.Laws.Operations.{term_back, values_back}
 use Rattle.eb3.specs.Demands.{last_term, last_trace, values_words, run_result, cut}
-use Rattle.eb3.specs.Laws.DemandThree.{admit_reports, run_is, h as machine-of}
+use Rattle.eb3.specs.Laws.DemandThree.{admit_reports, run_is, h as machine_of}
 use Rattle.past.specs.PastInCells.{SameEnd, Ends_with, followed_by, Lent, run_in, SameOffers, SameRuns, K10_holds, K10_on_bytes_holds}
 use Rattle.past.specs.Laws.Futures.{same_end, on, goes_on, further_cells, future, visible_added, internal_added, refusals_added}
 
@@ -69,28 +69,28 @@ module _ (rules : List ℕ) (S : Sizes) (R : RuleSet) (a : admission rules ≡ a
   count_is term memory = ap (λ x. and_then x λ R. and_then (term_in R term) λ E. pick (memory_fits R memory) (answered (length (listed R E memory))) (refused Refusal.space)) a
 
   abbrev move_by : ℕ → List ℕ → List ℕ → List ℕ → List Value → Bool → Written Moved
-  move_by k next-term next-memory term cells fit =
-      writing next-term next-memory (term_in R term) λ E.
-      pick (term_fits (reach R.edition.width E) next-term && (fit && memory_fits R next-memory))
-      (writing next-term next-memory (or-refused Refusal.not_offered (get_elem? (moves ((Sem_M (attributes R)).satisfies cells) E) k)) λ x. record {
+  move_by k next_term next_memory term cells fit =
+      writing next_term next_memory (term_in R term) λ E.
+      pick (term_fits (reach R.edition.width E) next_term && (fit && memory_fits R next_memory))
+      (writing next_term next_memory (or_refused Refusal.not_offered (get_elem? (moves ((Sem_M (attributes R)).satisfies cells) E) k)) λ x. record {
         answer = answered (record { action = x.action; size = size R.edition.width x.successor });
-        term = written (words R.edition.width x.successor) next-term;
-        memory = written (memory_words (state_after (Sem_M (attributes R)) cells x.action)) next-memory;
+        term = written (words R.edition.width x.successor) next_term;
+        memory = written (memory_words (state_after (Sem_M (attributes R)) cells x.action)) next_memory;
       })
-      (unwritten next-term next-memory Refusal.space)
+      (unwritten next_term next_memory Refusal.space)
 
-  move_is : (k : ℕ) (next-term next-memory term memory : List ℕ)
-      → move rules term memory k next-term next-memory ≡ move_by k next-term next-memory term (cells_given R memory) (memory_fits R memory)
+  move_is : (k : ℕ) (next_term next_memory term memory : List ℕ)
+      → move rules term memory k next_term next_memory ≡ move_by k next_term next_memory term (cells_given R memory) (memory_fits R memory)
   unfolding move
-  move_is k next-term next-memory term memory =
-      ap (λ x. writing next-term next-memory x λ R. writing next-term next-memory (term_in R term) λ E. chosen R E memory next-term next-memory λ xs. get_elem? xs k) a
+  move_is k next_term next_memory term memory =
+      ap (λ x. writing next_term next_memory x λ R. writing next_term next_memory (term_in R term) λ E. chosen R E memory next_term next_memory λ xs. get_elem? xs k) a
 
   offers : (term memory term' memory' : List ℕ) → term ≡ term' → cells_given R memory ≡ cells_given R memory' → memory_fits R memory ≡ memory_fits R memory'
       → SameOffers rules term memory term' memory'
   offers term memory term' memory' e c f = record {
     same_count = count_is term memory ∙ ((λ i. count_by (e i) (c i) (f i)) ∙ sym (count_is term' memory'));
-    same_move = λ k next-term next-memory. move_is k next-term next-memory term memory
-        ∙ ((λ i. move_by k next-term next-memory (e i) (c i) (f i)) ∙ sym (move_is k next-term next-memory term' memory'));
+    same_move = λ k next_term next_memory. move_is k next_term next_memory term memory
+        ∙ ((λ i. move_by k next_term next_memory (e i) (c i) (f i)) ∙ sym (move_is k next_term next_memory term' memory'));
   }
 
   -- What the machine ends with is a running term and a trace of this rule set.
@@ -132,7 +132,7 @@ module _ (rules : List ℕ) (S : Sizes) (R : RuleSet) (a : admission rules ≡ a
     H = last_trace R h
 
     left : run_in rules b numbers ≡ run_result R h b.term b.memory
-    unfolding machine-of history_run
+    unfolding machine_of history_run
     left = run_is rules S R a s numbers b.term b.memory b.spare_term b.spare_memory b.room b.spare_room
         ∙ ap (λ g. run_result R g b.term b.memory) (sym (chain_run (Sem_T (attributes R)) c))
 
@@ -239,7 +239,7 @@ module _ (rules : List ℕ) (S : Sizes) (R : RuleSet) (a : admission rules ≡ a
 
     size_is : (ns : List ℕ) (d : Lent S) (r : Ran) → (run_in rules d ns).answer ≡ answered r → r.size ≡ size R.edition.width (last_term R (history ns))
     size_is ns d r e = ap (λ (x : Ran). x.size)
-        (answered-injective r (ran_of (history ns)) (sym e ∙ ap (λ (w : Written Ran). w.answer) (left ns (history ns) (ended ns) d)))
+        (answered_injective r (ran_of (history ns)) (sym e ∙ ap (λ (w : Written Ran). w.answer) (left ns (history ns) (ended ns) d)))
 
     term_read : (ns : List ℕ) (d : Lent S) (r : Ran) → (run_in rules d ns).answer ≡ answered r → term_in R (cut r.size (run_in rules d ns).term) ≡ answered (last_term R (history ns))
     term_read ns d r e = ap (λ n. term_in R (cut n (run_in rules d ns).term)) (size_is ns d r e)
@@ -255,7 +255,7 @@ module _ (rules : List ℕ) (S : Sizes) (R : RuleSet) (a : admission rules ≡ a
         → SameEnd (attributes R) (history numbers).state (history numbers').state
     same_left r r' e e' t m =
         let p : last_term R (history numbers) ≡ last_term R (history numbers') =
-        answered-injective _ _ (sym (term_read numbers b r e) ∙ (ap (term_in R) t ∙ term_read numbers' b' r' e')) in
+        answered_injective _ _ (sym (term_read numbers b r e) ∙ (ap (term_in R) t ∙ term_read numbers' b' r' e')) in
         let q : all_values (attributes R) (last_trace R (history numbers)) ≡ all_values (attributes R) (last_trace R (history numbers')) =
         sym (values_read numbers) ∙ (ap (cells_given R) (sym (memory_written numbers (history numbers) (ended numbers) b) ∙ (m ∙ memory_written numbers' (history numbers') (ended numbers') b')) ∙ values_read numbers') in
         same_end (attributes R) (history numbers).state (history numbers').state (λ i. situation (p i) (q i))
@@ -263,7 +263,7 @@ module _ (rules : List ℕ) (S : Sizes) (R : RuleSet) (a : admission rules ≡ a
 pub past_in_cells_holds : K10_holds
 past_in_cells_holds rules numbers numbers' S R h h' e a c c' same =
     let p = admit_reports rules S e in
-    let s : sizes_needed R ≡ S = ap sizes_needed (answered-injective R p.0 (sym a ∙ p.1)) ∙ p.2 in
+    let s : sizes_needed R ≡ S = ap sizes_needed (answered_injective R p.0 (sym a ∙ p.1)) ∙ p.2 in
     record {
       same_future = future R (words_in numbers) (words_in numbers') h h' c c' same;
       same_runs = runs rules S R a s numbers numbers' h h' c c' same;

@@ -9,7 +9,7 @@ use Rattle.scan.proofs.last.Goals as goal
 
 pub returns-then-n-s : goal.returns-then-n-s
 unfolding last_of
-returns-then-n-s c = 
+returns-then-n-s c =
     let s = c.args.s.now in
     part (length s - c.args.n) s
 
