@@ -2,22 +2,21 @@
 -- Document 01, "Operations".
 use Rattle.std.specs.Prelude.{◌≡◌, refl, List, ℕ, leb, drop}
 use Rattle.std.proofs.Math.Path.{ap}
-use Rattle.std.proofs.Common.{sym, ◌∙◌, subst, arith}
+use Rattle.std.proofs.Common.{sym, ◌∙◌, arith}
 use Rattle.eb3.specs.Refusal
 use Rattle.eb3.specs.Editions.{edition_1}
 use Rattle.eb3.specs.RuleSets.{RuleSet}
-use Rattle.eb3.specs.Reading.{Read, taken, pick}
+use Rattle.eb3.specs.Reading.{Read, taken}
 use Rattle.eb3.specs.RuleReading.{read_rules}
 use Rattle.eb3.specs.Blocks.{stream, Opened, open_blocks}
 use Rattle.eb3.specs.Laws.Admission.{opened_is_1}
 use Rattle.eb3.specs.Admission.{ends_right, ended, within_limits, admission}
 use Rattle.eb3.specs.Sizes.{reach, breadth}
 use Rattle.eb3.specs.Unfolding.{unfold_main}
-use Rattle.eb3.specs.Answers.{Answer, refused, answered, and_then, Sizes}
+use Rattle.eb3.specs.Answers.{Answer, refused, answered, and_then}
 use Rattle.eb3.specs.Operations.{admit, sizes_needed}
 use Rattle.eb3.specs.Laws.Answers.{and_then_answered, answered_injective, pick_answered, not_both}
 use Rattle.weights.specs.declared.Limits.{Limits}
-use Rattle.admission.specs.declared.Admitted.{Admitted}
 use Rattle.admission.specs.declared.Admitted.TheVariants.{Sizes as Admitted_sizes, Refused as Admitted_refused}
 use Rattle.admission.specs.Answering.{limits, admitted}
 

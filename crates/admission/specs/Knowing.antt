@@ -1,22 +1,22 @@
 -- What is known where a file was admitted with a directory: the rule set, its form, its sizes, and where its parts stand (document 01, "Operations": no call
 -- trusts an earlier one, so each operation begins so).
-use Rattle.std.specs.Prelude.{◌≡◌, refl, List, ℕ, ◌+◌, ◌*◌, ◌≤◌, length, drop}
+use Rattle.std.specs.Prelude.{◌≡◌, List, ℕ, ◌+◌, ◌*◌, ◌≤◌, length, drop}
 use Rattle.std.proofs.Math.Path.{ap, sym}
-use Rattle.std.proofs.Common.{◌∙◌, subst, arith, mul-le-mul}
+use Rattle.std.proofs.Common.{◌∙◌, arith, mul-le-mul}
 use Rattle.eb3.specs.RuleSets.{RuleSet}
 use Rattle.eb3.specs.RuleReading.{read_rules}
 use Rattle.eb3.specs.Blocks.{stream, open_blocks}
 use Rattle.eb3.specs.Admission.{admission}
-use Rattle.eb3.specs.WellFormedness.{Form, WellFormed}
+use Rattle.eb3.specs.WellFormedness.{WellFormed}
 use Rattle.eb3.specs.Answers.{refused, answered, and_then}
 use Rattle.eb3.specs.Operations.{admit, sizes_needed}
 use Rattle.eb3.specs.Laws.Judging.{whole_of, admit_by_parts}
 use Rattle.eb3.specs.Laws.Admission.{admitted as admitted_form, opened_1}
 use Rattle.weights.specs.declared.Limits.{Limits}
-use Rattle.declarations.specs.Directory.{Directory, row_width}
+use Rattle.declarations.specs.Directory.{Directory}
 use Rattle.admission.specs.declared.Admitted.{Admitted}
 use Rattle.admission.specs.declared.Admitted.TheVariants.{Sizes as Admitted_sizes, Refused as Admitted_refused}
-use Rattle.admission.specs.Answering.{limits, admitted, read_whole}
+use Rattle.admission.specs.Answering.{limits, admitted}
 use Rattle.admission.specs.Admitting.{FileAdmitted}
 use Rattle.admission.specs.AdmissionLaws.{admission_refused, admission_answered, admission_taken}
 

@@ -1,11 +1,10 @@
 -- A rule set whose blocks open: its stream as it is lent, and what opening it says of Admit (document 01, "Blocks and the
 -- rule stream"; refusals 1 to 3).
-use Rattle.std.specs.Prelude.{◌≡◌, refl, true, List, ◌++◌, ℕ, ◌+◌, ◌-◌, ◌*◌, ◌/◌, ◌%◌, ◌≤◌, T, eqb, leb, length, take, drop}
+use Rattle.std.specs.Prelude.{◌≡◌, refl, true, List, ◌++◌, ℕ, ◌-◌, ◌*◌, ◌/◌, ◌%◌, ◌≤◌, T, eqb, leb, length, take, drop}
 use Rattle.std.proofs.Math.Path.{ap, sym}
 use Rattle.std.proofs.Common.{◌∙◌, subst, arith, eqb→eq, leb→le, length-drop, take_at, eq-eqb, le-leb}
 use Rattle.std.proofs.lemmas.List.{drop-append-le}
 use Rattle.eb3.specs.Generic.Booleans.{T_fst, T_snd}
-use Rattle.eb3.specs.Refusal
 use Rattle.eb3.specs.Blocks.{block_count, stream, whole_blocks, Opened as Blocks_as_Opened, open_blocks}
 use Rattle.eb3.specs.Laws.Admission.{stream_length, opened as opened_as, opened_1, opened_is_1}
 use Rattle.eb3.specs.Answers.{Answer, refused, answered, and_then}

@@ -18,7 +18,7 @@ use Rattle.eb3.specs.RuleReading.{function_from, read_function}
 use Rattle.scan.specs.Checking.{checked, last_of}
 use Rattle.scan.specs.Laws.{Fine, tail_at, both_in, both_out, number_word}
 use Rattle.grammar.specs.Laws.{data_ends}
-use Rattle.arguments.specs.Tables.{row, declared}
+use Rattle.arguments.specs.Tables.{declared}
 use Rattle.declarations.specs.declared.Counted.{Counted}
 use Rattle.declarations.specs.declared.Counted.TheVariants.{Cells, Refused as CountRefused}
 use Rattle.declarations.specs.Entering.{labels_of, cells_of, all_cells, function_cells, functions_cells, CellsBound}

@@ -13,7 +13,7 @@ use Rattle.eb3.specs.Editions.{edition_1}
 use Rattle.eb3.specs.Cells.{cell_count}
 use Rattle.eb3.specs.Expressions.{Data}
 use Rattle.eb3.specs.RuleSets.{Function, domain_size}
-use Rattle.eb3.specs.Reading.{Read, refused, taken, both, number_of, series}
+use Rattle.eb3.specs.Reading.{Read, taken, number_of, series}
 use Rattle.eb3.specs.ExpressionReading.{read_data}
 use Rattle.eb3.specs.RuleReading.{function_from, read_function}
 use Rattle.scan.specs.Checking.{checked, last_of}

@@ -1,6 +1,6 @@
 -- Laws of reading functions: what is left is an end of the words.
 -- Document 01, "Blocks and the rule stream", items 2 to 5; refusals 4 and 5.
-use Rattle.std.specs.Prelude.{ℕ, ◌≡◌, List, length}
+use Rattle.std.specs.Prelude.{ℕ, List, length}
 use Rattle.eb3.specs.Editions.{Edition}
 use Rattle.eb3.specs.Reading.{both, number_of, repeat, for_each, series}
 use Rattle.eb3.specs.ExpressionReading.{read_data}

@@ -1,11 +1,11 @@
 -- Reading one process by filled tables, and keeping them within their bounds.
 -- Document 01, "Blocks and the rule stream", items 2 to 5; refusals 4 and 5.
-use Rattle.std.specs.Prelude.{◌≡◌, refl, List, [], ◌∷◌, ◌++◌, map, ℕ, zero, suc, ◌+◌, ◌*◌, ◌≤◌, ◌<◌, length, get_or, set, take}
-use Rattle.std.proofs.Common.{ap, sym, ◌∙◌, subst, append-nil, arith, length-append, length-set, take_at, get_or-set_other}
+use Rattle.std.specs.Prelude.{◌≡◌, refl, List, [], ◌∷◌, ◌++◌, ℕ, ◌+◌, ◌*◌, ◌≤◌, ◌<◌, length, get_or, set, take}
+use Rattle.std.proofs.Common.{ap, sym, ◌∙◌, subst, arith, length-append, length-set, take_at, get_or-set_other}
 use Rattle.eb3.specs.Refusal
 use Rattle.eb3.specs.Generic.AllLists.{All}
 use Rattle.eb3.specs.Generic.Lists.{concat_map}
-use Rattle.eb3.specs.RuleSets.{RuleTerm, Function, Process, RuleSet}
+use Rattle.eb3.specs.RuleSets.{RuleTerm, Process, RuleSet}
 use Rattle.eb3.specs.Measures.{sat, Measure, measure_term, row_of}
 use Rattle.eb3.specs.RuleSpelling.{one_word, counted_words}
 use Rattle.eb3.specs.Reading.{Read, refused, taken, giving, then, counted, number_of}
@@ -13,7 +13,7 @@ use Rattle.eb3.specs.RuleReading.{read_rule_term, read_process, with_process}
 use Rattle.eb3.specs.Laws.Reading.{Sound, number_sound, counted_sound}
 use Rattle.eb3.specs.Laws.Signatures.{Alike, read_alike, measure_alike}
 use Rattle.arguments.specs.Tables.{declared, callee}
-use Rattle.declarations.specs.Declaring.{Heads, Tables, Declares, entered_process}
+use Rattle.declarations.specs.Declaring.{Declares, entered_process}
 use Rattle.declarations.specs.DeclaringLaws.{entered_length, entered_before, process_entered, declared_alike}
 use Rattle.declarations.specs.Regions.{labels_kept}
 

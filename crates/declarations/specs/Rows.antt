@@ -5,7 +5,7 @@ use Rattle.std.specs.Prelude.{ℕ, zero, suc, ◌+◌, ◌≤◌, ◌≡◌, ref
 use Rattle.std.proofs.Common.{arith, sym, ap, ◌∙◌, inl, inr, ⊎_elim, length-append, leb-true}
 use Rattle.std.proofs.Math.Seq.{paste, take-append_seam, take-length}
 use Rattle.scan.specs.declared.Checked.{Checked}
-use Rattle.scan.specs.declared.Checked.TheVariants.{Left, Refused}
+use Rattle.scan.specs.declared.Checked.TheVariants.{Left}
 use Rattle.eb3.specs.Reading.{Read, refused, taken, Reader, pick, giving, then, both, number_of, count_of, repeat, counted}
 use Rattle.eb3.specs.RuleReading.{read_domains}
 use Rattle.scan.specs.Checking.{checked, last_of}

@@ -1,15 +1,14 @@
 -- What is known of each section once it is read: bounds, one parameter a function, its cells.
 -- Document 01, "Blocks and the rule stream", items 2 to 5; refusals 4 and 5.
-use Rattle.std.specs.Prelude.{◌≡◌, refl, List, [], ◌∷◌, ◌++◌, map, ℕ, zero, suc, ◌+◌, ◌*◌, ◌≤◌, ◌<◌, length, get_or, set, replicate}
-use Rattle.std.proofs.Common.{ap, sym, ◌∙◌, subst, arith, length-append}
-use Rattle.std.proofs.lemmas.List.{length-map}
+use Rattle.std.specs.Prelude.{◌≡◌, refl, List, [], ◌∷◌, map, ℕ, zero, suc, ◌+◌, ◌≤◌, ◌<◌, length, get_or, replicate}
+use Rattle.std.proofs.Common.{ap, ◌∙◌, subst, arith, length-append}
 use Rattle.eb3.specs.Refusal
 use Rattle.eb3.specs.Generic.AllLists.{All, all_map}
 use Rattle.eb3.specs.Generic.Lists.{concat_map}
-use Rattle.eb3.specs.Attributes.{Attributes, AttributeFunction, function, domain, number_of_functions}
+use Rattle.eb3.specs.Attributes.{AttributeFunction, function}
 use Rattle.eb3.specs.Cells.{cell_count, offset, total_cells}
 use Rattle.eb3.specs.Editions.{edition_1}
-use Rattle.eb3.specs.RuleSets.{Function, Process, RuleSet, attribute_function, attributes}
+use Rattle.eb3.specs.RuleSets.{Function, RuleSet, attribute_function, attributes}
 use Rattle.eb3.specs.RuleSpelling.{one_word, counted_words}
 use Rattle.eb3.specs.Reading.{Read, refused, taken, Reader, giving, then, both, count_of, repeat, counted, number_of, for_each, series}
 use Rattle.eb3.specs.Expressions.{Data}

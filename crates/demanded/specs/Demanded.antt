@@ -1,7 +1,7 @@
 -- The demands as a description of any six operations, in plain terms: document 01's numbers as numerals, buffers by list equations, room as half the
 -- number of bytes (document 01, "Operations", its table, and "Four questions about contracts": the full outcome for every input, by equation).
 -- Proved in Laws/Demanded: the operations of eb3 meet them (`ours`), and any six that meet them are those (`theirs`).
-use Rattle.std.specs.Prelude.{◌≡◌, cond, ℕ, suc, ◌+◌, ◌-◌, ◌*◌, ◌/◌, ◌%◌, ◌≤◌, leb, length, take, drop, replicate, ◌↔◌}
+use Rattle.std.specs.Prelude.{◌≡◌, cond, ℕ, suc, ◌-◌, ◌*◌, ◌/◌, ◌%◌, ◌≤◌, leb, length, take, drop, replicate, ◌↔◌}
 use mathlib.Core.List.{List, [], ◌∷◌, ◌++◌, map}
 use Rattle.eb3.specs.Generic.Lists.{concat_map}
 use Rattle.eb3.specs.Generic.Positions.{Enumeration}

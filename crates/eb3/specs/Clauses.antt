@@ -4,8 +4,8 @@ use Rattle.std.specs.Prelude.{◌≡◌, Bool, true, false, not, ◌&&◌, ◌�
 use Rattle.eb3.specs.Generic.AllLists.{All}
 use Rattle.eb3.specs.Generic.Lists.{filter, concat_map}
 use Rattle.eb3.specs.Expressions.{Cond}
-use Rattle.eb3.specs.Terms.{Term, Done, Internal, Perform, Sequence, Choice, Star, Parallel, Guard, Mask, Action, internal, visible, VisibleAction, bit, in_mask, same_action, done?}
-use Rattle.eb3.specs.Sizes.{cond_size, size, reach, breadth, zero_mask}
+use Rattle.eb3.specs.Terms.{Term, Done, Internal, Perform, Sequence, Choice, Star, Parallel, Guard, Mask, Action, internal, visible, VisibleAction, bit, in_mask, same_action}
+use Rattle.eb3.specs.Sizes.{cond_size, size, reach, breadth}
 use Rattle.eb3.specs.Moves.{Move, move, moves}
 
 -- ── size, reach G and breadth W, where a constant has w words ──

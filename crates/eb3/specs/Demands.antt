@@ -21,7 +21,7 @@ use Rattle.eb3.specs.Unfolding.{unfold_main}
 use Rattle.eb3.specs.Spelling.{words}
 use Rattle.eb3.specs.Bytes.{words_in, word_count, written}
 use Rattle.eb3.specs.Memory.{cell_room, memory_words}
-use Rattle.eb3.specs.Answers.{Answer, refused, answered, Sizes, Moved, Ran, Written, unwritten}
+use Rattle.eb3.specs.Answers.{refused, answered, Sizes, Moved, Ran, Written, unwritten}
 use Rattle.eb3.specs.Admission.{admission}
 use Rattle.eb3.specs.Operations.{cells_needed, sizes_needed, main_reach, term_fits, memory_fits, term_in, event_in, cells_given, listed, admit, start, count, move, present, run}
 

@@ -3,32 +3,32 @@
 use Rattle.std.specs.Prelude.{◌≡◌, refl, List, [], ◌∷◌, ◌++◌, ℕ, ◌-◌, length, set, take, drop, replicate}
 use Rattle.eb3.specs.Generic.Lists.{same_list}
 use Rattle.eb3.specs.Refusal
-use Rattle.eb3.specs.Values.{encode, decode, bounded, equal}
+use Rattle.eb3.specs.Values.{encode, equal}
 use Rattle.eb3.specs.Expressions.{variables, evaluate_data}
-use Rattle.eb3.specs.Terms.{Action, visible, bit, in_mask, done?, same_action}
-use Rattle.eb3.specs.Moves.{moves, first_with}
+use Rattle.eb3.specs.Terms.{bit, in_mask, done?, same_action}
+use Rattle.eb3.specs.Moves.{moves}
 use Rattle.eb3.specs.Derivations.{state_after}
 use Rattle.eb3.specs.Attributes.{function, apply_in_domain, evaluate, guard_holds, now_below, before_values, attribute_value, value_at}
-use Rattle.eb3.specs.Cells.{cell_count, cell_index, offset, cell_at, concat_tabulate, tabulate, cells_up_to, initial_cells, renew, values_up_to}
+use Rattle.eb3.specs.Cells.{cell_count, offset, concat_tabulate, tabulate, values_up_to}
 use Rattle.eb3.specs.TransitionSystems.{step as machine_step, run as machine_run}
 use Rattle.eb3.specs.Machines.{history_run}
 use Rattle.eb3.specs.Sizes.{cond_size, arguments_size, size, reach, breadth, zero_mask, parallel_breadth}
 use Rattle.eb3.specs.Editions.{edition_1, edition_of}
-use Rattle.eb3.specs.RuleSets.{constant_argument, variable_argument, RuleTerm, rule_internal, rule_perform, parallel_over, RuleSet}
+use Rattle.eb3.specs.RuleSets.{constant_argument, RuleTerm, rule_internal, rule_perform, parallel_over, RuleSet}
 use Rattle.eb3.specs.Unfolding.{argument_value, instantiate_cond, right_nest, unfold_term, unfold_below, unfold_main}
 use Rattle.eb3.specs.Spelling.{number_words, data_words, arguments_words, words}
 use Rattle.eb3.specs.RuleSpelling.{argument_words, rule_words, function_words, functions_words, process_words, rules_words, stream_words}
 use Rattle.eb3.specs.Reading.{giving, then, both, number_of, by_number, count_of, repeat, counted, for_each, series, number_in}
 use Rattle.eb3.specs.ExpressionReading.{constant_of, args_of, readers, read_data, read_cond}
-use Rattle.eb3.specs.TermReading.{mask_of, element_of, elements_of, action_of, terms, read_term, given_term, given_event}
+use Rattle.eb3.specs.TermReading.{mask_of}
 use Rattle.eb3.specs.RuleReading.{read_parameter_counts, read_function, read_functions, argument_of, arguments_of, rule_action_of, call_of, choice_over_of, parallel_over_of, rule_terms, read_rule_term, read_process, read_processes, read_rules}
 use Rattle.eb3.specs.Bytes.{words_in, bytes_of, written}
-use Rattle.eb3.specs.Memory.{memory_words, cells_in}
+use Rattle.eb3.specs.Memory.{memory_words}
 use Rattle.eb3.specs.Answers.{Answer, refused, answered, and_then, Sizes}
 use Rattle.eb3.specs.Blocks.{sums_from, block_right, blocks_right, contents, edition_in, open_blocks}
 use Rattle.eb3.specs.Files.{block_of, blocks_from, file_of}
 use Rattle.eb3.specs.Admission.{all_zero, ended, within_limits, admission}
-use Rattle.eb3.specs.Operations.{admit, start, count, move, present, run}
+use Rattle.eb3.specs.Operations.{admit, run}
 use Rattle.eb3.specs.KeyCabinet.{cabinet_of, cabinet, copies}
 
 -- The key cabinet's stream behind its first two words: domains, labels, the function, main.

@@ -1,11 +1,11 @@
 -- Data expressions and conditions read from words (document 01, "Values and conditions": codes 0 to 7 and 8 to 13, before their operands).
 -- A scope says what they may name; a code, count or constant out of range is refused 4, a number not defined or not allowed there 5.
 -- Data under now and before are never judged by 6.
-use Rattle.std.specs.Prelude.{List, [], ◌∷◌, ℕ, zero, suc, eqb, ltb, leb, length}
+use Rattle.std.specs.Prelude.{[], ◌∷◌, ℕ, zero, suc, eqb, ltb, leb, length}
 use Rattle.eb3.specs.Refusal
 use Rattle.eb3.specs.Expressions.{Data, Undefined, Constant, Variable, Add, Subtract, If, Now, Before, Args, Nil, Cons, Cond, Equal, Less, And, Or, Not, True}
 use Rattle.eb3.specs.Scopes.{Scope}
-use Rattle.eb3.specs.Reading.{Read, refused, taken, Reader, pick, giving, then, both, number_of, by_number, number_in}
+use Rattle.eb3.specs.Reading.{refused, taken, Reader, pick, giving, then, both, number_of, by_number, number_in}
 
 -- What a code is, where a scope says whether before may stand.
 pub data DataKind : Type 0 where

@@ -1,10 +1,10 @@
 -- Document 01's numbers, as numerals: the refusals by their words (the table under "Operations"), the limits ("Blocks and the rule stream", "Unfolding,
 -- size and breadth"), what edition 1 is ("Values and conditions") and undefined's word. Proved in Laws/Numbers.
 use Rattle.std.specs.Prelude.{◌≡◌, false, ℕ}
-use Rattle.std.proofs.Math.Option.{Option, none, some}
+use Rattle.std.proofs.Math.Option.{none, some}
 use Rattle.eb3.specs.Refusal
 use Rattle.eb3.specs.Limits
-use Rattle.eb3.specs.Editions.{Edition, edition_of}
+use Rattle.eb3.specs.Editions.{edition_of}
 use Rattle.eb3.specs.Memory.{undefined_cell}
 
 pub record Numbers : Type 0 where

@@ -1,6 +1,6 @@
 -- The operations as total functions on byte lists, with the lent buffers afterwards (document 01, "Operations"). Each call admits the rule set and
 -- checks everything itself. The contracts of the exported functions are equations in these names.
-use Rattle.std.specs.Prelude.{◌≡◌, Bool, ◌&&◌, not, List, [], ◌∷◌, ◌++◌, ℕ, ◌-◌, ◌*◌, ◌%◌, eqb, leb, length, drop}
+use Rattle.std.specs.Prelude.{◌≡◌, Bool, ◌&&◌, List, ◌++◌, ℕ, ◌-◌, ◌*◌, ◌%◌, eqb, leb, length, drop}
 use Rattle.std.proofs.Math.Option.{Option, none, some}
 use Rattle.std.proofs.Math.ListN.{get_elem?, replicate}
 use Rattle.eb3.specs.Refusal

@@ -8,7 +8,7 @@ use Rattle.eb3.specs.Expressions.{Data}
 use Rattle.eb3.specs.Scopes.{Scope, guard_scope}
 use Rattle.eb3.specs.Editions.{Edition}
 use Rattle.eb3.specs.RuleSets.{Argument, constant_argument, variable_argument, RuleTerm, rule_internal, rule_perform, rule_sequence, rule_choice, rule_star, rule_parallel, rule_guard, choice_over, parallel_over, call, Function, Process, RuleSet, domain_size, label, process, attributes}
-use Rattle.eb3.specs.Reading.{Read, refused, taken, Reader, pick, giving, then, both, number_of, by_number, count_of, repeat, counted, for_each, series, number_in}
+use Rattle.eb3.specs.Reading.{refused, taken, Reader, pick, giving, then, both, number_of, by_number, count_of, repeat, counted, for_each, series, number_in}
 use Rattle.eb3.specs.ExpressionReading.{read_data, read_cond}
 use Rattle.eb3.specs.TermReading.{mask_of}
 

@@ -1,7 +1,7 @@
 -- A case for each way that Count returns.
-use mathlib.Core.Path.{◌≡◌, refl, ap, sym, ◌∙◌, subst}
+use mathlib.Core.Path.{◌≡◌, ap, sym, ◌∙◌, subst}
 use mathlib.Core.List.{List}
-use Prim.Native.Nat.{ℕ, ◌+◌, ◌*◌, ◌/◌, ◌%◌, ◌≤◌, ◌<◌}
+use Prim.Native.Nat.{ℕ, ◌+◌, ◌/◌, ◌%◌, ◌≤◌, ◌<◌}
 use native.Mathlib.Omega.{arith}
 use lib.ListN.{length, take, drop, get_or}
 use Rattle.eb3.specs.Terms.{Term}
@@ -19,7 +19,6 @@ use Rattle.listing.specs.Listing.{holding}
 use Rattle.steps.specs.Counting.{Whole}
 use Rattle.steps.specs.Storing.{Ruled, Stored}
 use Rattle.steps.specs.Judging.{whole, moves_judged}
-use Rattle.engine.specs.declared.counting.Counted.{Counted}
 use Rattle.engine.specs.declared.counting.Counted.TheVariants.{Moves, Refused}
 use Rattle.given.specs.declared.giving.Given.{Given}
 use Rattle.given.specs.declared.giving.Given.TheVariants.{Term as Given_term, Refused as Given_refused}

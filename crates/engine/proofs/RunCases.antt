@@ -15,7 +15,6 @@ use Rattle.declarations.specs.Directory.{Directory}
 use Rattle.mains.specs.Mains.{RunsMain}
 use Rattle.mains.specs.declared.Totals.{Totals}
 use Rattle.weights.specs.declared.Limits.{Limits}
-use Rattle.engine.specs.declared.running.Ran.{Ran}
 use Rattle.engine.specs.declared.running.Ran.TheVariants.{Ended, Refused}
 use Rattle.admission.specs.Knowing.{Known}
 use Rattle.engine.specs.Running.{RunDone}

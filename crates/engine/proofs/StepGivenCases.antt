@@ -1,5 +1,5 @@
 -- A case for each way that Move and Present return, from what was given and asked for.
-use mathlib.Core.Path.{◌≡◌, refl, ap, sym, ◌∙◌, subst}
+use mathlib.Core.Path.{◌≡◌, ap, sym, ◌∙◌, subst}
 use mathlib.Core.Bool.{Bool}
 use mathlib.Core.List.{List}
 use mathlib.Core.Option.{Option}
@@ -15,7 +15,6 @@ use Rattle.eb3.specs.Sizes.{reach}
 use Rattle.eb3.specs.Blocks.{stream}
 use Rattle.eb3.specs.Bytes.{word_count}
 use Rattle.eb3.specs.Memory.{cell_room}
-use Rattle.eb3.specs.Answers.{Written}
 use Rattle.eb3.specs.Operations.{cells_needed, event_in, listed, writing, moved}
 use Rattle.eb3.specs.Answers.{or_refused}
 use Rattle.eb3.specs.Laws.Editions.{width_is_1}

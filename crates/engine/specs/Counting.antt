@@ -1,8 +1,8 @@
 -- What Count answers, by the specification's operation (document 01, "Operations"): refused as the rule set or the term is, or for want of cells; else the
 -- number of moves.
-use Rattle.std.specs.Prelude.{◌≡◌, Bool, true, false, List, ℕ, ◌≤◌, ◌<◌, leb, length}
+use Rattle.std.specs.Prelude.{◌≡◌, List, ℕ, ◌≤◌, ◌<◌, length}
 use Rattle.std.proofs.Math.Path.{refl, ap, sym}
-use Rattle.std.proofs.Common.{◌∙◌, subst, le-leb}
+use Rattle.std.proofs.Common.{◌∙◌, le-leb}
 use Rattle.std.proofs.lemmas.Bool.{lt-leb}
 use Rattle.eb3.specs.Refusal
 use Rattle.eb3.specs.Terms.{Term}

@@ -1,12 +1,12 @@
 -- The memory at the start, made of a store (document 01, "Memory and the history machine":
 -- at start the empty-trace expressions fill the cells, function by function).
-use Rattle.std.specs.Prelude.{◌≡◌, refl, List, [], ◌∷◌, map, ℕ, ◌+◌, ◌*◌, ◌/◌, ◌≤◌, ◌<◌, get_or}
+use Rattle.std.specs.Prelude.{◌≡◌, List, ℕ, ◌+◌, ◌≤◌, get_or}
 use Rattle.std.proofs.Common.{ap, sym, ◌∙◌, subst, arith}
 use Rattle.std.proofs.Math.Option.{none}
 use Rattle.std.proofs.Math.ListN.{length}
 use Rattle.eb3.specs.Expressions.{no_reading}
 use Rattle.eb3.specs.Attributes.{number_of_functions}
-use Rattle.eb3.specs.Cells.{total_cells, initial_cells, cells_up_to}
+use Rattle.eb3.specs.Cells.{total_cells, initial_cells}
 use Rattle.eb3.specs.RuleSets.{RuleSet, attributes}
 use Rattle.eb3.specs.WellFormedness.{Form}
 use Rattle.eb3.specs.Unfolding.{unfold_main}

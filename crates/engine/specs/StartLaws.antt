@@ -1,7 +1,7 @@
 -- Start, case by case: refused as Admit is, refused for want of space, or done (document 01, "Operations").
-use Rattle.std.specs.Prelude.{◌≡◌, Bool, ◌&&◌, List, ℕ, ◌*◌, ◌/◌, ◌≤◌, ◌<◌, leb, length}
+use Rattle.std.specs.Prelude.{◌≡◌, Bool, ◌&&◌, List, ℕ, ◌≤◌, ◌<◌}
 use Rattle.std.proofs.Math.Path.{refl, ap}
-use Rattle.std.proofs.Common.{sym, ◌∙◌, subst, arith}
+use Rattle.std.proofs.Common.{sym, ◌∙◌}
 use Rattle.std.proofs.Math.Bool.{true, false}
 use borrow.Author.Tests.{le-leb, lt-leb}
 use Rattle.eb3.specs.Refusal
@@ -14,7 +14,7 @@ use Rattle.eb3.specs.Bytes.{written, word_count}
 use Rattle.eb3.specs.Memory.{cell_room, memory_words}
 use Rattle.eb3.specs.Reading.{pick}
 use Rattle.eb3.specs.Admission.{admission}
-use Rattle.eb3.specs.Answers.{Answer, refused, answered, Written, unwritten}
+use Rattle.eb3.specs.Answers.{refused, answered, Written, unwritten}
 use Rattle.eb3.specs.Operations.{cells_needed, main_reach, term_fits, memory_fits, writing, started, start}
 use Rattle.engine.specs.declared.starting.Started.{Started}
 use Rattle.engine.specs.declared.starting.Started.TheVariants.{Size, Refused}

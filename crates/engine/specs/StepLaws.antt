@@ -2,7 +2,7 @@
 -- (document 01, "Operations").
 use Rattle.std.proofs.Math.Path.{◌≡◌, refl, ap, subst}
 use Rattle.std.proofs.Common.{sym, ◌∙◌, arith, le-leb}
-use Rattle.std.specs.Prelude.{Bool, ◌&&◌, List, ℕ, ◌≤◌, ◌<◌, leb}
+use Rattle.std.specs.Prelude.{Bool, ◌&&◌, List, ℕ, ◌≤◌, ◌<◌}
 use Rattle.std.proofs.Math.Bool.{true, false}
 use Rattle.std.proofs.Math.Option.{Option, none, some}
 use Rattle.std.proofs.Math.ListN.{get_elem?}
@@ -11,7 +11,7 @@ use Rattle.eb3.specs.Refusal
 use Rattle.eb3.specs.Terms.{Term, Action}
 use Rattle.eb3.specs.Moves.{Move}
 use Rattle.eb3.specs.RuleSets.{RuleSet}
-use Rattle.eb3.specs.WellFormedness.{Form, WellFormedAction}
+use Rattle.eb3.specs.WellFormedness.{Form}
 use Rattle.eb3.specs.Reading.{pick}
 use Rattle.eb3.specs.TermReading.{given_event}
 use Rattle.eb3.specs.Laws.TermReading.{given_event_exact}
@@ -25,10 +25,9 @@ use Rattle.eb3.specs.Answers.{or_refused}
 use Rattle.eb3.specs.Laws.Editions.{width_is_1}
 use Rattle.actions.specs.Codes.{action_code, Small}
 use Rattle.actions.specs.ActionLaws.{action_small}
-use Rattle.given.specs.declared.asking.Asked.{Asked}
 use Rattle.given.specs.declared.asking.Asked.TheVariants.{Wanted, Stranger}
 use Rattle.engine.specs.declared.stepping.Moved.{Moved}
-use Rattle.engine.specs.declared.stepping.Moved.TheVariants.{Made, Refused}
+use Rattle.engine.specs.declared.stepping.Moved.TheVariants.{Refused}
 use Rattle.given.specs.Giving.{given_in}
 use Rattle.given.specs.Asking.{asked_of, asked_as, Chooses}
 use Rattle.engine.specs.Stepping.{moved_as, Done, stepped_from, stepped}

@@ -1,6 +1,6 @@
 -- Laws of answers: what an evaluation answers is taken apart again, and every value in a store is a word.
 -- Document 01, "Values and conditions".
-use Rattle.std.specs.Prelude.{◌≡◌, Bool, true, false, List, ◌++◌, ℕ, ◌+◌, ◌/◌, ◌%◌, ◌≤◌, ◌<◌, length}
+use Rattle.std.specs.Prelude.{◌≡◌, Bool, true, false, List, ◌++◌, ℕ, ◌/◌, ◌%◌, ◌≤◌, ◌<◌, length}
 use Rattle.std.proofs.Common.{ap, ◌∙◌, arith, lit<}
 use Rattle.std.proofs.Math.Path.{subst}
 use Rattle.eb3.specs.Values.{Value, undefined, number, encode, decode, AtMost}

@@ -2,8 +2,6 @@
 -- offending word (FirstOffendingWord). Shown in Laws/StreamRefusals.
 use Rattle.std.specs.Prelude.{◌≡◌, ◌↔◌, List, ◌++◌, ℕ, suc, ◌≤◌, ◌<◌, length, take}
 use Rattle.std.proofs.Math.Option.{none, some}
-use Rattle.eb3.specs.Refusal
-use Rattle.eb3.specs.Limits
 use Rattle.eb3.specs.Editions.{Edition}
 use Rattle.eb3.specs.RuleSets.{RuleSet}
 use Rattle.eb3.specs.RuleReading.{read_rules}

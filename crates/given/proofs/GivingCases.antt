@@ -1,17 +1,15 @@
 -- A case for each way that the check of a given term returns.
 use mathlib.Core.Path.{◌≡◌, refl, ap, sym, ◌∙◌, subst}
-use mathlib.Core.Bool.{Bool, true, false}
 use mathlib.Core.List.{List}
 use mathlib.Core.Option.{Option, none, some}
-use Prim.Native.Nat.{ℕ, ◌+◌, ◌-◌, ◌/◌, ◌%◌, ◌≤◌, ◌<◌}
+use Prim.Native.Nat.{ℕ, ◌-◌, ◌%◌, ◌≤◌, ◌<◌}
 use native.Mathlib.Omega.{arith}
 use native.Mathlib.Decide.{dec_lt}
-use lib.Dec.{eqb}
-use lib.ListN.{length, take, drop, get_or}
+use lib.ListN.{length, take, drop}
 use borrow.Author.Tests.{eq-eqb, ne_eqb}
 use Rattle.eb3.specs.Refusal
 use Rattle.eb3.specs.Terms.{Term}
-use Rattle.eb3.specs.Sizes.{size, reach, breadth}
+use Rattle.eb3.specs.Sizes.{reach}
 use Rattle.eb3.specs.Laws.Sizes.{size_below_reach}
 use Rattle.eb3.specs.Spelling.{words}
 use Rattle.eb3.specs.Laws.Spelling.{words_length}
@@ -24,7 +22,7 @@ use Rattle.eb3.specs.TermReading.{given_term}
 use Rattle.eb3.specs.Laws.TermReading.{given_term_exact}
 use Rattle.eb3.specs.Answers.{Answer, refused, answered}
 use Rattle.eb3.specs.Laws.Answers.{not_both, answered_injective}
-use Rattle.eb3.specs.Operations.{even, term_in}
+use Rattle.eb3.specs.Operations.{term_in}
 use Rattle.eb3.specs.Answers.{or_refused}
 use Rattle.eb3.specs.Laws.Editions.{width_is_1}
 use Rattle.arguments.specs.Tables.{declared}

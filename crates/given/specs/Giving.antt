@@ -1,6 +1,6 @@
 -- What every operation on a given term begins with: the rule set admitted, and the term read (document 01, "Operations": each call admits and checks
 -- everything itself; refusals 1 to 8, then 10).
-use Rattle.std.specs.Prelude.{◌≡◌, List, ◌++◌, ℕ, ◌*◌, length, take, drop}
+use Rattle.std.specs.Prelude.{◌≡◌, List, ◌++◌, ℕ, ◌*◌, take, drop}
 use Rattle.eb3.specs.Terms.{Term}
 use Rattle.eb3.specs.Sizes.{reach}
 use Rattle.eb3.specs.Spelling.{words}
@@ -11,7 +11,6 @@ use Rattle.eb3.specs.RuleSets.{RuleSet}
 use Rattle.eb3.specs.WellFormedness.{Form, Running}
 use Rattle.eb3.specs.Answers.{Answer, refused, answered, and_then}
 use Rattle.eb3.specs.Operations.{cells_needed, term_in}
-use Rattle.declarations.specs.Declaring.{Declares}
 use Rattle.declarations.specs.Directory.{Directory}
 use Rattle.given.specs.declared.giving.Given.{Given}
 use Rattle.given.specs.declared.giving.Given.TheVariants.{Term as Given_term, Refused}

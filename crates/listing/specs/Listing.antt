@@ -1,5 +1,5 @@
 -- The moves of a running term listed by their actions' numbers, in order (document 01, "Moves, in order").
-use Rattle.std.specs.Prelude.{◌≡◌, Bool, ◌&&◌, cond, List, [], ◌∷◌, ◌++◌, map, ℕ, ◌+◌, ◌/◌, ◌≤◌, ◌<◌, max, length, take}
+use Rattle.std.specs.Prelude.{◌≡◌, Bool, ◌&&◌, cond, List, ◌++◌, map, ℕ, ◌+◌, ◌/◌, ◌≤◌, ◌<◌, max, length, take}
 use Rattle.eb3.specs.Expressions.{Cond, evaluate_cond}
 use Rattle.eb3.specs.Scopes.{Scope, CondInScope}
 use Rattle.eb3.specs.Terms.{Term, Done, Internal, Perform, Sequence, Choice, Star, Parallel, Guard, visible, done?}

@@ -1,6 +1,6 @@
 -- Where the operands of a term stand, told by the code in front of it.
 -- Document 01, "Moves, in order".
-use Rattle.std.specs.Prelude.{◌≡◌, refl, ℕ, ◌-◌, ◌≤◌, length, take, drop, get_or}
+use Rattle.std.specs.Prelude.{◌≡◌, refl, ℕ, ◌≤◌, length, take, drop, get_or}
 use Rattle.std.proofs.Math.Path.{ap}
 use Rattle.std.proofs.Common.{◌∙◌, arith, length-append}
 use mathlib.Core.List.{List, ◌∷◌, ◌++◌, append_assoc}

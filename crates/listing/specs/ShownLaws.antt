@@ -1,6 +1,6 @@
 -- The numbers of a term's moves outside a set of labels, by the term's form, and the room that listing them takes.
 -- Document 01, "Moves, in order".
-use Rattle.std.specs.Prelude.{◌≡◌, Bool, true, false, ◌&&◌, ℕ, zero, ◌+◌, ◌*◌, ◌%◌, ◌≤◌, ◌<◌, T, take, get_or}
+use Rattle.std.specs.Prelude.{◌≡◌, Bool, true, false, ◌&&◌, ℕ, ◌+◌, ◌*◌, ◌%◌, ◌≤◌, ◌<◌, T, take, get_or}
 use Rattle.std.proofs.Math.Path.{refl, sym, ap}
 use Rattle.std.proofs.Common.{◌∙◌, subst, arith, eq-eqb, get_or-take}
 use mathlib.Core.List.{List, [], ◌∷◌, ◌++◌}

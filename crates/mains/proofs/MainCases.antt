@@ -29,7 +29,7 @@ use Rattle.eb3.specs.WellFormedness.{WellFormed, Running}
 use Rattle.eb3.specs.Answers.{answered, Ran}
 use Rattle.eb3.specs.Operations.{cells_needed, main_reach}
 use Rattle.eb3.specs.Laws.Editions.{width_is_1}
-use Rattle.expressions.specs.Stores.{stored, now_place}
+use Rattle.expressions.specs.Stores.{now_place}
 use Rattle.writing.specs.Wrote.{Wrote}
 use Rattle.cells.specs.Preparing.{Loaded, Saved}
 use Rattle.cells.specs.PreparingLaws.{Cleared}

@@ -4,18 +4,17 @@
 use Rattle.std.specs.Prelude.{◌≡◌, refl, replicate}
 use Rattle.std.proofs.Math.Path.{sym}
 use Rattle.std.proofs.Common.{◌∙◌}
-use mathlib.Core.List.{List, [], ◌∷◌, ◌++◌}
+use mathlib.Core.List.{List, [], ◌∷◌}
 use Prim.Native.Nat.{ℕ, zero, suc, ◌<◌}
 use native.Mathlib.Omega.{arith}
 use Rattle.eb3.specs.Generic.Lists.{same_list, Within}
-use Rattle.eb3.specs.Refusal
 use Rattle.eb3.specs.Values.{Value, number, encode, decode, bounded, equal}
-use Rattle.eb3.specs.Expressions.{Data, Constant, Variable, Now, Before, Nil, Cons, Equal, variables, evaluate_data}
-use Rattle.eb3.specs.Terms.{Done, Sequence, Parallel, visible, bit, in_mask, done?, same_action}
+use Rattle.eb3.specs.Expressions.{Constant, Variable, Now, Before, Nil, Cons, Equal, variables, evaluate_data}
+use Rattle.eb3.specs.Terms.{Done, Sequence, Parallel, bit, in_mask, done?, same_action}
 use Rattle.eb3.specs.Moves.{moves}
 use Rattle.eb3.specs.Derivations.{state_after}
 use Rattle.eb3.specs.Attributes.{function, domain, apply_in_domain, evaluate, guard_holds, now_below, before_values, attribute_value, value_at}
-use Rattle.eb3.specs.Cells.{cell_count, cell_index, offset, cell_at, concat_tabulate, tabulate, cells_up_to, renew, values_up_to}
+use Rattle.eb3.specs.Cells.{cell_count, cell_index, offset, cell_at, concat_tabulate, tabulate, values_up_to}
 use Rattle.eb3.specs.TransitionSystems.{step as machine_step, run as machine_run}
 use Rattle.eb3.specs.Semantics.{Sem_T}
 use Rattle.eb3.specs.Machines.{Machine, history_run}
@@ -31,12 +30,12 @@ use Rattle.eb3.specs.TermReading.{mask_of, element_of, elements_of, action_of, t
 use Rattle.eb3.specs.RuleReading.{read_parameter_counts, read_function, read_functions, argument_of, arguments_of, rule_action_of, call_of, choice_over_of, parallel_over_of, rule_terms, read_rule_term, read_process, read_processes, read_rules}
 use Rattle.eb3.specs.Bytes.{words_in, bytes_of, written}
 use Rattle.eb3.specs.Memory.{memory_words, cells_in}
-use Rattle.eb3.specs.Answers.{Answer, refused, answered, and_then, Sizes, Ran, Written}
+use Rattle.eb3.specs.Answers.{answered, and_then, Sizes, Ran, Written}
 use Rattle.eb3.specs.Blocks.{sums_from, block_right, blocks_right, contents, edition_in, open_blocks}
 use Rattle.eb3.specs.Files.{block_of, blocks_from, file_of}
 use Rattle.eb3.specs.Admission.{all_zero, ended, within_limits, admission}
-use Rattle.eb3.specs.Operations.{admit, count, move, run}
-use Rattle.eb3.specs.Demands.{Roomy, cut}
+use Rattle.eb3.specs.Operations.{admit, count, run}
+use Rattle.eb3.specs.Demands.{cut}
 use Rattle.eb3.specs.KeyCabinet.{cabinet, key}
 use Rattle.eb3.specs.Examples.{mask_zero}
 use Rattle.eb3.specs.Laws.Machines.{history_chain}

@@ -1,6 +1,6 @@
 -- Filtered lists: of lists put together, of lists made from others, of rows. Generic; for the moves that show below a mask (document 01, "Moves, in order").
 use Rattle.std.specs.Prelude.{◌≡◌, refl, Bool, true, false, not, ◌&&◌, ◌||◌, cond, List, [], ◌∷◌, ◌++◌, map, ℕ, zero, suc}
-use Rattle.std.proofs.Common.{sym, ap, ◌∙◌, append_assoc}
+use Rattle.std.proofs.Common.{ap, ◌∙◌}
 use Rattle.std.proofs.Math.Option.{some}
 use Rattle.std.proofs.Math.ListN.{get_elem?}
 use Rattle.eb3.specs.Generic.Lists.{filter, concat_map}

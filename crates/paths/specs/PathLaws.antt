@@ -1,15 +1,14 @@
 -- The path of the k-th move that shows leads to that move (document 01, "Moves, in order"), has the left operands' sizes in it, and is no longer than the
 -- term.
-use Rattle.std.specs.Prelude.{◌≡◌, Bool, ◌&&◌, cond, List, [], ◌∷◌, ◌++◌, map, eqb, ltb, drop, get_or}
+use Rattle.std.specs.Prelude.{◌≡◌, Bool, ◌&&◌, cond, List, [], ◌∷◌, ◌++◌, map, eqb, ltb}
 use Rattle.std.proofs.Math.Path.{refl, ap}
 use Rattle.std.proofs.Common.{sym, ◌∙◌, subst, append_assoc, length-append, ltb-true, ltb-false, eq-eqb}
 use Rattle.std.proofs.Math.Bool.{true, false}
 use Rattle.std.proofs.Math.Option.{some, some-injective, none-ne-some}
-use Prim.Native.Nat.{ℕ, zero, suc, ◌+◌, ◌-◌, ◌≤◌, ◌<◌}
+use Prim.Native.Nat.{ℕ, zero, suc, ◌+◌, ◌-◌, ◌≤◌}
 use native.Mathlib.Omega.{arith}
-use Rattle.std.proofs.Math.Dec.{eqb_refl, eqb-suc-zero}
+use Rattle.std.proofs.Math.Dec.{eqb-suc-zero}
 use Rattle.std.proofs.Math.ListN.{length, get_elem?}
-use Rattle.std.proofs.lemmas.List.{length-map}
 use Rattle.std.specs.Int.Bits.{bit_or}
 use Rattle.eb3.specs.Generic.Lists.{filter, concat_map}
 use Rattle.eb3.specs.Expressions.{Cond}
@@ -22,7 +21,7 @@ use Rattle.eb3.specs.Laws.TransitionSystems.{getElem?_unmap}
 use Rattle.actions.specs.CodesLaws.{same_code}
 use Rattle.actions.specs.Sets.{mask_set, has_all}
 use Rattle.paths.specs.Paths.{Sought, at, beyond, seek, Sides, left_alone, right_alone, together, nowhere, or_left, or_right, seek_pair, locate, alone, paired, shown?, shown, numbers, idle, path_by, path_in_turn, path, Followed, followed, within, follow, marked}
-use Rattle.paths.specs.SeekLaws.{Seen, seek_seen, Paired, pair_seen, entry_first, entry_rest, entry_made, entry_behind}
+use Rattle.paths.specs.SeekLaws.{Seen, seek_seen, Paired, pair_seen, entry_first, entry_made, entry_behind}
 use Rattle.paths.specs.SmallLaws.{SmallActions, move_action_small}
 use Rattle.paths.specs.ShownLaws.{code, SmallMoves, beside, shown_all, shown_after_done, shown_sequence, shown_choice, shown_star, shown_both_done, shown_guard, shown_shut, shown_parallel, shown_covered, shown_idle_left, shown_idle_right}
 

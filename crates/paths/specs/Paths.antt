@@ -3,7 +3,7 @@
 -- right alone, 3 both together, the left's path first. A sequence and a guard leave no decision. Where the way goes on on the right, the left operand's
 -- size stands behind the decision, so that whoever follows need not look for its end. `path` is move k's; `follow` leads along it, whichever words it is made
 -- of.
-use Rattle.std.specs.Prelude.{◌≡◌, Bool, true, false, not, ◌&&◌, cond, List, [], ◌∷◌, ◌++◌, map, ℕ, suc, ◌+◌, ◌-◌, eqb, ltb, length, drop, get_or}
+use Rattle.std.specs.Prelude.{Bool, true, not, ◌&&◌, cond, List, [], ◌∷◌, ◌++◌, map, ℕ, suc, ◌+◌, ◌-◌, eqb, ltb, length, drop, get_or}
 use Rattle.std.specs.Int.Bits.{bit_or}
 use Rattle.eb3.specs.Generic.Lists.{filter}
 use Rattle.eb3.specs.Expressions.{Cond}

@@ -1,6 +1,6 @@
 -- The moves that show below masks, by the form of the term (document 01, "Moves, in order"). A parallel's are its left side's outside its own mask too, its
 -- right side's likewise, and the pairs inside its mask, outside those above.
-use Rattle.std.specs.Prelude.{◌≡◌, refl, Bool, true, false, not, ◌&&◌, cond, List, [], ◌∷◌, ◌++◌, map, ℕ, ◌≤◌, T, eqb, length}
+use Rattle.std.specs.Prelude.{◌≡◌, refl, Bool, true, false, not, ◌&&◌, cond, List, [], ◌∷◌, ◌++◌, map, ℕ, ◌≤◌, T, length}
 use Rattle.std.proofs.Common.{sym, ◌∙◌, subst, append-nil, arith, eqb→eq}
 use Rattle.std.proofs.Math.Path.{ap}
 use Rattle.std.proofs.Math.Option.{some}
@@ -16,7 +16,7 @@ use Rattle.actions.specs.Codes.{action_code, Small}
 use Rattle.actions.specs.CodesLaws.{masked_is}
 use Rattle.actions.specs.Sets.{in_set, mask_set, has_all, in_mask_set, in_empty, in_either, within_set}
 use Rattle.paths.specs.Paths.{shown?, shown, idle, alone, paired}
-use Rattle.paths.specs.FilterLaws.{filter_append, filter_all, filter_none, filter_cond, filter_rows, filter_map, filter_twice, filter_same, rows_same, rows_none, neither, middle_last}
+use Rattle.paths.specs.FilterLaws.{filter_append, filter_all, filter_none, filter_rows, filter_map, filter_twice, filter_same, rows_same, rows_none, neither, middle_last}
 
 abbrev pub code : Move → ℕ
 code x = action_code x.action

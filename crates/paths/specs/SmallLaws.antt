@@ -1,21 +1,15 @@
 -- Small actions, those of rule sets of edition 1. Each action that a move of a term performs is one of the term's, so that the actions of a term with small
 -- actions are small as long as it runs.
 -- Document 01, "Moves, in order".
-use Rattle.std.specs.Prelude.{◌≡◌, refl, Bool, true, false, [], ◌∷◌, ℕ, zero, suc, ◌+◌, ◌-◌, ◌*◌, ◌<◌, ◌%◌, ◌/◌, T, eqb, get_or}
+use Rattle.std.specs.Prelude.{◌≡◌, Bool, ℕ}
 use Rattle.std.proofs.Math.Option.{some}
-use Rattle.std.proofs.Common.{arith, eqb→eq}
-use Rattle.std.proofs.Math.Nat.{zero-div}
-use Rattle.std.proofs.Math.Dec.{eqb-suc-zero}
 use Rattle.std.proofs.Math.ListN.{get_elem?}
-use Rattle.eb3.specs.Generic.Booleans.{T_fst, T_snd}
 use Rattle.eb3.specs.Expressions.{Cond}
-use Rattle.eb3.specs.Terms.{Term, Done, Internal, Perform, Sequence, Choice, Star, Parallel, Guard, Action, internal, visible, Mask, bit, in_mask}
+use Rattle.eb3.specs.Terms.{Term, Done, Internal, Perform, Sequence, Choice, Star, Parallel, Guard, Action, visible}
 use Rattle.eb3.specs.Moves.{Move, moves}
-use Rattle.eb3.specs.Reading.{pick}
-use Rattle.eb3.specs.Sizes.{zero_mask}
 use Rattle.eb3.specs.Derivations.{DataState, Step, S_1, S_1', S_2, S_3, S_4_left, S_4_right, S_5, S_6, S_7, S_8, S_9_left, S_9_right, S_10}
 use Rattle.eb3.specs.Laws.Semantics.{move_stepped}
-use Rattle.actions.specs.Codes.{arguments_code, action_code, Small}
+use Rattle.actions.specs.Codes.{Small}
 
 abbrev pub SmallActions : Term → Type 0
 SmallActions Done = Unit

@@ -1,11 +1,10 @@
 -- A case for each way that the checks of actions and calls return. The premises have the form of what the code tells there, so that `search` finds them.
 use Prim.Native.Nat.{ℕ, ◌+◌, ◌*◌, ◌≤◌, ◌<◌}
 use native.Mathlib.Omega.{arith}
-use mathlib.Core.Path.{◌≡◌, refl, sym, ap, ◌∙◌}
+use mathlib.Core.Path.{◌≡◌, sym, ap, ◌∙◌}
 use mathlib.Core.List.{List}
 use lib.ListN.{length, get_or}
 use borrow.Author.Tests.{lt-ltb, le-ltb}
-use Rattle.eb3.specs.Sizes.{arguments_size}
 use Rattle.eb3.specs.Laws.Sizes.{arguments_double}
 use Rattle.eb3.specs.RuleSets.{Argument, RuleTerm, rule_perform, call, label, process}
 use Rattle.eb3.specs.Measures.{sat, Measure, nothing, leaf, measure_term}

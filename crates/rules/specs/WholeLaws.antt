@@ -1,6 +1,6 @@
 -- From what the check of a rule set answers to what Admit answers of its words: the end, then main's measures.
 -- Document 01, "Blocks and the rule stream", items 2 to 5; refusals 4 to 6.
-use Rattle.std.specs.Prelude.{◌≡◌, refl, List, ℕ, ◌-◌, ◌≤◌, ◌<◌, T, ltb, length}
+use Rattle.std.specs.Prelude.{◌≡◌, refl, List, ℕ, ◌≤◌, ◌<◌, T, ltb, length}
 use Rattle.std.proofs.Math.Path.{ap}
 use Rattle.std.proofs.Common.{sym, ◌∙◌, subst, arith, ltb→lt, lt→ltb}
 use Rattle.eb3.specs.Refusal

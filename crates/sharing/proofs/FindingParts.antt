@@ -12,7 +12,7 @@ use Rattle.eb3.specs.Spelling.{words}
 use Rattle.scan.specs.Checking.{last_of}
 use Rattle.scan.specs.Laws.{last_len}
 use Rattle.expressions.specs.Answering.{answer}
-use Rattle.listing.specs.Listing.{TermAt, holding, room}
+use Rattle.listing.specs.Listing.{TermAt, holding}
 use Rattle.listing.specs.FitLaws.{fits_length}
 use Rattle.listing.specs.Operands.{answer_is}
 use Rattle.paths.specs.Paths.{path}

@@ -9,7 +9,6 @@ use borrow.Author.Tests.{eqb-true, eqb-false}
 use lib.ListN.{length, drop, get_or, length-drop, length-append}
 use Rattle.eb3.specs.Scopes.{Scope}
 use Rattle.eb3.specs.Terms.{done?}
-use Rattle.eb3.specs.Moves.{moves}
 use Rattle.scan.specs.Checking.{last_of}
 use Rattle.scan.specs.Laws.{last_behind, last_len}
 use Rattle.expressions.specs.Answering.{answer}

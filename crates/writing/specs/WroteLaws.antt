@@ -1,8 +1,8 @@
 -- Laws of writing: one word more at a time, and one list behind another into the rest that is lent on.
 -- Document 01, "Operations": what is written, and what is kept.
-use Rattle.std.specs.Prelude.{◌≡◌, refl, Bool, true, false, ℕ, zero, suc, ◌+◌, ◌-◌, ◌*◌, ◌/◌, ◌%◌, ◌≤◌, ◌<◌, leb, take, get_or}
+use Rattle.std.specs.Prelude.{◌≡◌, refl, Bool, true, false, ℕ, zero, suc, ◌+◌, ◌*◌, ◌/◌, ◌%◌, ◌≤◌, ◌<◌, take, get_or}
 use Rattle.std.proofs.Math.Path.{sym, ap}
-use Rattle.std.proofs.Common.{◌∙◌, add-one, length-take, length-drop, take_at, drop_at, drop-drop, take_all, length-take-le, le-leb, leb-true, leb-false}
+use Rattle.std.proofs.Common.{◌∙◌, add-one, length-drop, take_at, drop_at, drop-drop, take_all, length-take-le, le-leb}
 use mathlib.Core.List.{List, [], ◌∷◌, ◌++◌, append_assoc}
 use native.Mathlib.Omega.{arith}
 use Rattle.std.proofs.Math.ListN.{length, drop, set, length-append}

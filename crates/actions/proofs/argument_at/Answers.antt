@@ -1,4 +1,3 @@
-use borrow.Author.Rules.{rules}
 use Rattle.actions.proofs.Cases.{cases, found_none}
 use Rattle.actions.proofs.argument_at.Goals as goal
 

@@ -1,4 +1,3 @@
-use borrow.Author.Rules.{rules}
 use Rattle.actions.proofs.Cases.{cases, count_none, count_one_short, count_one, count_two}
 use Rattle.actions.proofs.arguments.Goals as goal
 

@@ -1,4 +1,3 @@
-use borrow.Author.Rules.{rules}
 use Rattle.actions.proofs.Cases.{cases}
 use Rattle.actions.proofs.arguments_of.Goals as goal
 

@@ -1,4 +1,3 @@
-use borrow.Author.Rules.{rules}
 use Rattle.actions.proofs.Cases.{behind_some, behind_none}
 use Rattle.actions.proofs.behind_action.Goals as goal
 

@@ -1,5 +1,4 @@
 use Rattle.actions.proofs.Cases.{cases}
-use borrow.Author.Rules.{rules}
 use Rattle.actions.proofs.in_set.Goals as goal
 
 pub returns-then-code-eq0 : goal.returns-then-code-eq0

@@ -1,5 +1,4 @@
 use Rattle.actions.proofs.Cases.{cases}
-use borrow.Author.Rules.{rules}
 use Rattle.actions.proofs.mask_set.Goals as goal
 
 pub returns : goal.returns

@@ -1,5 +1,4 @@
 use Rattle.actions.proofs.Cases.{cases, word_in_mask}
-use borrow.Author.Rules.{rules}
 use Rattle.actions.proofs.mask_word.Goals as goal
 
 pub returns-then-i-d : goal.returns-then-i-d

@@ -1,6 +1,5 @@
 use Rattle.admission.specs.OpeningLaws.{admit_refused, admit_blocks, admit_read}
 use native.Mathlib.Omega.{arith}
-use borrow.Author.Rules.{rules}
 use Rattle.admission.proofs.admit.Goals as goal
 
 pub admit_one-requires : goal.admit_one-requires

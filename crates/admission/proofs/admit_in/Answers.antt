@@ -1,6 +1,5 @@
 use Rattle.admission.specs.OpeningLaws.{stream_part}
 use Rattle.admission.proofs.Cases.{file_admitted}
-use borrow.Author.Rules.{rules}
 use Rattle.admission.proofs.admit_in.Goals as goal
 
 pub returns : goal.returns

@@ -1,6 +1,5 @@
 use native.Mathlib.Omega.{arith}
 use Rattle.admission.proofs.Cases.{words_refused, words_few, words_long, words_behind, words_judged}
-use borrow.Author.Rules.{rules}
 use Rattle.admission.proofs.admit_words.Goals as goal
 
 pub returns-then-left-ge254 : goal.returns-then-left-ge254

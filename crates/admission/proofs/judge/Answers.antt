@@ -1,6 +1,5 @@
 use native.Mathlib.Omega.{arith}
 use Rattle.admission.proofs.Cases.{judge_size, judge_breadth, judge_fine}
-use borrow.Author.Rules.{rules}
 use Rattle.admission.proofs.judge.Goals as goal
 
 pub returns-then-w-gt-REACH : goal.returns-then-w-gt-REACH

@@ -1,8 +1,4 @@
-use borrow.Author.Rules.{rules}
-use mathlib.Core.Path.{◌≡◌, refl}
-use Prim.Native.Nat.{◌≤◌, ◌-◌}
-use lib.ListN.{length, drop}
-use Rattle.eb3.specs.Admission.{all_zero}
+use mathlib.Core.Path.{refl}
 use Rattle.admission.proofs.Cases.{zeros_wrong, zeros_next, zeros_end}
 use native.Mathlib.Omega.{arith}
 use Rattle.admission.proofs.zeros.Goals as goal

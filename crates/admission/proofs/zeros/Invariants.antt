@@ -1,10 +1,7 @@
-use borrow.Author.Rules.{rules}
-use mathlib.Core.Path.{◌≡◌, refl}
+use mathlib.Core.Path.{◌≡◌}
 use Prim.Native.Nat.{◌≤◌, ◌-◌}
 use lib.ListN.{length, drop}
 use Rattle.eb3.specs.Admission.{all_zero}
-use Rattle.admission.proofs.Cases.{zeros_wrong, zeros_next, zeros_end}
-use native.Mathlib.Omega.{arith}
 use Rattle.admission.proofs.zeros.Given as goal
 
 abbrev pub invariant-loop-i : goal.invariant-loop-i

@@ -1,5 +1,4 @@
 use Rattle.arguments.proofs.Cases.{an_argument}
-use borrow.Author.Rules.{rules}
 use Rattle.arguments.proofs.check_argument.Goals as goal
 
 pub returns-then-t-eq0 : goal.returns-then-t-eq0

@@ -1,8 +1,5 @@
-use borrow.Author.Rules.{rules}
 use native.Mathlib.Omega.{arith}
-use Prim.Native.Nat.{◌-◌}
-use lib.ListN.{length}
-use Rattle.arguments.proofs.Rounds.{Passed, arguments_start, argument_refused, argument_passed, arguments_all}
+use Rattle.arguments.proofs.Rounds.{arguments_start, argument_refused, argument_passed, arguments_all}
 use Rattle.arguments.proofs.check_arguments.Goals as goal
 
 pub loop-i-init : goal.loop-i-init

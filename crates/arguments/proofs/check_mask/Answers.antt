@@ -1,7 +1,5 @@
-use borrow.Author.Rules.{rules}
 use native.Mathlib.Omega.{arith}
-use Prim.Native.Nat.{◌-◌}
-use Rattle.arguments.proofs.Rounds.{Masked, mask_start, mask_short, mask_over, mask_on, mask_end}
+use Rattle.arguments.proofs.Rounds.{mask_start, mask_short, mask_over, mask_on, mask_end}
 use Rattle.arguments.proofs.check_mask.Goals as goal
 
 pub loop-i-init : goal.loop-i-init

@@ -1,7 +1,5 @@
-use borrow.Author.Rules.{rules}
-use native.Mathlib.Omega.{arith}
 use Prim.Native.Nat.{◌-◌}
-use Rattle.arguments.proofs.Rounds.{Masked, mask_start, mask_short, mask_over, mask_on, mask_end}
+use Rattle.arguments.proofs.Rounds.{Masked}
 use Rattle.arguments.proofs.check_mask.Given as goal
 
 abbrev pub invariant-loop-i : goal.invariant-loop-i

@@ -1,5 +1,4 @@
 use Rattle.arguments.proofs.Cases.{masks}
-use borrow.Author.Rules.{rules}
 use Rattle.arguments.proofs.mask_limit.Goals as goal
 
 pub returns-then-n-lt16 : goal.returns-then-n-lt16

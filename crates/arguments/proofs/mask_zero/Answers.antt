@@ -1,8 +1,5 @@
-use Prim.Native.Nat.{◌-◌}
 use lib.ListN.{get_or-eq_default}
-use mathlib.Core.Logic.{⊎_elim}
-use Rattle.arguments.proofs.Cases.{Zeros, zeros_none, zeros_next, zeros_not, zeros_all}
-use borrow.Author.Rules.{rules}
+use Rattle.arguments.proofs.Cases.{zeros_none, zeros_next, zeros_not, zeros_all}
 use native.Mathlib.Omega.{arith}
 use Rattle.arguments.proofs.mask_zero.Goals as goal
 use Rattle.arguments.proofs.mask_zero.Goals.{then-i-t+else-t-i-ne0, else-i-t}

@@ -1,5 +1,4 @@
 use Rattle.arguments.proofs.Cases.{tables}
-use borrow.Author.Rules.{rules}
 use Rattle.arguments.proofs.row_at.Goals as goal
 
 pub returns-then-n-tb : goal.returns-then-n-tb

@@ -1,5 +1,4 @@
 use Rattle.arguments.proofs.Cases.{size_in, size_out}
-use borrow.Author.Rules.{rules}
 use Rattle.arguments.proofs.size_of.Goals as goal
 
 pub returns-then-d-wide32 : goal.returns-then-d-wide32

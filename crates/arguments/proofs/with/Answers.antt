@@ -1,10 +1,7 @@
 use borrow.Author.Rules.{rules}
 use native.Mathlib.Omega.{arith}
 use Rattle.arguments.proofs.Variables.{with_more, with_last}
-use Prim.Native.Nat.{◌≤◌, ◌-◌}
-use mathlib.Core.Path.{◌≡◌, refl}
-use lib.ListN.{length}
-use lib.Seq.{paste}
+use mathlib.Core.Path.{refl}
 use Rattle.arguments.proofs.with.Goals as goal
 
 pub loop-i-init : goal.loop-i-init

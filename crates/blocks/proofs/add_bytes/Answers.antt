@@ -1,9 +1,5 @@
-use mathlib.Core.Path.{◌≡◌, ◌∙◌}
-use Prim.Native.Nat.{◌+◌, ◌*◌, ◌-◌, ◌≤◌}
+use mathlib.Core.Path.{◌∙◌}
 use native.Mathlib.Omega.{arith}
-use lib.ListN.{length, drop}
-use borrow.Author.Rules.{rules}
-use Rattle.eb3.specs.Laws.Blocks.{plain_sums}
 use Rattle.blocks.proofs.Sums.{plain_next, plain_eight, plain_end}
 use Rattle.blocks.proofs.add_bytes.Goals as goal
 

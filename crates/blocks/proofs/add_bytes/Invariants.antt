@@ -1,12 +1,9 @@
 -- The bytes still to come, added to the sums so far, give the whole sums; each byte adds at most 255 to a and at most 131,070 to b.
 -- The second loop goes on from where the first stopped.
-use mathlib.Core.Path.{◌≡◌, ◌∙◌}
+use mathlib.Core.Path.{◌≡◌}
 use Prim.Native.Nat.{◌+◌, ◌*◌, ◌-◌, ◌≤◌}
-use native.Mathlib.Omega.{arith}
 use lib.ListN.{length, drop}
-use borrow.Author.Rules.{rules}
 use Rattle.eb3.specs.Laws.Blocks.{plain_sums}
-use Rattle.blocks.proofs.Sums.{plain_next, plain_eight, plain_end}
 use Rattle.blocks.proofs.add_bytes.Given as goal
 
 -- The bytes still to come, added to the sums so far, give the whole sums; each byte adds at most 255 to a and at most 131,070 to b.

@@ -1,4 +1,3 @@
-use borrow.Author.Rules.{rules}
 use Rattle.eb3.specs.Blocks.{block_right}
 use Rattle.blocks.proofs.Right.{word_wrong, word_right, sum_wrong, sum_right}
 use Rattle.blocks.proofs.check_block.Goals as goal

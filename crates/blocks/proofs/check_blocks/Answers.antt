@@ -1,8 +1,6 @@
 use mathlib.Core.Path.{◌≡◌, ap}
-use Prim.Native.Nat.{◌*◌, ◌-◌, ◌≤◌}
+use Prim.Native.Nat.{◌-◌}
 use native.Mathlib.Omega.{arith}
-use lib.ListN.{drop}
-use borrow.Author.Rules.{rules}
 use Rattle.eb3.specs.Blocks.{blocks_right}
 use Rattle.blocks.proofs.Right.{blocks_wrong, blocks_next, blocks_end}
 use Rattle.blocks.proofs.check_blocks.Goals as goal

@@ -1,11 +1,8 @@
 -- All blocks are right where those from block i on are.
-use mathlib.Core.Path.{◌≡◌, ap}
+use mathlib.Core.Path.{◌≡◌}
 use Prim.Native.Nat.{◌*◌, ◌-◌, ◌≤◌}
-use native.Mathlib.Omega.{arith}
 use lib.ListN.{drop}
-use borrow.Author.Rules.{rules}
 use Rattle.eb3.specs.Blocks.{blocks_right}
-use Rattle.blocks.proofs.Right.{blocks_wrong, blocks_next, blocks_end}
 use Rattle.blocks.proofs.check_blocks.Given as goal
 
 -- All blocks are right where those from block i on are.

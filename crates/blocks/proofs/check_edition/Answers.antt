@@ -1,4 +1,3 @@
-use borrow.Author.Rules.{rules}
 use Rattle.blocks.proofs.Right.{word_wrong, word_right, word_is}
 use Rattle.blocks.proofs.check_edition.Goals as goal
 

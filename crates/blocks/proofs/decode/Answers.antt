@@ -1,10 +1,5 @@
-use mathlib.Core.Path.{◌≡◌}
-use mathlib.Core.List.{◌++◌}
-use Prim.Native.Nat.{◌*◌, ◌-◌, ◌≤◌}
 use native.Mathlib.Omega.{arith}
-use lib.ListN.{length, take, drop, length-set}
-use borrow.Author.Rules.{rules}
-use Rattle.eb3.specs.Bytes.{words_in}
+use lib.ListN.{length-set}
 use Rattle.blocks.proofs.Joining.{decode_next, decode_end}
 use Rattle.blocks.proofs.decode.Goals as goal
 

@@ -2,11 +2,8 @@
 use mathlib.Core.Path.{◌≡◌}
 use mathlib.Core.List.{◌++◌}
 use Prim.Native.Nat.{◌*◌, ◌-◌, ◌≤◌}
-use native.Mathlib.Omega.{arith}
-use lib.ListN.{length, take, drop, length-set}
-use borrow.Author.Rules.{rules}
+use lib.ListN.{length, take, drop}
 use Rattle.eb3.specs.Bytes.{words_in}
-use Rattle.blocks.proofs.Joining.{decode_next, decode_end}
 use Rattle.blocks.proofs.decode.Given as goal
 
 -- The words stored, and those of the bytes still to come, are the words of the content.

@@ -1,9 +1,6 @@
 use mathlib.Core.Path.{◌≡◌, refl, ap}
-use mathlib.Core.List.{◌++◌}
-use Prim.Native.Nat.{◌*◌, ◌-◌, ◌≤◌}
+use Prim.Native.Nat.{◌-◌}
 use native.Mathlib.Omega.{arith}
-use lib.ListN.{length, take, drop}
-use borrow.Author.Rules.{rules}
 use Rattle.eb3.specs.Bytes.{words_in}
 use Rattle.eb3.specs.Blocks.{contents}
 use Rattle.blocks.proofs.Joining.{join_more, join_behind, join_end}

@@ -1,13 +1,10 @@
 -- The words stored, and those of the blocks still to come, are the stream; behind them the array is as it was.
-use mathlib.Core.Path.{◌≡◌, refl, ap}
+use mathlib.Core.Path.{◌≡◌}
 use mathlib.Core.List.{◌++◌}
 use Prim.Native.Nat.{◌*◌, ◌-◌, ◌≤◌}
-use native.Mathlib.Omega.{arith}
 use lib.ListN.{length, take, drop}
-use borrow.Author.Rules.{rules}
 use Rattle.eb3.specs.Bytes.{words_in}
 use Rattle.eb3.specs.Blocks.{contents}
-use Rattle.blocks.proofs.Joining.{join_more, join_behind, join_end}
 use Rattle.blocks.proofs.join.Given as goal
 
 -- The words stored, and those of the blocks still to come, are the stream; behind them the array is as it was.

@@ -1,5 +1,4 @@
 -- The tests in order, `t` where the three of the length have passed.
-use borrow.Author.Rules.{rules}
 use Rattle.blocks.proofs.Cases.{open_odd, open_few, open_many, open_wrong, open_other, open_fine}
 use Rattle.blocks.proofs.open.Goals as goal
 

@@ -1,5 +1,4 @@
 use native.Mathlib.Omega.{arith}
-use borrow.Author.Rules.{rules}
 use Rattle.blocks.proofs.Remainders.{less_quotient}
 use Rattle.blocks.proofs.remainder_255.Goals as goal
 

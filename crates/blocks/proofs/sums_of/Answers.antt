@@ -1,6 +1,5 @@
 use native.Mathlib.Omega.{arith}
 use lib.ListN.{length-take, length-drop}
-use borrow.Author.Rules.{rules}
 use Rattle.blocks.proofs.Sums.{head_room, sums_found}
 use Rattle.blocks.proofs.sums_of.Goals as goal
 

@@ -1,5 +1,4 @@
 use native.Mathlib.Omega.{arith}
-use borrow.Author.Rules.{rules}
 use Rattle.blocks.proofs.Remainders.{folded_twice}
 use Rattle.blocks.proofs.under_255.Goals as goal
 

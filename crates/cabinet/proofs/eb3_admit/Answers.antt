@@ -1,5 +1,4 @@
 use Rattle.cabinet.proofs.Cases.{admit_gives, admit_refuses}
-use borrow.Author.Rules.{rules}
 use Rattle.cabinet.proofs.eb3_admit.Goals as goal
 
 pub returns-in-Sizes : goal.returns-in-Sizes

@@ -1,5 +1,4 @@
 use Rattle.cabinet.proofs.Cases.{count_gives, count_refuses}
-use borrow.Author.Rules.{rules}
 use Rattle.cabinet.proofs.eb3_count.Goals as goal
 
 pub returns-in-Moves : goal.returns-in-Moves

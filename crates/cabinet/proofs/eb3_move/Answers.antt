@@ -2,7 +2,6 @@ use mathlib.Core.Path.{subst}
 use Rattle.eb3.specs.Operations.{move}
 use Rattle.engine.specs.Stepping.{Done}
 use Rattle.cabinet.proofs.Cases.{step_told}
-use borrow.Author.Rules.{rules}
 use Rattle.cabinet.proofs.eb3_move.Goals as goal
 
 pub returns : goal.returns

@@ -1,5 +1,4 @@
 use Rattle.cabinet.proofs.Cases.{step_told}
-use borrow.Author.Rules.{rules}
 use Rattle.cabinet.proofs.eb3_present.Goals as goal
 
 pub returns : goal.returns

@@ -1,5 +1,4 @@
 use Rattle.cabinet.proofs.Cases.{run_gives, run_refuses}
-use borrow.Author.Rules.{rules}
 use Rattle.cabinet.proofs.eb3_run.Goals as goal
 
 pub returns-in-Ended : goal.returns-in-Ended

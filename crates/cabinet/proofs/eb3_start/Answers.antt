@@ -1,5 +1,4 @@
 use Rattle.cabinet.proofs.Cases.{start_gives, start_refuses}
-use borrow.Author.Rules.{rules}
 use Rattle.cabinet.proofs.eb3_start.Goals as goal
 
 pub returns-in-Size : goal.returns-in-Size

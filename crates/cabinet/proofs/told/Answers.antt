@@ -1,5 +1,4 @@
 use Rattle.cabinet.proofs.Cases.{step_gives, step_refuses}
-use borrow.Author.Rules.{rules}
 use Rattle.cabinet.proofs.told.Goals as goal
 
 pub returns-in-Made : goal.returns-in-Made

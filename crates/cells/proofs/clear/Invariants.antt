@@ -1,10 +1,8 @@
 -- Each turn of the loop clears one word more (`cleared_next`).
-use lib.ListN.{length-set, length}
-use borrow.Author.Rules.{rules}
+use lib.ListN.{length}
 use Prim.Native.Nat.{◌-◌, ◌≤◌}
-use mathlib.Core.Path.{◌≡◌, refl}
-use native.Mathlib.Omega.{arith}
-use Rattle.cells.specs.PreparingLaws.{Cleared, cleared_start, cleared_next, cleared_end}
+use mathlib.Core.Path.{◌≡◌}
+use Rattle.cells.specs.PreparingLaws.{Cleared}
 use Rattle.cells.proofs.clear.Given as goal
 
 -- Each turn of the loop clears one word more (`cleared_next`).

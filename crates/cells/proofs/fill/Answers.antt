@@ -1,16 +1,6 @@
 use Rattle.cells.specs.TurnLaws.{row_bounded, fill_start, fill_next, fill_end}
-use borrow.Author.Rules.{rules}
-use Prim.Native.Nat.{◌-◌, ◌≤◌}
-use mathlib.Core.Path.{◌≡◌, refl, ◌∙◌}
-use lib.ListN.{length}
+use mathlib.Core.Path.{refl, ◌∙◌}
 use native.Mathlib.Omega.{arith}
-use mathlib.Core.Option.{Option}
-use Rattle.eb3.specs.Expressions.{Reading}
-use Rattle.eb3.specs.Terms.{VisibleAction}
-use Rattle.eb3.specs.Attributes.{Attributes}
-use Rattle.eb3.specs.Cells.{offset}
-use Rattle.cells.specs.Filling.{Filling}
-use Rattle.cells.specs.Turns.{Partly}
 use Rattle.cells.proofs.fill.Goals as goal
 
 pub loop-f-init : goal.loop-f-init

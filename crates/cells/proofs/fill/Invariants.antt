@@ -1,10 +1,7 @@
 -- Each turn of the loop is one function's (`fill_next`); after the last all cells are new (`fill_end`).
-use Rattle.cells.specs.TurnLaws.{row_bounded, fill_start, fill_next, fill_end}
-use borrow.Author.Rules.{rules}
 use Prim.Native.Nat.{◌-◌, ◌≤◌}
-use mathlib.Core.Path.{◌≡◌, refl, ◌∙◌}
+use mathlib.Core.Path.{◌≡◌}
 use lib.ListN.{length}
-use native.Mathlib.Omega.{arith}
 use mathlib.Core.Option.{Option}
 use Rattle.eb3.specs.Expressions.{Reading}
 use Rattle.eb3.specs.Terms.{VisibleAction}

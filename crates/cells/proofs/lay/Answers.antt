@@ -1,9 +1,7 @@
-use lib.ListN.{length-set, length}
-use borrow.Author.Rules.{rules}
-use Prim.Native.Nat.{◌-◌, ◌≤◌}
-use mathlib.Core.Path.{◌≡◌, refl}
+use lib.ListN.{length-set}
+use mathlib.Core.Path.{refl}
 use native.Mathlib.Omega.{arith}
-use Rattle.cells.specs.PreparingLaws.{Readying, readying_start, readying_next, readying_end}
+use Rattle.cells.specs.PreparingLaws.{readying_start, readying_next, readying_end}
 use Rattle.cells.proofs.lay.Goals as goal
 
 pub loop-i-init : goal.loop-i-init

@@ -1,10 +1,8 @@
 -- Each turn of the loop makes one word more ready (`readying_next`).
-use lib.ListN.{length-set, length}
-use borrow.Author.Rules.{rules}
+use lib.ListN.{length}
 use Prim.Native.Nat.{◌-◌, ◌≤◌}
-use mathlib.Core.Path.{◌≡◌, refl}
-use native.Mathlib.Omega.{arith}
-use Rattle.cells.specs.PreparingLaws.{Readying, readying_start, readying_next, readying_end}
+use mathlib.Core.Path.{◌≡◌}
+use Rattle.cells.specs.PreparingLaws.{Readying}
 use Rattle.cells.proofs.lay.Given as goal
 
 -- Each turn of the loop makes one word more ready (`readying_next`).

@@ -1,7 +1,6 @@
 -- The words that the memory has, and zeros behind them (`loading_zeros`), as far as there is room (`loading_end`).
 use native.Mathlib.Omega.{arith}
 use Rattle.cells.specs.PreparingLaws.{loading_zeros, loading_end}
-use borrow.Author.Rules.{rules}
 use Rattle.cells.proofs.load.Goals as goal
 
 pub returns : goal.returns

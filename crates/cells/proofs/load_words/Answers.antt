@@ -1,8 +1,6 @@
-use lib.ListN.{length-set, length}
-use mathlib.Core.Path.{◌≡◌, refl}
-use Rattle.cells.specs.PreparingLaws.{loaded_word, loading_done, Loading, loading_start, loading_next}
-use borrow.Author.Rules.{rules}
-use Prim.Native.Nat.{◌-◌, ◌≤◌}
+use lib.ListN.{length-set}
+use mathlib.Core.Path.{refl}
+use Rattle.cells.specs.PreparingLaws.{loaded_word, loading_done, loading_start, loading_next}
 use native.Mathlib.Omega.{arith}
 use Rattle.cells.proofs.load_words.Goals as goal
 

@@ -1,10 +1,8 @@
 -- Each turn of the loop puts one word more (`loading_next`).
-use lib.ListN.{length-set, length}
-use mathlib.Core.Path.{◌≡◌, refl}
-use Rattle.cells.specs.PreparingLaws.{loaded_word, loading_done, Loading, loading_start, loading_next}
-use borrow.Author.Rules.{rules}
+use lib.ListN.{length}
+use mathlib.Core.Path.{◌≡◌}
+use Rattle.cells.specs.PreparingLaws.{Loading}
 use Prim.Native.Nat.{◌-◌, ◌≤◌}
-use native.Mathlib.Omega.{arith}
 use Rattle.cells.proofs.load_words.Given as goal
 
 -- Each turn of the loop puts one word more (`loading_next`).

@@ -4,7 +4,6 @@ use Prim.Native.Nat.{◌-◌, ◌/◌, ◌%◌}
 use native.Mathlib.Omega.{arith}
 use Rattle.cells.specs.TurnLaws.{row_bounded}
 use Rattle.cells.specs.PreparingLaws.{ready_variable, ready_old, ready_row, ready_none}
-use borrow.Author.Rules.{rules}
 use Rattle.cells.proofs.ready_word.Goals as goal
 
 pub returns-then-i-lt3 : goal.returns-then-i-lt3

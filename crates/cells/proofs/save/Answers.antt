@@ -1,7 +1,6 @@
 -- There is no room (`saved_not`), or the cells are written (`saved_all`).
 use native.Mathlib.Omega.{arith}
 use Rattle.cells.specs.PreparingLaws.{saved_not, saved_all}
-use borrow.Author.Rules.{rules}
 use Rattle.cells.proofs.save.Goals as goal
 
 pub returns-then-m-lt36 : goal.returns-then-m-lt36

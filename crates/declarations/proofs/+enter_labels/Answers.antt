@@ -1,7 +1,5 @@
-use borrow.Author.Rules.{rules}
 use native.Mathlib.Omega.{arith}
 use Rattle.declarations.proofs.Cases.{entering, label_fits}
-use Prim.Native.Nat.{ℕ, ◌<◌}
 use Rattle.declarations.proofs.+enter_labels.Goals as goal
 
 pub returns-then-n-eq0 : goal.returns-then-n-eq0

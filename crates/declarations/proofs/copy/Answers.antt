@@ -1,9 +1,6 @@
-use borrow.Author.Rules.{rules}
 use native.Mathlib.Omega.{arith}
-use Prim.Native.Nat.{◌-◌, ◌≤◌}
-use mathlib.Core.Path.{◌≡◌, refl}
-use lib.ListN.{length}
-use lib.Seq.{paste, paste-zero}
+use mathlib.Core.Path.{refl}
+use lib.Seq.{paste-zero}
 use Rattle.scan.specs.Laws.{copy_len}
 use Rattle.declarations.proofs.Cases.{copy_more, copy_last}
 use Rattle.declarations.proofs.copy.Goals as goal

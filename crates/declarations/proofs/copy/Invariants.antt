@@ -1,11 +1,7 @@
-use borrow.Author.Rules.{rules}
-use native.Mathlib.Omega.{arith}
 use Prim.Native.Nat.{◌-◌, ◌≤◌}
-use mathlib.Core.Path.{◌≡◌, refl}
+use mathlib.Core.Path.{◌≡◌}
 use lib.ListN.{length}
-use lib.Seq.{paste, paste-zero}
-use Rattle.scan.specs.Laws.{copy_len}
-use Rattle.declarations.proofs.Cases.{copy_more, copy_last}
+use lib.Seq.{paste}
 use Rattle.declarations.proofs.copy.Given as goal
 
 abbrev pub invariant-loop-i : goal.invariant-loop-i

@@ -1,5 +1,4 @@
 use Rattle.declarations.proofs.NotingCases.{expressions_refused, expressions_noted}
-use borrow.Author.Rules.{rules}
 use Rattle.declarations.proofs.expressions.Goals as goal
 
 pub returns-in-Left : goal.returns-in-Left

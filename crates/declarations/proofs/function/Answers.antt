@@ -1,6 +1,5 @@
 use Rattle.declarations.proofs.NotingCases.{function_refused, function_stopped, function_noted}
 use native.Mathlib.Omega.{arith}
-use borrow.Author.Rules.{rules}
 use Rattle.declarations.proofs.function.Goals as goal
 
 pub returns-in-Left-expressions : goal.returns-in-Left-expressions

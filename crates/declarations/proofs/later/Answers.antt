@@ -1,7 +1,5 @@
-use borrow.Author.Rules.{rules}
 use native.Mathlib.Omega.{arith}
-use Prim.Native.Nat.{◌-◌}
-use Rattle.declarations.proofs.LaterCases.{Sofar, sofar_start, sofar_end, sofar_fail, sofar_next}
+use Rattle.declarations.proofs.LaterCases.{sofar_start, sofar_end, sofar_fail, sofar_next}
 use Rattle.declarations.proofs.later.Goals as goal
 
 pub loop-l-init : goal.loop-l-init

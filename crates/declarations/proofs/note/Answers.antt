@@ -1,7 +1,6 @@
 use mathlib.Core.Path.{ap, sym}
 use lib.ListN.{set}
 use lib.Seq.{set_out}
-use borrow.Author.Rules.{rules}
 use Rattle.declarations.proofs.note.Goals as goal
 
 pub returns-then-at-dir : goal.returns-then-at-dir

@@ -1,4 +1,3 @@
-use borrow.Author.Rules.{rules}
 use Rattle.declarations.proofs.Cases.{rows}
 use Rattle.declarations.proofs.parameters.Goals as goal
 

@@ -2,7 +2,6 @@ use mathlib.Core.Path.{ap, ◌∙◌}
 use Rattle.declarations.proofs.FunctionCases.{place_small}
 use Prim.Native.Nat.{◌+◌, ◌*◌}
 use native.Mathlib.Omega.{arith}
-use borrow.Author.Rules.{rules}
 use Rattle.declarations.proofs.row_place.Goals as goal
 
 pub overflow_mul-result : goal.overflow_mul-result

@@ -1,8 +1,4 @@
-use borrow.Author.Rules.{rules}
 use native.Mathlib.Omega.{arith}
-use Prim.Native.Nat.{◌-◌}
-use Rattle.eb3.specs.Reading.{count_of}
-use Rattle.scan.specs.RowLaws.{Repeating}
 use Rattle.declarations.proofs.Cases.{rows}
 use Rattle.declarations.proofs.sizes.Goals as goal
 

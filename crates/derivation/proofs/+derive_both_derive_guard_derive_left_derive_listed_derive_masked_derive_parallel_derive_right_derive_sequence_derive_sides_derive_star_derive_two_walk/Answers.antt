@@ -11,10 +11,8 @@ use Rattle.derivation.proofs.Arms.{internal_derived, perform_derived, two_lost, 
 use Rattle.derivation.proofs.Listed.{lent_few, listed_lost_first, whole_length, listed_lost_second, listed_fits, listed_none, listed_sides}
 use Rattle.derivation.proofs.Idle.{right_derived, left_lost, left_found, left_passed, masked_right, masked_left, masked_listed}
 use Rattle.derivation.proofs.Parallels.{parallel_done, parallel_covered, parallel_masked}
-use borrow.Author.Rules.{rules}
 use native.Mathlib.Omega.{arith}
 use lib.ListN.{length}
-use Prim.Native.Nat.{ℕ, ◌<◌, ◌+◌, ◌*◌}
 use Rattle.derivation.proofs.+derive_both_derive_guard_derive_left_derive_listed_derive_masked_derive_parallel_derive_right_derive_sequence_derive_sides_derive_star_derive_two_walk.Goals as goal
 
 pub derive_both-walk-q-requires : goal.derive_both-walk-q-requires

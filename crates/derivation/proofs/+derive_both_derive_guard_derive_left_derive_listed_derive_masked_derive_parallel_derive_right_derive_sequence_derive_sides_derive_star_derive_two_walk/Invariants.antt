@@ -1,23 +1,9 @@
 -- The search for a path and its parts, which call one another, meet their contracts. Where a part returns, a case of proofs/ says what it answers.
 -- The measures of the cycle: eight times the words of the term at hand, with a part above what it calls on the same words; and the contracts that each
 -- member reads.
-use Rattle.derivation.proofs.Sides.{both_none_right, place_in, front_few, both_none_left, both_made, sides_none_left, sides_left_made, sides_none_right, sides_right_made, sides_together}
-use lib.ListN.{length, drop, length-append}
-use lib.Seq.{length-take-le}
-use mathlib.Core.Path.{refl, sym, ap, ◌∙◌}
-use lib.Dec.{lit<}
-use Rattle.scan.specs.Laws.{behind_len, last_len}
-use Rattle.listing.specs.Operands.{answer_is, front_len, mask_len}
-use Rattle.derivation.specs.AnswerLaws.{sized}
-use Rattle.derivation.proofs.Answers.{sound_single}
-use Rattle.derivation.proofs.Arms.{internal_derived, perform_derived, two_lost, two_left, rest_count, two_right, choice_derived, sequence_right, sequence_lost, sequence_found, sequence_passed, star_end, star_round, guard_shut, guard_open, at_front, other_derived}
-use Rattle.derivation.proofs.Listed.{lent_few, listed_lost_first, whole_length, listed_lost_second, listed_fits, listed_none, listed_sides}
-use Rattle.derivation.proofs.Idle.{right_derived, left_lost, left_found, left_passed, masked_right, masked_left, masked_listed}
-use Rattle.derivation.proofs.Parallels.{parallel_done, parallel_covered, parallel_masked}
-use borrow.Author.Rules.{rules}
-use native.Mathlib.Omega.{arith}
 use lib.ListN.{length}
-use Prim.Native.Nat.{ℕ, ◌<◌, ◌+◌, ◌*◌}
+use lib.ListN.{length}
+use Prim.Native.Nat.{◌+◌, ◌*◌}
 use Rattle.derivation.proofs.+derive_both_derive_guard_derive_left_derive_listed_derive_masked_derive_parallel_derive_right_derive_sequence_derive_sides_derive_star_derive_two_walk.Given as goal
 
 abbrev pub decreases-derive_both : goal.decreases-derive_both

@@ -1,7 +1,6 @@
 -- A decision is written in front of a path, where there is room; any other answer is passed on.
 use native.Mathlib.Omega.{arith}
 use Rattle.derivation.proofs.Answers.{decided-kept, decided-lost, decided-made}
-use borrow.Author.Rules.{rules}
 use Rattle.derivation.proofs.decide.Goals as goal
 
 -- A decision is written in front of a path, where there is room; any other answer is passed on.

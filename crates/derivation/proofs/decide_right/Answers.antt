@@ -1,6 +1,5 @@
 -- The left operand's size is written in front of the path, then the decision in front of it.
 use Rattle.derivation.proofs.Answers.{decided-twice, placed_on}
-use borrow.Author.Rules.{rules}
 use Rattle.derivation.proofs.decide_right.Goals as goal
 
 pub decide-requires : goal.decide-requires

@@ -1,6 +1,5 @@
 -- Below no mask every move shows.
 use Rattle.derivation.proofs.Arms.{derived_all}
-use borrow.Author.Rules.{rules}
 use Rattle.derivation.proofs.derive.Goals as goal
 
 pub returns : goal.returns

@@ -1,7 +1,6 @@
 -- An action that is hidden is passed over; any other is one move.
 use native.Mathlib.Omega.{arith}
 use Rattle.derivation.proofs.Arms.{action_hidden, action_shown}
-use borrow.Author.Rules.{rules}
 use Rattle.derivation.proofs.derive_action.Goals as goal
 
 pub returns-then-in_set : goal.returns-then-in_set

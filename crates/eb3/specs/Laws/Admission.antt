@@ -1,6 +1,6 @@
 -- An admitted rule set is well-formed, and the stream is exactly its spelling with zeros behind it, so nothing is read as something else
 -- (document 01, "Blocks and the rule stream", refusals 1 to 8).
-use Rattle.std.specs.Prelude.{◌≡◌, refl, Bool, true, false, ◌&&◌, List, [], ◌∷◌, ◌++◌, ℕ, zero, suc, ◌*◌, ◌%◌, ◌≤◌, ◌<◌, T, eqb, leb, ltb, take}
+use Rattle.std.specs.Prelude.{◌≡◌, refl, ◌&&◌, List, [], ◌∷◌, ◌++◌, ℕ, zero, suc, ◌*◌, ◌%◌, ◌≤◌, ◌<◌, T, eqb, leb, ltb, take}
 use Rattle.std.proofs.Math.Path.{ap, subst}
 use Rattle.std.proofs.Common.{sym, ◌∙◌, arith, eqb→eq, length-append, length-take, length-drop}
 use Rattle.std.proofs.Math.Option.{Option, none, some}
@@ -16,11 +16,11 @@ use Rattle.eb3.specs.RuleSets.{RuleSet}
 use Rattle.eb3.specs.Unfolding.{unfold_main}
 use Rattle.eb3.specs.WellFormedness.{Form, WellFormed}
 use Rattle.eb3.specs.RuleSpelling.{rules_words, stream_words}
-use Rattle.eb3.specs.Reading.{Read, pick}
+use Rattle.eb3.specs.Reading.{Read}
 use Rattle.eb3.specs.Laws.Reading.{Sound}
 use Rattle.eb3.specs.Laws.RuleReading.{FormOf, rules_sound}
 use Rattle.eb3.specs.RuleReading.{read_rules}
-use Rattle.eb3.specs.Answers.{Answer, refused, answered, and_then, or_refused}
+use Rattle.eb3.specs.Answers.{answered, and_then, or_refused}
 use Rattle.eb3.specs.Laws.Answers.{not_both, answered_injective, and_then_answered, pick_answered}
 use Rattle.eb3.specs.Laws.Bytes.{words_counted}
 use Rattle.eb3.specs.Blocks.{block_bytes, content_bytes, content_words, content, contents, block_count, stream, whole_blocks, blocks_right, edition_in, Opened, open_blocks}

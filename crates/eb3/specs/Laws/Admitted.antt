@@ -1,10 +1,9 @@
 -- What holds of every admitted rule set (`admitted_facts`), put together from the laws of its parts.
-use Rattle.std.specs.Prelude.{◌≡◌, refl, List, [], ◌∷◌, ◌++◌, ℕ, ◌+◌, ◌-◌, ◌*◌, ◌≤◌, ◌<◌, T, leb, get_or}
+use Rattle.std.specs.Prelude.{◌≡◌, List, [], ◌∷◌, ◌++◌, ℕ, ◌+◌, ◌-◌, ◌*◌, ◌≤◌, ◌<◌, get_or}
 use Rattle.std.proofs.Math.Path.{ap, subst}
-use Rattle.std.proofs.Common.{sym, ◌∙◌, arith, leb→le, length-append}
+use Rattle.std.proofs.Common.{◌∙◌, arith, length-append}
 use Rattle.std.proofs.Math.ListN.{length, replicate}
 use Rattle.std.proofs.lemmas.List.{length-replicate}
-use Rattle.eb3.specs.Generic.Booleans.{T_fst, T_snd}
 use Rattle.eb3.specs.Generic.Positions.{Enumeration}
 use Rattle.eb3.specs.Terms.{Term}
 use Rattle.eb3.specs.Derivations.{DataState}
@@ -13,12 +12,11 @@ use Rattle.eb3.specs.Laws.Attributes.{value_empty, value_last, value_at_most}
 use Rattle.eb3.specs.Cells.{cell_at, initial_cells, renew}
 use Rattle.eb3.specs.Laws.Cells.{cells_counted, start_cell, renewed_cell}
 use Rattle.eb3.specs.Expressions.{Undefined, no_reading, environment, evaluate_data}
-use Rattle.eb3.specs.Semantics.{Situation, situation, system}
+use Rattle.eb3.specs.Semantics.{situation, system}
 use Rattle.eb3.specs.RuleSets.{RuleSet, label, main_process, attributes}
 use Rattle.eb3.specs.Laws.RuleSets.{functions_counted, function_is}
 use Rattle.eb3.specs.Unfolding.{unfold_main}
 use Rattle.eb3.specs.SourceTerms.{s_call, SourceDerivation, SourceEarlier}
-use Rattle.eb3.specs.Laws.SourceTerms.{well_formed_lower}
 use Rattle.eb3.specs.Laws.SourceDerivations.{main_call}
 use Rattle.eb3.specs.Laws.SourceOrder.{main_enumeration}
 use Rattle.eb3.specs.WellFormedness.{WellFormed}

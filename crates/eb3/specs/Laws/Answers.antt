@@ -1,8 +1,8 @@
 -- Taking an answer apart: what was answered passed every test before it.
 use Rattle.std.specs.Prelude.{◌≡◌, refl, Bool, true, false, ℕ, T}
-use Rattle.std.proofs.Common.{ap, sym, ◌∙◌, subst}
+use Rattle.std.proofs.Common.{ap, sym, subst}
 use Rattle.eb3.specs.Reading.{pick}
-use Rattle.eb3.specs.Answers.{Answer, refused, answered, and_then, Written}
+use Rattle.eb3.specs.Answers.{Answer, refused, answered, and_then}
 
 abbrev IsAnswer : {X : Type 0} → Answer X → Type 0
 IsAnswer (refused k) = ⊥

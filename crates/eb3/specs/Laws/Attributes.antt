@@ -1,5 +1,5 @@
 -- Attribute values: document 01's own equations (`value_empty`, `value_last`), and values stay at most the largest number (`value_at_most`).
-use Rattle.std.specs.Prelude.{◌≡◌, Bool, true, false, not, ◌&&◌, ◌||◌, T, eqb, ltb, length, get_or}
+use Rattle.std.specs.Prelude.{◌≡◌, Bool, true, false, not, ◌&&◌, ◌||◌, T, eqb, ltb, get_or}
 use Rattle.std.proofs.Math.Path.{refl, ap}
 use Rattle.std.proofs.Common.{sym, ◌∙◌, subst, ltb→lt, lt→ltb}
 use Rattle.std.proofs.Math.Bool.{cond}

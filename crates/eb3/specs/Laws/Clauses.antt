@@ -1,12 +1,12 @@
 -- The clauses of size, reach, breadth and moves hold (`size_clauses`, `move_clauses`, `list_clauses`; document 01, "Unfolding, size and breadth" and "Moves, in
 -- order").
 use Rattle.std.specs.Prelude.{◌≡◌, refl, Bool, true, false, ◌&&◌, cond, List, [], ◌∷◌, ℕ, zero, suc, ◌+◌, ◌*◌, T, eqb, length}
-use Rattle.std.proofs.Common.{ap, sym, ◌∙◌, subst, arith, mul-suc, eqb→eq}
+use Rattle.std.proofs.Common.{ap, sym, subst, arith, mul-suc, eqb→eq}
 use Rattle.eb3.specs.Generic.AllLists.{All}
 use Rattle.eb3.specs.Generic.Booleans.{T_and, T_fst, T_snd, cond_false}
 use Rattle.eb3.specs.Generic.Lists.{filter}
 use Rattle.eb3.specs.Expressions.{Cond}
-use Rattle.eb3.specs.Terms.{Term, Done, Internal, Perform, Sequence, Choice, Star, Parallel, Guard, Mask, Action, internal, visible, VisibleAction, bit, in_mask, same_action, done?}
+use Rattle.eb3.specs.Terms.{Term, Done, Internal, Perform, Sequence, Choice, Star, Parallel, Guard, Mask, VisibleAction, in_mask, same_action, done?}
 use Rattle.eb3.specs.Laws.Terms.{same_action→eq, same_action_refl}
 use Rattle.eb3.specs.Sizes.{arguments_size, size, reach, breadth, zero_mask, parallel_breadth}
 use Rattle.eb3.specs.Moves.{moves}

@@ -1,5 +1,5 @@
 -- Demand 1 is met: every refusal has its number and writes nothing (`refusals`); in buffers of the reported sizes space never lacks (`space`).
-use Rattle.std.specs.Prelude.{◌≡◌, refl, Bool, true, false, ◌&&◌, List, [], ◌∷◌, ℕ, ◌≤◌, leb, length}
+use Rattle.std.specs.Prelude.{◌≡◌, refl, ◌&&◌, List, [], ◌∷◌, ℕ, ◌≤◌, length}
 use Rattle.std.proofs.Math.Path.{ap, subst}
 use Rattle.std.proofs.Common.{sym, ◌∙◌, arith, le→leb}
 use Rattle.std.proofs.Math.Option.{Option, none, some}
@@ -10,7 +10,7 @@ use Rattle.eb3.specs.Generic.Lists.{one_of, all_of, one_of_more}
 use Rattle.eb3.specs.Refusal
 use Rattle.eb3.specs.Terms.{Term, Action}
 use Rattle.eb3.specs.Moves.{Move}
-use Rattle.eb3.specs.Sizes.{size, reach, breadth}
+use Rattle.eb3.specs.Sizes.{reach}
 use Rattle.eb3.specs.Laws.Sizes.{size_below_reach}
 use Rattle.eb3.specs.Laws.CellCounts.{cells_below}
 use Rattle.eb3.specs.RuleSets.{RuleSet}

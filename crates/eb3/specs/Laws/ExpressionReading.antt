@@ -1,8 +1,8 @@
 -- The readers of data expressions and conditions are sound and complete: what they take is exactly a spelling of what stands in the scope.
-use Rattle.std.specs.Prelude.{◌≡◌, Bool, T, ltb, length}
+use Rattle.std.specs.Prelude.{◌≡◌, ltb, length}
 use Rattle.std.proofs.Math.Path.{refl, ap}
-use Rattle.std.proofs.Common.{sym, ◌∙◌, subst, arith, lt→ltb, length-append}
-use mathlib.Core.List.{List, [], ◌∷◌, ◌++◌, append_assoc}
+use Rattle.std.proofs.Common.{◌∙◌, subst, arith, lt→ltb, length-append}
+use mathlib.Core.List.{List, [], ◌∷◌, ◌++◌}
 use Prim.Native.Nat.{ℕ, zero, suc, ◌+◌, ◌≤◌, ◌<◌}
 use Rattle.std.proofs.Math.Dec.{leb, leb→le, le→leb}
 use Rattle.eb3.specs.Refusal
@@ -11,9 +11,9 @@ use Rattle.eb3.specs.Scopes.{Scope, DataInScope, ArgsInScope, CondInScope}
 use Rattle.eb3.specs.Sizes.{data_size, args_size, cond_size}
 use Rattle.eb3.specs.Spelling.{number_words, data_words, args_words, cond_words}
 use Rattle.eb3.specs.RuleSpelling.{one_word}
-use Rattle.eb3.specs.Reading.{refused, taken, Reader, pick, giving, then, both, number_of, by_number, number_in}
+use Rattle.eb3.specs.Reading.{taken, Reader, giving, both, number_of}
 use Rattle.eb3.specs.ExpressionReading.{DataKind, CondKind, Readers, data_kind, cond_kind, constant_of, args_of, data_by, cond_by, data_step, cond_step, readers, read_data, read_cond}
-use Rattle.eb3.specs.Laws.Reading.{picked, pick_true, by_code, Sound, Sounds, giving_sound, then_sound, both_sound, spell_both, Both, number_sound, number_in_sound, Takes, both_takes, number_takes, number_in_takes}
+use Rattle.eb3.specs.Laws.Reading.{picked, pick_true, by_code, Sound, Sounds, giving_sound, both_sound, spell_both, Both, number_sound, Takes, both_takes, number_takes}
 use Rattle.eb3.specs.Laws.Spelling.{data_length, cond_length}
 use Rattle.eb3.specs.Laws.ReadingCombined.{two_sound, two_takes, by_number_sound, by_number_takes, judged_sound, judged_takes}
 

@@ -1,8 +1,8 @@
 -- "Each variable becomes a constant" (document 01, "Unfolding, size and breadth"; its words are in UnfoldingClauses): an expression whose variables became
 -- constants has the value that it has with the variables' values, so a guard of the unfolding holds exactly if the written one does (`guard_instance`).
-use Rattle.std.specs.Prelude.{◌≡◌, refl, not, ◌&&◌, ◌||◌, cond, List, [], ◌∷◌, map, ℕ, zero, suc, ◌≤◌, ◌<◌, length, get_or}
-use Rattle.std.proofs.Common.{ap, sym, arith}
-use Rattle.eb3.specs.Values.{Value, undefined, number, add, subtract, equal, less}
+use Rattle.std.specs.Prelude.{◌≡◌, refl, not, ◌&&◌, ◌||◌, cond, [], ◌∷◌, ℕ, zero, suc, ◌≤◌, ◌<◌, length, get_or}
+use Rattle.std.proofs.Common.{ap, arith}
+use Rattle.eb3.specs.Values.{number, add, subtract, equal, less}
 use Rattle.eb3.specs.Expressions.{Data, Undefined, Constant, Variable, Add, Subtract, If, Now, Before, Args, Nil, Cons, Cond, Equal, Less, And, Or, Not, True, Reading, no_reading, Environment, variables, environment, evaluate_data, evaluate_args, evaluate_cond}
 use Rattle.eb3.specs.Attributes.{Attributes, guard_holds}
 use Rattle.eb3.specs.Scopes.{Scope, DataInScope, ArgsInScope, CondInScope, guard_scope}

@@ -1,5 +1,5 @@
 -- Refusals 7 and 8 and the sizes reported, from measures cut off at 65,536: the same as from main's unfolding (`judged_alike`).
-use Rattle.std.specs.Prelude.{◌≡◌, refl, Bool, true, false, List, ℕ, ◌≤◌, ◌<◌, T, leb}
+use Rattle.std.specs.Prelude.{◌≡◌, refl, Bool, true, false, List, ℕ, ◌≤◌, leb}
 use Rattle.std.proofs.Math.Path.{ap, sym}
 use Rattle.std.proofs.Common.{◌∙◌, arith, le→leb}
 use Rattle.std.proofs.Math.Decide.{dec_le}

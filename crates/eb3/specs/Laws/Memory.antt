@@ -1,14 +1,14 @@
 -- Cells written into a memory are read back as the same values (document 01: undefined is stored as 65,535, above every number).
-use Rattle.std.specs.Prelude.{◌≡◌, ℕ, ◌≤◌, ◌<◌, length, take, drop}
+use Rattle.std.specs.Prelude.{◌≡◌, ℕ, ◌<◌, length, take}
 use Rattle.std.proofs.Math.Path.{refl, ap}
-use Rattle.std.proofs.Common.{sym, ◌∙◌, take_at}
-use mathlib.Core.List.{List, [], ◌∷◌, ◌++◌, map}
+use Rattle.std.proofs.Common.{◌∙◌, take_at}
+use mathlib.Core.List.{List, [], ◌∷◌, map}
 use native.Mathlib.Omega.{arith}
 use Rattle.std.proofs.lemmas.List.{length-map}
 use Rattle.eb3.specs.Values.{Value, undefined, number, encode, decode}
 use Rattle.eb3.specs.Laws.Values.{decode_encode}
 use Rattle.eb3.specs.Laws.Cells.{ValuesAtMost}
-use Rattle.eb3.specs.Bytes.{words_in, written}
+use Rattle.eb3.specs.Bytes.{written}
 use Rattle.eb3.specs.Laws.Bytes.{written_words}
 use Rattle.eb3.specs.Laws.Spelling.{Small}
 use Rattle.eb3.specs.Memory.{undefined_cell, memory_words, cells_in}

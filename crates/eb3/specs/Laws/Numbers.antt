@@ -1,5 +1,5 @@
 -- Document 01's numbers are ours (`numbers`).
-use Rattle.std.specs.Prelude.{◌≡◌, refl, ℕ, eqb}
+use Rattle.std.specs.Prelude.{refl, eqb}
 use Rattle.std.proofs.Common.{eqb→eq}
 use Rattle.eb3.specs.Editions.{edition_of}
 use Rattle.eb3.specs.Numbers.{Numbers}

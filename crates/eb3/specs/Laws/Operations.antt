@@ -1,32 +1,27 @@
 -- What the operations read back of what they wrote: a running term's words are that term, and a memory of values is those values.
-use Rattle.std.specs.Prelude.{◌≡◌, refl, Bool, ◌&&◌, List, ◌++◌, ℕ, ◌+◌, ◌*◌, ◌%◌, ◌≤◌, T, eqb, leb, length, replicate, take}
-use Rattle.std.proofs.Common.{ap, sym, ◌∙◌, subst, arith, le→leb}
-use Rattle.std.proofs.Math.Option.{Option, some}
-use Rattle.std.proofs.Math.Dec.{eqb_refl}
-use Rattle.eb3.specs.Generic.Booleans.{T_and}
+use Rattle.std.specs.Prelude.{◌≡◌, List, ◌++◌, ℕ, ◌*◌, ◌%◌, T, eqb, length, take}
+use Rattle.std.proofs.Common.{ap, sym, ◌∙◌, subst, arith}
 use Rattle.eb3.specs.Refusal
 use Rattle.eb3.specs.Terms.{Term}
-use Rattle.eb3.specs.Attributes.{Trace, number_of_functions}
-use Rattle.eb3.specs.Cells.{total_cells, all_values}
+use Rattle.eb3.specs.Attributes.{Trace}
+use Rattle.eb3.specs.Cells.{all_values}
 use Rattle.eb3.specs.Laws.Cells.{length_values, values_at_most}
-use Rattle.eb3.specs.Semantics.{Sem_T}
-use Rattle.eb3.specs.Sizes.{size, reach}
+use Rattle.eb3.specs.Sizes.{size}
 use Rattle.eb3.specs.RuleSets.{RuleSet, label, attributes}
 use Rattle.eb3.specs.Laws.RuleSets.{functions_counted}
-use Rattle.eb3.specs.WellFormedness.{WellFormedTerm, WellFormedTrace, Running, Form, WellFormed}
+use Rattle.eb3.specs.WellFormedness.{WellFormedTerm, WellFormedTrace, Running, Form}
 use Rattle.eb3.specs.Laws.MainRunning.{small_domains}
 use Rattle.eb3.specs.Laws.Running.{expressions_in_scope, parameters_small, trace_small}
 use Rattle.eb3.specs.Spelling.{words}
 use Rattle.eb3.specs.Laws.Spelling.{Small, words_length, words_small}
-use Rattle.eb3.specs.Reading.{pick}
 use Rattle.eb3.specs.Laws.Reading.{pick_true}
 use Rattle.eb3.specs.Laws.TermReading.{given_term_exact}
-use Rattle.eb3.specs.Bytes.{words_in, bytes_of, word_count, written}
+use Rattle.eb3.specs.Bytes.{words_in, bytes_of, written}
 use Rattle.eb3.specs.Laws.Bytes.{bytes_length, bytes_back, written_cut}
-use Rattle.eb3.specs.Memory.{cell_room, memory_words}
-use Rattle.eb3.specs.Laws.Memory.{memory_length, cells_back}
-use Rattle.eb3.specs.Answers.{Answer, refused, answered}
-use Rattle.eb3.specs.Operations.{even, term_in, cells_given, cells_needed, main_reach, term_fits, memory_fits}
+use Rattle.eb3.specs.Memory.{memory_words}
+use Rattle.eb3.specs.Laws.Memory.{cells_back}
+use Rattle.eb3.specs.Answers.{answered}
+use Rattle.eb3.specs.Operations.{even, term_in, cells_given, cells_needed}
 use Rattle.eb3.specs.Answers.{or_refused}
 use Rattle.eb3.specs.Laws.Editions.{form_proper}
 

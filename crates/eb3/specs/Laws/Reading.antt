@@ -1,16 +1,15 @@
 -- Laws of readers, for any reader. Soundness: what is taken is spelled by the words taken, and has a property (`Sound`).
 -- Completeness: a spelling in front is taken, whatever stands behind it (`Takes`).
-use Rattle.std.specs.Prelude.{◌≡◌, Bool, true, false, T, eqb, ltb, leb, length, get_or}
+use Rattle.std.specs.Prelude.{◌≡◌, Bool, true, false, T, eqb, ltb, leb, length}
 use Rattle.std.proofs.Math.Path.{refl, ap, sym, subst}
 use Rattle.std.proofs.Common.{◌∙◌, arith, eqb→eq, ltb→lt, lt→ltb, leb→le, le→leb}
 use mathlib.Core.List.{List, [], ◌∷◌, ◌++◌, append_assoc}
 use Prim.Native.Nat.{ℕ, zero, suc, ◌+◌, ◌*◌, ◌/◌, ◌%◌, ◌≤◌, ◌<◌}
-use Rattle.std.proofs.Math.Dec.{eqb_refl}
 use Rattle.eb3.specs.Refusal
 use Rattle.eb3.specs.Generic.Lists.{concat_map}
 use Rattle.eb3.specs.Spelling.{number_words}
 use Rattle.eb3.specs.RuleSpelling.{one_word, counted_words}
-use Rattle.eb3.specs.Reading.{Read, refused, taken, Reader, pick, giving, then, both, number_of, by_number, count_of, repeat, counted, for_each, series, number_in}
+use Rattle.eb3.specs.Reading.{Read, refused, taken, Reader, pick, giving, then, both, number_of, count_of, repeat, counted, for_each, series, number_in}
 use Rattle.eb3.specs.Generic.AllLists.{All, AllFor, AllFrom}
 
 -- Tests.

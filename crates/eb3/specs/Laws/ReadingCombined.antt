@@ -1,7 +1,7 @@
 -- Laws of readers that recur: two operands behind a code, a number that says what follows, a number that is judged.
-use Rattle.std.specs.Prelude.{◌≡◌, refl, Bool, List, [], ◌∷◌, ◌++◌, ℕ, ◌≤◌, ◌<◌, T}
+use Rattle.std.specs.Prelude.{◌≡◌, Bool, List, [], ◌∷◌, ◌++◌, ℕ, ◌≤◌, ◌<◌, T}
 use Rattle.std.proofs.Math.Path.{ap}
-use Rattle.std.proofs.Common.{sym, ◌∙◌, subst, append_assoc}
+use Rattle.std.proofs.Common.{sym, ◌∙◌, append_assoc}
 use Rattle.eb3.specs.Spelling.{number_words}
 use Rattle.eb3.specs.RuleSpelling.{one_word}
 use Rattle.eb3.specs.Reading.{refused, taken, Reader, pick, giving, then, both, number_of, by_number, number_in}

@@ -1,8 +1,8 @@
 -- A reader of the rule stream refuses by 4, 5 or 6 and by no other number; so an admission refuses by 1 to 8 (document 01, the table of refusals).
-use Rattle.std.specs.Prelude.{◌≡◌, refl, Bool, true, false, T, eqb, ltb, leb, length, get_or}
-use Rattle.std.proofs.Common.{ap, sym, ◌∙◌, subst}
+use Rattle.std.specs.Prelude.{◌≡◌, Bool, true, false, T, eqb, ltb, leb, length, get_or}
+use Rattle.std.proofs.Common.{subst}
 use mathlib.Core.List.{List, [], ◌∷◌, ◌++◌}
-use Prim.Native.Nat.{ℕ, zero, suc, ◌+◌, ◌*◌, ◌-◌, ◌^◌, min}
+use Prim.Native.Nat.{ℕ, zero, suc, ◌+◌, ◌-◌, ◌^◌, min}
 use Rattle.std.proofs.Math.Option.{Option, none, some}
 use Rattle.eb3.specs.Limits
 use Rattle.eb3.specs.Refusal
@@ -16,9 +16,8 @@ use Rattle.eb3.specs.Unfolding.{unfold_main}
 use Rattle.eb3.specs.Reading.{Read, refused, taken, Reader, pick, giving, then, both, number_of, by_number, count_of, repeat, counted, for_each, series, number_in}
 use Rattle.eb3.specs.ExpressionReading.{DataKind, CondKind, data_kind, cond_kind, constant_of, args_of, Readers, data_by, cond_by, data_step, cond_step, readers, read_data, read_cond}
 use Rattle.eb3.specs.TermReading.{mask_of}
-use Rattle.eb3.specs.RuleReading.{read_domains, read_labels, read_parameter_counts, count_for, at_start_scope, at_label_scope, function_from, read_function, read_functions, argument_of, arguments_of, rule_action_of, call_of, choice_over_of, parallel_over_of, RuleKind, rule_kind, rule_by, rule_step, rule_terms, read_rule_term, parameter_limit, read_process, with_process, read_processes, without_processes, read_rules}
+use Rattle.eb3.specs.RuleReading.{read_domains, read_labels, read_parameter_counts, count_for, at_start_scope, at_label_scope, function_from, read_function, read_functions, argument_of, arguments_of, rule_action_of, call_of, choice_over_of, parallel_over_of, RuleKind, rule_kind, rule_by, rule_terms, read_rule_term, parameter_limit, read_process, with_process, read_processes, without_processes, read_rules}
 use Rattle.eb3.specs.Answers.{Answer, and_then, or_refused}
-use Rattle.eb3.specs.Laws.Answers.{not_both, refused_injective}
 use Rattle.eb3.specs.Blocks.{block_count, whole_blocks, blocks_right, edition_in, stream, open_blocks}
 use Rattle.eb3.specs.Admission.{ends_right, ended, within_limits, admission}
 

@@ -30,10 +30,10 @@ use Rattle.eb3.specs.Laws.RuleSets.{functions_counted, domain_is, get_d_map}
 use Rattle.eb3.specs.Laws.ParameterCounts.{CountsRead, counts_take}
 use Rattle.eb3.specs.Laws.RuleReading.{FormOf}
 use Rattle.eb3.specs.Laws.MainRunning.{small_domains}
-use Rattle.eb3.specs.Laws.Reading.{pick_true, spell_both, Both, Takes, both_takes, number_takes, count_takes, number_in_takes, repeat_takes, counted_takes, for_each_takes, series_takes, then_takes, exactly_takes}
+use Rattle.eb3.specs.Laws.Reading.{pick_true, spell_both, Both, Takes, both_takes, number_takes, count_takes, number_in_takes, counted_takes, for_each_takes, series_takes, then_takes, exactly_takes}
 use Rattle.eb3.specs.Laws.ExpressionReading.{data_takes, cond_takes}
 use Rattle.eb3.specs.Laws.TermReading.{mask_takes}
-use Rattle.eb3.specs.Generic.AllLists.{All, at_all, AllFor, AllFrom, at_all_for, at_all_from}
+use Rattle.eb3.specs.Generic.AllLists.{All, at_all, AllFor, at_all_for, at_all_from}
 use Rattle.eb3.specs.Laws.ReadingCombined.{two_takes, by_number_takes}
 use Rattle.eb3.specs.Laws.Editions.{form_proper}
 

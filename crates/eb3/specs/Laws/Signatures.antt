@@ -1,15 +1,15 @@
 -- A process term is read and measured by what stands before it and by no more: the largest number, the words of a constant, domains, labels, what a
 -- guard may name, and the processes' parameters (`read_alike`); appended processes change nothing of the measures before them (`rows_kept`).
-use Rattle.std.specs.Prelude.{◌≡◌, Bool, cond, eqb, ltb, leb, length}
+use Rattle.std.specs.Prelude.{◌≡◌, cond, eqb, ltb, leb, length}
 use Rattle.std.proofs.Math.Path.{refl, fun_ext}
-use Rattle.std.proofs.Common.{ap, sym, ◌∙◌, subst, arith}
+use Rattle.std.proofs.Common.{ap, sym, ◌∙◌, arith}
 use mathlib.Core.List.{List, [], ◌∷◌, ◌++◌, map}
 use Prim.Native.Nat.{ℕ, zero, suc, ◌+◌, ◌≤◌, ◌<◌}
 use Rattle.std.proofs.Math.ListN.{get_or, get_or-map, get_or-append}
 use Rattle.std.proofs.lemmas.List.{length-map}
 use Rattle.std.proofs.Math.Seq.{get_or-append_seam}
 use Rattle.eb3.specs.Refusal
-use Rattle.eb3.specs.Scopes.{Scope, guard_scope}
+use Rattle.eb3.specs.Scopes.{guard_scope}
 use Rattle.eb3.specs.Sizes.{arguments_size}
 use Rattle.eb3.specs.RuleSets.{Argument, RuleTerm, rule_internal, rule_perform, rule_sequence, rule_choice, rule_star, rule_parallel, rule_guard, choice_over, parallel_over, call, Process, RuleSet, domain_size, label, no_process, process, attributes}
 use Rattle.eb3.specs.Unfolding.{right_nest}

@@ -1,14 +1,12 @@
 -- Start is the run of no numbers, but that it writes no zeros (`start_is_run`).
-use Rattle.std.specs.Prelude.{◌≡◌, refl, ℕ, ◌*◌}
+use Rattle.std.specs.Prelude.{◌≡◌, ℕ, ◌*◌}
 use Rattle.std.proofs.Math.Path.{ap, sym}
 use Rattle.std.proofs.Common.{◌∙◌}
 use mathlib.Core.List.{List, [], ◌++◌, append-nil}
 use Rattle.std.proofs.Math.ListN.{length, take}
-use Rattle.eb3.specs.Cells.{all_values}
 use Rattle.eb3.specs.Laws.Cells.{initial_values}
 use Rattle.eb3.specs.TransitionSystems.{run as machine_run}
 use Rattle.eb3.specs.Machines.{history_run}
-use Rattle.eb3.specs.Sizes.{size}
 use Rattle.eb3.specs.RuleSets.{RuleSet, attributes}
 use Rattle.eb3.specs.Unfolding.{unfold_main}
 use Rattle.eb3.specs.WellFormedness.{WellFormed}
@@ -21,8 +19,8 @@ use Rattle.eb3.specs.Memory.{memory_words}
 use Rattle.eb3.specs.Answers.{answered, Sizes, Ran, Written}
 use Rattle.eb3.specs.Admission.{admission}
 use Rattle.eb3.specs.Laws.Admission.{admitted}
-use Rattle.eb3.specs.Operations.{sizes_needed, admit, start, run}
-use Rattle.eb3.specs.Demands.{Roomy, cut, after, run_result, Start_is_run}
+use Rattle.eb3.specs.Operations.{sizes_needed, admit, run}
+use Rattle.eb3.specs.Demands.{Roomy, cut, run_result, Start_is_run}
 use Rattle.eb3.specs.Laws.DemandOne.{start_writes}
 use Rattle.eb3.specs.Laws.DemandThree.{admit_reports, run_is, h}
 

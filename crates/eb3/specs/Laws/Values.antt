@@ -1,5 +1,5 @@
 -- Arithmetic and comparison in document 01's words (`arithmetic`); results stay at most the largest number; cells as words are faithful.
-use Rattle.std.specs.Prelude.{◌≡◌, refl, Bool, true, false, cond, ◌↔◌, ℕ, ◌+◌, ◌-◌, ◌≤◌, ◌<◌, T, eqb, ltb, leb}
+use Rattle.std.specs.Prelude.{◌≡◌, refl, Bool, true, false, cond, ◌↔◌, ℕ, ◌+◌, ◌-◌, ◌≤◌, ◌<◌, T, eqb, leb}
 use Rattle.std.proofs.Math.Path.{ap}
 use Rattle.std.proofs.Common.{sym, ◌∙◌, subst, arith, eqb→eq, ltb→lt, lt→ltb, le→leb}
 use Rattle.std.proofs.Math.Dec.{eqb_refl, leb→le}

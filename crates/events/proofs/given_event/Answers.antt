@@ -1,4 +1,3 @@
-use borrow.Author.Rules.{rules}
 use Rattle.events.proofs.Cases.{cases}
 use Rattle.events.proofs.given_event.Goals as goal
 

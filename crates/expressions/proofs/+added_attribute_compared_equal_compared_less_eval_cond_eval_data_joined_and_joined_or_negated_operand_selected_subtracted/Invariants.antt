@@ -1,13 +1,7 @@
 -- The two evaluators and their helpers, one cycle of calls. An evaluator falls to a helper on the words behind the code, and a helper to an
 -- evaluator on no more words than its own; what each returns is a case of `Cases` or of `Fronts`.
 use lib.ListN.{length}
-use Rattle.scan.specs.Laws.{behind_len, last_len}
-use Rattle.expressions.proofs.Cases.{paired, named, select_second, select_first, and_false, and_other, or_other, or_true, not_false, not_true}
-use Rattle.expressions.proofs.Fronts.{data_constant, data_variable, data_sum, data_difference, data_selection, data_present, data_past, data_none, cond_equality, cond_order, cond_conjunction, cond_disjunction, cond_negation, cond_truism, first_there}
-use Rattle.expressions.specs.Operands.{sum_word, difference_word, equal_word, less_word}
-use borrow.Author.Rules.{rules}
-use native.Mathlib.Omega.{arith}
-use Prim.Native.Nat.{ℕ, ◌+◌, ◌*◌, ◌<◌}
+use Prim.Native.Nat.{◌+◌, ◌*◌}
 use Rattle.expressions.proofs.+added_attribute_compared_equal_compared_less_eval_cond_eval_data_joined_and_joined_or_negated_operand_selected_subtracted.Given as goal
 
 abbrev pub decreases-added : goal.decreases-added

@@ -1,6 +1,5 @@
 -- A sum returns in two ways: it is a number, or not (`Words`).
 use Rattle.expressions.proofs.Words.{sum_fits, sum_over}
-use borrow.Author.Rules.{rules}
 use Rattle.expressions.proofs.add.Goals as goal
 
 pub returns-then-c-lt-UNDEFINED : goal.returns-then-c-lt-UNDEFINED

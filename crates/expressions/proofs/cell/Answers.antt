@@ -1,6 +1,5 @@
 -- A cell is read, or the argument lies outside the domain (`Words`).
 use Rattle.expressions.proofs.Words.{cell_there, cell_outside}
-use borrow.Author.Rules.{rules}
 use Rattle.expressions.proofs.cell.Goals as goal
 
 pub returns-then-x-word : goal.returns-then-x-word

@@ -1,6 +1,5 @@
 -- An answer is a value and the words left (`Words`).
 use Rattle.expressions.proofs.Words.{packed}
-use borrow.Author.Rules.{rules}
 use Rattle.expressions.proofs.pack.Goals as goal
 
 pub returns : goal.returns

@@ -2,7 +2,6 @@
 use Rattle.expressions.proofs.Cases.{variable_case}
 use Rattle.scan.specs.Laws.{behind_len}
 use native.Mathlib.Omega.{arith}
-use borrow.Author.Rules.{rules}
 use Rattle.expressions.proofs.variable.Goals as goal
 
 pub pack-requires : goal.pack-requires

@@ -1,6 +1,5 @@
 -- A word is there, or past the store's end (`Words`).
 use Rattle.expressions.proofs.Words.{word_there, word_past}
-use borrow.Author.Rules.{rules}
 use Rattle.expressions.proofs.word.Goals as goal
 
 pub returns-then-i-m : goal.returns-then-i-m

@@ -1,11 +1,9 @@
 use Prim.Native.Nat.{◌-◌, ◌≤◌}
 use lib.ListN.{length, take, drop}
-use Rattle.eb3.specs.ExpressionReading.{read_data, read_cond}
-use Rattle.grammar.specs.Scoping.{scope}
-use Rattle.grammar.proofs.RowCases.{Going, rows}
+use Rattle.grammar.proofs.RowCases.{rows}
 use borrow.Author.Rules.{rules}
 use native.Mathlib.Omega.{arith}
-use Prim.Native.Nat.{ℕ, ◌<◌}
+use Prim.Native.Nat.{◌<◌}
 use Rattle.grammar.proofs.+cond_row_data_row.Goals as goal
 
 pub cond_row-loop-more-init : goal.cond_row-loop-more-init

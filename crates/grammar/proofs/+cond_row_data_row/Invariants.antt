@@ -1,11 +1,8 @@
-use Prim.Native.Nat.{◌-◌, ◌≤◌}
-use lib.ListN.{length, take, drop}
+use Prim.Native.Nat.{◌-◌}
+use lib.ListN.{length}
 use Rattle.eb3.specs.ExpressionReading.{read_data, read_cond}
 use Rattle.grammar.specs.Scoping.{scope}
-use Rattle.grammar.proofs.RowCases.{Going, rows}
-use borrow.Author.Rules.{rules}
-use native.Mathlib.Omega.{arith}
-use Prim.Native.Nat.{ℕ, ◌<◌}
+use Rattle.grammar.proofs.RowCases.{Going}
 use Rattle.grammar.proofs.+cond_row_data_row.Given as goal
 
 abbrev pub decreases-cond_row : goal.decreases-cond_row

@@ -1,5 +1,4 @@
 use Rattle.grammar.proofs.RowCases.{rows}
-use borrow.Author.Rules.{rules}
 use Rattle.grammar.proofs.check_data.Goals as goal
 
 pub returns : goal.returns

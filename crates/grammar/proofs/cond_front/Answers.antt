@@ -1,5 +1,4 @@
 use Rattle.grammar.proofs.Cases.{fronts}
-use borrow.Author.Rules.{rules}
 use Rattle.grammar.proofs.cond_front.Goals as goal
 
 pub returns-then-s-at : goal.returns-then-s-at

@@ -1,6 +1,6 @@
 use mathlib.Core.Path.{refl, ap, ◌∙◌}
 use lib.Bits.{bit_or}
-use lib.ListN.{length, drop, length-set}
+use lib.ListN.{drop, length-set}
 use lib.Dec.{lit<}
 use native.Mathlib.Omega.{arith}
 use Rattle.scan.specs.Laws.{behind_len, last_len}
@@ -9,9 +9,7 @@ use Rattle.listing.proofs.Answers.{lent_few, star-lent, two-lost-first, two-lost
 use Rattle.listing.proofs.Arms.{internal_listed, choice_listed, at_front, other_listed, side_lost, side_listed, sequence_right, sequence_lost, sequence_left}
 use Rattle.listing.proofs.Sides.{star_none, star_lost, star_made, guard_shut, guard_open}
 use Rattle.listing.proofs.Parallels.{masked_lost_first, masked_few, masked_lost_second, masked_fits, masked_lost_made, masked_made, beside_left, beside_right, parallel_done, parallel_hidden, parallel_masked}
-use borrow.Author.Rules.{rules}
 use native.Mathlib.Omega.{arith}
-use Prim.Native.Nat.{ℕ, ◌<◌, ◌+◌, ◌*◌}
 use Rattle.listing.proofs.+list_combined_list_guard_list_masked_list_parallel_list_sequence_list_shown_list_side_list_star_list_two.Goals as goal
 
 pub list_combined-list_shown-l-requires : goal.list_combined-list_shown-l-requires

@@ -2,7 +2,6 @@ use mathlib.Core.Path.{◌∙◌}
 use lib.ListN.{length}
 use Rattle.scan.specs.Laws.{part}
 use Rattle.listing.specs.Operands.{mask_short_drop}
-use borrow.Author.Rules.{rules}
 use Rattle.listing.proofs.behind_mask.Goals as goal
 
 pub returns-then-n-ge4 : goal.returns-then-n-ge4

@@ -1,5 +1,4 @@
 use Rattle.listing.specs.Operands.{both_second, both_first}
-use borrow.Author.Rules.{rules}
 use Rattle.listing.proofs.both_done.Goals as goal
 
 pub returns-then-first-eq30 : goal.returns-then-first-eq30

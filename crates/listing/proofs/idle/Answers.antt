@@ -1,10 +1,7 @@
-use Rattle.listing.proofs.Skipping.{Idling, idle_start, idle_end, idle_unknown, idle_stops, idle_code, idle_all}
+use Rattle.listing.proofs.Skipping.{idle_start, idle_end, idle_unknown, idle_stops, idle_code, idle_all}
 use mathlib.Core.Path.{sym, ◌∙◌}
 use native.Mathlib.Omega.{arith}
-use borrow.Author.Rules.{rules}
 use native.Mathlib.Omega.{arith}
-use lib.ListN.{length}
-use Prim.Native.Nat.{◌+◌, ◌-◌, ◌*◌, ◌≤◌}
 use Rattle.listing.proofs.idle.Goals as goal
 
 pub loop-due-init : goal.loop-due-init

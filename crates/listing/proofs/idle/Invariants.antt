@@ -1,8 +1,4 @@
-use Rattle.listing.proofs.Skipping.{Idling, idle_start, idle_end, idle_unknown, idle_stops, idle_code, idle_all}
-use mathlib.Core.Path.{sym, ◌∙◌}
-use native.Mathlib.Omega.{arith}
-use borrow.Author.Rules.{rules}
-use native.Mathlib.Omega.{arith}
+use Rattle.listing.proofs.Skipping.{Idling}
 use lib.ListN.{length}
 use Prim.Native.Nat.{◌+◌, ◌-◌, ◌*◌, ◌≤◌}
 use Rattle.listing.proofs.idle.Given as goal

@@ -1,5 +1,4 @@
 use Rattle.listing.proofs.Answers.{all_listed}
-use borrow.Author.Rules.{rules}
 use Rattle.listing.proofs.list.Goals as goal
 
 pub returns : goal.returns

@@ -1,7 +1,6 @@
 use native.Mathlib.Omega.{arith}
 use Rattle.listing.proofs.Arms.{action_hidden, action_listed}
 use native.Mathlib.Omega.{arith}
-use borrow.Author.Rules.{rules}
 use Rattle.listing.proofs.list_action.Goals as goal
 
 pub returns-then-in_set : goal.returns-then-in_set

@@ -1,5 +1,4 @@
 use Rattle.listing.proofs.Answers.{one_none, one-made}
-use borrow.Author.Rules.{rules}
 use Rattle.listing.proofs.list_one.Goals as goal
 
 pub returns-then-acts-eq0 : goal.returns-then-acts-eq0

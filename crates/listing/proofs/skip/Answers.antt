@@ -1,7 +1,6 @@
 -- One term is a row.
 use mathlib.Core.Path.{refl}
 use mathlib.Core.List.{[], ◌∷◌}
-use borrow.Author.Rules.{rules}
 use Rattle.listing.specs.Rows.{row_of_one}
 use Rattle.listing.proofs.skip.Goals as goal
 

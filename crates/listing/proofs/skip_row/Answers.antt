@@ -1,9 +1,8 @@
-use borrow.Author.Rules.{rules}
-use Prim.Native.Nat.{◌+◌, ◌-◌, ◌*◌, ◌≤◌}
+use Prim.Native.Nat.{◌+◌}
 use native.Mathlib.Omega.{arith}
-use lib.ListN.{length, length-drop}
+use lib.ListN.{length-drop}
 use Rattle.scan.specs.Laws.{part}
-use Rattle.listing.proofs.Skipping.{Skipping, skip_start, skip_end, skip_unknown, skip_code, skip_action, skip_left, skip_beyond}
+use Rattle.listing.proofs.Skipping.{skip_start, skip_end, skip_unknown, skip_code, skip_action, skip_left, skip_beyond}
 use Rattle.listing.proofs.skip_row.Goals as goal
 
 pub loop-due-init : goal.loop-due-init

@@ -1,9 +1,6 @@
-use borrow.Author.Rules.{rules}
 use Prim.Native.Nat.{◌+◌, ◌-◌, ◌*◌, ◌≤◌}
-use native.Mathlib.Omega.{arith}
-use lib.ListN.{length, length-drop}
-use Rattle.scan.specs.Laws.{part}
-use Rattle.listing.proofs.Skipping.{Skipping, skip_start, skip_end, skip_unknown, skip_code, skip_action, skip_left, skip_beyond}
+use lib.ListN.{length}
+use Rattle.listing.proofs.Skipping.{Skipping}
 use Rattle.listing.proofs.skip_row.Given as goal
 
 abbrev pub invariant-loop-due : goal.invariant-loop-due

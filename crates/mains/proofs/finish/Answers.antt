@@ -1,6 +1,5 @@
 -- The words with the zeros behind them, and the cells, each written where there is room (`finished`).
 use Rattle.mains.proofs.MainCases.{finished}
-use borrow.Author.Rules.{rules}
 use Rattle.mains.proofs.finish.Goals as goal
 
 pub returns : goal.returns

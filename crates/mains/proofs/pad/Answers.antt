@@ -1,9 +1,8 @@
 use borrow.Author.Rules.{rules}
 use native.Mathlib.Omega.{arith}
-use mathlib.Core.Path.{◌≡◌, refl}
-use Prim.Native.Nat.{◌-◌, ◌≤◌}
-use lib.ListN.{length, length-set}
-use Rattle.cells.specs.PreparingLaws.{Cleared, cleared_start, cleared_next}
+use mathlib.Core.Path.{refl}
+use lib.ListN.{length-set}
+use Rattle.cells.specs.PreparingLaws.{cleared_start, cleared_next}
 use Rattle.mains.proofs.MainCases.{padded_end, padded_not}
 use Rattle.mains.proofs.pad.Goals as goal
 

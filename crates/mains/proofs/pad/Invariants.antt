@@ -1,11 +1,8 @@
 -- Each turn of the loop clears one word more (`cleared_next`); where there is no room nothing is done (`padded_not`).
-use borrow.Author.Rules.{rules}
-use native.Mathlib.Omega.{arith}
-use mathlib.Core.Path.{◌≡◌, refl}
+use mathlib.Core.Path.{◌≡◌}
 use Prim.Native.Nat.{◌-◌, ◌≤◌}
-use lib.ListN.{length, length-set}
-use Rattle.cells.specs.PreparingLaws.{Cleared, cleared_start, cleared_next}
-use Rattle.mains.proofs.MainCases.{padded_end, padded_not}
+use lib.ListN.{length}
+use Rattle.cells.specs.PreparingLaws.{Cleared}
 use Rattle.mains.proofs.pad.Given as goal
 
 -- Each turn of the loop clears one word more (`cleared_next`); where there is no room nothing is done (`padded_not`).

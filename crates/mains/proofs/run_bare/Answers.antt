@@ -5,7 +5,6 @@ use Rattle.scan.specs.Laws.{set_first}
 use mathlib.Core.Path.{◌∙◌}
 use lib.ListN.{length, length-set}
 use native.Mathlib.Omega.{arith}
-use borrow.Author.Rules.{rules}
 use Rattle.mains.proofs.run_bare.Goals as goal
 
 pub returns-then-d-eq0 : goal.returns-then-d-eq0

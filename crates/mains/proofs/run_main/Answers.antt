@@ -1,5 +1,4 @@
 -- A reach of up to 256 has room in the short words, one of up to 1,024 in the middle ones, and any other in the long ones.
-use borrow.Author.Rules.{rules}
 use Rattle.mains.proofs.run_main.Goals as goal
 
 pub returns-then-reach-le256 : goal.returns-then-reach-le256

@@ -1,6 +1,5 @@
 -- The run in main's own words and what is written, put together (`masked_run`).
 use Rattle.mains.proofs.MainCases.{masked_run}
-use borrow.Author.Rules.{rules}
 use Rattle.mains.proofs.run_masked.Goals as goal
 
 pub returns : goal.returns

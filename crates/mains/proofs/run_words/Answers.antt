@@ -5,7 +5,6 @@ use Prim.Native.Nat.{◌+◌, ◌≤◌}
 use lib.ListN.{length}
 use native.Mathlib.Omega.{arith}
 use Rattle.mains.proofs.MainCases.{words_bare, words_masked}
-use borrow.Author.Rules.{rules}
 use Rattle.mains.proofs.run_words.Goals as goal
 
 pub shareable-requires : goal.shareable-requires

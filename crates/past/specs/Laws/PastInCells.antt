@@ -10,7 +10,7 @@ use Rattle.std.proofs.lemmas.List.{length-replicate}
 use Rattle.eb3.specs.Refusal
 use Rattle.eb3.specs.Values.{Value}
 use Rattle.eb3.specs.Terms.{Term}
-use Rattle.eb3.specs.Moves.{Move, moves}
+use Rattle.eb3.specs.Moves.{moves}
 use Rattle.eb3.specs.Derivations.{state_after}
 use Rattle.eb3.specs.Attributes.{Trace}
 use Rattle.eb3.specs.Cells.{all_values}

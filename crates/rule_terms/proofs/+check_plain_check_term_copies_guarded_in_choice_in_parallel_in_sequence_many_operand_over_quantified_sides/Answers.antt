@@ -1,5 +1,3 @@
-use Prim.Native.Nat.{ℕ, ◌+◌, ◌*◌, ◌<◌}
-use lib.ListN.{length}
 use Rattle.scan.specs.Laws.{behind_len, last_len, by_number_pos}
 use Rattle.arguments.specs.VariableLaws.{with_length, with_few}
 use Rattle.rule_terms.proofs.Codes.{codes, parts, binders}

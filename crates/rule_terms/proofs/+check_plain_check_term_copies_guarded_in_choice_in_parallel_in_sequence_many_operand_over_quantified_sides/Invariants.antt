@@ -1,11 +1,5 @@
-use Prim.Native.Nat.{ℕ, ◌+◌, ◌*◌, ◌<◌}
+use Prim.Native.Nat.{◌+◌, ◌*◌}
 use lib.ListN.{length}
-use Rattle.scan.specs.Laws.{behind_len, last_len, by_number_pos}
-use Rattle.arguments.specs.VariableLaws.{with_length, with_few}
-use Rattle.rule_terms.proofs.Codes.{codes, parts, binders}
-use Rattle.rule_terms.proofs.Stars.{around, beyond_len, beyond_front}
-use borrow.Author.Rules.{rules}
-use native.Mathlib.Omega.{arith}
 use Rattle.rule_terms.proofs.+check_plain_check_term_copies_guarded_in_choice_in_parallel_in_sequence_many_operand_over_quantified_sides.Given as goal
 
 abbrev pub decreases-check_plain : goal.decreases-check_plain

@@ -1,4 +1,3 @@
-use borrow.Author.Rules.{rules}
 use Rattle.scan.specs.Laws.{part}
 use Rattle.rule_terms.proofs.beyond.Goals as goal
 

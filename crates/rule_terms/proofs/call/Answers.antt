@@ -1,5 +1,4 @@
 use Rattle.rule_terms.proofs.Leaves.{leaves}
-use borrow.Author.Rules.{rules}
 use Rattle.rule_terms.proofs.call.Goals as goal
 
 pub returns-in-Left-check_arguments : goal.returns-in-Left-check_arguments

@@ -1,4 +1,3 @@
-use borrow.Author.Rules.{rules}
 use Rattle.rule_terms.proofs.Binders.{condition_in}
 use Rattle.rule_terms.proofs.condition.Goals as goal
 

@@ -1,4 +1,3 @@
-use borrow.Author.Rules.{rules}
 use Rattle.rule_terms.proofs.Parts.{copied_parallel, copied_choice}
 use Rattle.rule_terms.proofs.copied.Goals as goal
 

@@ -1,4 +1,3 @@
-use borrow.Author.Rules.{rules}
 use Rattle.rule_terms.proofs.Parts.{mask_some, mask_none}
 use Rattle.rule_terms.proofs.mask_if.Goals as goal
 

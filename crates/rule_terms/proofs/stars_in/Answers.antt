@@ -1,8 +1,4 @@
-use borrow.Author.Rules.{rules}
 use native.Mathlib.Omega.{arith}
-use Prim.Native.Nat.{◌-◌}
-use lib.ListN.{length}
-use Rattle.rule_terms.specs.Starred.{Stars}
 use Rattle.rule_terms.proofs.Stars.{no_star, next_star, stars_stop, stars_end}
 use Rattle.rule_terms.proofs.stars_in.Goals as goal
 

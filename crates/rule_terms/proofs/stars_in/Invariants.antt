@@ -1,9 +1,6 @@
-use borrow.Author.Rules.{rules}
-use native.Mathlib.Omega.{arith}
 use Prim.Native.Nat.{◌-◌}
 use lib.ListN.{length}
 use Rattle.rule_terms.specs.Starred.{Stars}
-use Rattle.rule_terms.proofs.Stars.{no_star, next_star, stars_stop, stars_end}
 use Rattle.rule_terms.proofs.stars_in.Given as goal
 
 abbrev pub invariant-loop-i : goal.invariant-loop-i

@@ -1,5 +1,4 @@
 use Rattle.rule_terms.proofs.Leaves.{leaves}
-use borrow.Author.Rules.{rules}
 use Rattle.rule_terms.proofs.weight_of.Goals as goal
 
 pub returns-then-p-processes : goal.returns-then-p-processes

@@ -4,7 +4,6 @@ use Rattle.rules.proofs.ProcessCases.{row_ends, processing}
 use lib.ListN.{length-take}
 use Rattle.scan.specs.Laws.{last_len}
 use native.Mathlib.Omega.{arith}
-use borrow.Author.Rules.{rules}
 use Rattle.rules.proofs.check_process.Goals as goal
 
 pub slice_bounds-check_term-end : goal.slice_bounds-check_term-end

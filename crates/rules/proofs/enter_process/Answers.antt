@@ -1,6 +1,5 @@
 use Rattle.rules.proofs.ProcessCases.{entered_is, room_1, room_2, room_3, room_4}
 use native.Mathlib.Omega.{arith}
-use borrow.Author.Rules.{rules}
 use Rattle.rules.proofs.enter_process.Goals as goal
 
 pub bounds-tb-at-2 : goal.bounds-tb-at-2

@@ -2,7 +2,6 @@ use lib.ListN.{length-set}
 use Rattle.scan.specs.Laws.{last_len}
 use Rattle.rules.proofs.FunctionCases.{functions_asks, functions_none, functions_in, functions_out}
 use native.Mathlib.Omega.{arith}
-use borrow.Author.Rules.{rules}
 use Rattle.rules.proofs.function_section.Goals as goal
 
 pub functions-requires : goal.functions-requires

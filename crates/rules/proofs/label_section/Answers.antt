@@ -2,7 +2,6 @@ use lib.ListN.{length-set}
 use Rattle.scan.specs.Laws.{last_len}
 use Rattle.rules.proofs.SectionCases.{labels_asks, labels_none, labels_in, labels_out, labels_bounded}
 use native.Mathlib.Omega.{arith}
-use borrow.Author.Rules.{rules}
 use Rattle.rules.proofs.label_section.Goals as goal
 
 pub enter_labels-requires : goal.enter_labels-requires

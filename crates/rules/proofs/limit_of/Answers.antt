@@ -1,6 +1,5 @@
 use Rattle.rules.proofs.ProcessCases.{limit_more}
 use native.Mathlib.Omega.{arith}
-use borrow.Author.Rules.{rules}
 use Rattle.rules.proofs.limit_of.Goals as goal
 
 pub returns : goal.returns

@@ -2,7 +2,6 @@ use lib.ListN.{length-set}
 use Rattle.scan.specs.Laws.{last_len}
 use Rattle.rules.proofs.SectionCases.{section_asks, section_in, section_out}
 use native.Mathlib.Omega.{arith}
-use borrow.Author.Rules.{rules}
 use Rattle.rules.proofs.process_section.Goals as goal
 
 pub processes-requires : goal.processes-requires

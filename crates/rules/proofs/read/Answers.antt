@@ -1,7 +1,6 @@
 use Rattle.scan.specs.Laws.{last_len}
 use Rattle.rules.proofs.SectionCases.{read_copies, read_asks, read_in, read_out}
 use native.Mathlib.Omega.{arith}
-use borrow.Author.Rules.{rules}
 use Rattle.rules.proofs.read.Goals as goal
 
 pub copy-requires : goal.copy-requires

@@ -1,5 +1,4 @@
 use Rattle.rules.proofs.FunctionCases.{joining}
-use borrow.Author.Rules.{rules}
 use Rattle.rules.proofs.with_cells.Goals as goal
 
 pub returns-in-Found : goal.returns-in-Found

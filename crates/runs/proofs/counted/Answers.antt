@@ -1,7 +1,6 @@
 -- Each arm is a clause of what a tally is after one number more.
 use mathlib.Core.Path.{sym, ap}
 use Rattle.runs.specs.Running.{counted as counted_so}
-use borrow.Author.Rules.{rules}
 use Rattle.runs.proofs.counted.Goals as goal
 
 pub returns-in-Visible : goal.returns-in-Visible

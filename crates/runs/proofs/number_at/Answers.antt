@@ -1,7 +1,6 @@
 -- A number is a word of two bytes (`loaded_word`).
 use Rattle.cells.specs.PreparingLaws.{loaded_word}
 use native.Mathlib.Omega.{arith}
-use borrow.Author.Rules.{rules}
 use Rattle.runs.proofs.number_at.Goals as goal
 
 pub returns : goal.returns

@@ -1,9 +1,6 @@
-use mathlib.Core.Path.{◌≡◌, refl, ap, ◌∙◌}
-use Prim.Native.Nat.{◌-◌, ◌/◌, ◌≤◌}
-use lib.ListN.{length}
-use Rattle.runs.proofs.RunCases.{total, counted_once, Running_to, run_start, run_next, run_end}
+use mathlib.Core.Path.{refl, ap, ◌∙◌}
+use Rattle.runs.proofs.RunCases.{total, counted_once, run_start, run_next, run_end}
 use native.Mathlib.Omega.{arith}
-use borrow.Author.Rules.{rules}
 use Rattle.runs.proofs.run_moves.Goals as goal
 
 pub loop-i-init : goal.loop-i-init

@@ -1,10 +1,8 @@
 -- After i numbers the machine is run by the first i (`run_next`), and as many are counted, so that no count overflows.
-use mathlib.Core.Path.{◌≡◌, refl, ap, ◌∙◌}
+use mathlib.Core.Path.{◌≡◌}
 use Prim.Native.Nat.{◌-◌, ◌/◌, ◌≤◌}
 use lib.ListN.{length}
-use Rattle.runs.proofs.RunCases.{total, counted_once, Running_to, run_start, run_next, run_end}
-use native.Mathlib.Omega.{arith}
-use borrow.Author.Rules.{rules}
+use Rattle.runs.proofs.RunCases.{total, Running_to}
 use Rattle.runs.proofs.run_moves.Given as goal
 
 -- After i numbers the machine is run by the first i (`run_next`), and as many are counted, so that no count overflows.

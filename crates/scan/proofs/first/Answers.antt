@@ -1,4 +1,3 @@
-use borrow.Author.Rules.{rules}
 use Rattle.scan.proofs.Cases.{cases}
 use Rattle.scan.proofs.first.Goals as goal
 

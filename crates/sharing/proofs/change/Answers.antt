@@ -1,6 +1,5 @@
 use mathlib.Core.Path.{sym, ◌∙◌}
 use Rattle.sharing.proofs.ChangingPlaces.{part_changed, then_changed, then_short, join_changed}
-use borrow.Author.Rules.{rules}
 use Rattle.sharing.proofs.change.Goals as goal
 
 pub returns-then-w-eq25 : goal.returns-then-w-eq25

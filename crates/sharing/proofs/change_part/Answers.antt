@@ -1,7 +1,6 @@
 use Rattle.scan.specs.Laws.{last_len}
 use Rattle.sharing.proofs.ChangingParts.{no_part, part_made, part_long}
 use native.Mathlib.Omega.{arith}
-use borrow.Author.Rules.{rules}
 use Rattle.sharing.proofs.change_part.Goals as goal
 
 pub returns-then-w-lt32 : goal.returns-then-w-lt32

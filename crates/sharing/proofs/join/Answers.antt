@@ -1,7 +1,6 @@
 use lib.ListN.{length-set}
 use mathlib.Core.Path.{◌∙◌}
 use Rattle.sharing.proofs.ChangingParts.{join_made, join_short, join_roomless}
-use borrow.Author.Rules.{rules}
 use Rattle.sharing.proofs.join.Goals as goal
 
 pub returns-then-n-i : goal.returns-then-n-i

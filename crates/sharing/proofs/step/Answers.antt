@@ -5,7 +5,6 @@ use lib.Seq.{length-take-le}
 use Rattle.scan.specs.Laws.{part}
 use Rattle.sharing.proofs.SteppingCases.{words_missing, not_found, place_beyond, place_empty, path_beyond, place_changed}
 use native.Mathlib.Omega.{arith}
-use borrow.Author.Rules.{rules}
 use Rattle.sharing.proofs.step.Goals as goal
 
 pub returns-then-d-n : goal.returns-then-d-n

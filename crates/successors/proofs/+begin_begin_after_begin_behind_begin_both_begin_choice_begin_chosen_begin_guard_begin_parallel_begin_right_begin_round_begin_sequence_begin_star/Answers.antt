@@ -6,9 +6,6 @@ use Rattle.successors.proofs.Cases.{leaf_case, sequence_done, sequence_goes, gua
 use Rattle.successors.proofs.Parallels.{parallel_short, parallel_ends, parallel_left, parallel_cut, parallel_right, parallel_both, both_made}
 use native.Mathlib.Omega.{arith}
 use borrow.Author.Rules.{rules}
-use lib.ListN.{length}
-use Prim.Native.Nat.{ℕ, ◌+◌, ◌*◌, ◌-◌, ◌<◌}
-use mathlib.Core.List.{List}
 use Rattle.successors.proofs.+begin_begin_after_begin_behind_begin_both_begin_choice_begin_chosen_begin_guard_begin_parallel_begin_right_begin_round_begin_sequence_begin_star.Goals as goal
 
 pub begin-returns-in_default : goal.begin-returns-in_default

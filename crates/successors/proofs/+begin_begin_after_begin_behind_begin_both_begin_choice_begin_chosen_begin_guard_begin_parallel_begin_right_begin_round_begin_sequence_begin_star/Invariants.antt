@@ -1,16 +1,7 @@
 -- The beginning of a successor and its parts, which call one another, meet their contracts. The measure is four times the words of the term at hand, with
 -- less for a part than for what calls it on the same words. Where a part returns, a case of proofs/ says what it answers.
-use mathlib.Core.Path.{sym, ◌∙◌}
-use lib.Seq.{length-take-le}
-use Rattle.scan.specs.Laws.{behind_len, last_len, behind_fewer}
-use Rattle.successors.proofs.Begun.{behind_none, behind_begun, after_head}
-use Rattle.successors.proofs.Cases.{leaf_case, sequence_done, sequence_goes, guard_case, choice_left, choice_short, choice_right, star_ends, round}
-use Rattle.successors.proofs.Parallels.{parallel_short, parallel_ends, parallel_left, parallel_cut, parallel_right, parallel_both, both_made}
-use native.Mathlib.Omega.{arith}
-use borrow.Author.Rules.{rules}
 use lib.ListN.{length}
-use Prim.Native.Nat.{ℕ, ◌+◌, ◌*◌, ◌-◌, ◌<◌}
-use mathlib.Core.List.{List}
+use Prim.Native.Nat.{◌+◌, ◌*◌, ◌-◌}
 use Rattle.successors.proofs.+begin_begin_after_begin_behind_begin_both_begin_choice_begin_chosen_begin_guard_begin_parallel_begin_right_begin_round_begin_sequence_begin_star.Given as goal
 
 abbrev pub decreases-begin : goal.decreases-begin

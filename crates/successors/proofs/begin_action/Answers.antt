@@ -1,6 +1,5 @@
 -- An action leads to Done; its number and what stands behind it are read off the term.
 use Rattle.successors.proofs.Cases.{action_case}
-use borrow.Author.Rules.{rules}
 use Rattle.successors.proofs.begin_action.Goals as goal
 
 pub returns : goal.returns

@@ -1,6 +1,5 @@
 -- The words that stay, the beginning behind them, and the rest of the term: the whole successor.
 use Rattle.successors.proofs.Begun.{built}
-use borrow.Author.Rules.{rules}
 use Rattle.successors.proofs.build.Goals as goal
 
 pub returns : goal.returns

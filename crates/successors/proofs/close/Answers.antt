@@ -1,6 +1,5 @@
 -- What was begun goes on with the words that stand between it and the last e.
 use Rattle.successors.proofs.Made.{closed, closed_none}
-use borrow.Author.Rules.{rules}
 use Rattle.successors.proofs.close.Goals as goal
 
 pub returns-then-n-e : goal.returns-then-n-e

@@ -1,6 +1,5 @@
 -- Words behind those that stand already, if they fit.
 use Rattle.successors.proofs.Made.{added, added_none, added_lost}
-use borrow.Author.Rules.{rules}
 use Rattle.successors.proofs.put_behind.Goals as goal
 
 pub returns-then-put_words : goal.returns-then-put_words

@@ -1,6 +1,5 @@
 -- Head words, if they fit.
 use Rattle.successors.proofs.Made.{wrote_whole, whole_lost}
-use borrow.Author.Rules.{rules}
 use Rattle.successors.proofs.put_head.Goals as goal
 
 pub returns-then-put_words : goal.returns-then-put_words

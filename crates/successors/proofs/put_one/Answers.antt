@@ -1,6 +1,5 @@
 -- One word, if it fits.
 use Rattle.successors.proofs.Made.{wrote_whole, whole_lost}
-use borrow.Author.Rules.{rules}
 use Rattle.successors.proofs.put_one.Goals as goal
 
 pub returns-then-put_word : goal.returns-then-put_word

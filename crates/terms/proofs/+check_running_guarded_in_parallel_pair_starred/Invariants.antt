@@ -1,12 +1,5 @@
 use Prim.Native.Nat.{◌+◌, ◌*◌}
-use native.Mathlib.Omega.{arith}
 use lib.ListN.{length}
-use Rattle.scan.specs.Laws.{behind_len, last_len}
-use Rattle.terms.proofs.Nested.{starred_terms}
-use Rattle.terms.proofs.Parts.{pairs, parallels, guards}
-use Rattle.terms.proofs.Codes.{codes}
-use borrow.Author.Rules.{rules}
-use Prim.Native.Nat.{ℕ, ◌<◌}
 use Rattle.terms.proofs.+check_running_guarded_in_parallel_pair_starred.Given as goal
 
 abbrev pub decreases-check_running : goal.decreases-check_running

@@ -1,5 +1,4 @@
 use Rattle.terms.proofs.Leaves.{actions}
-use borrow.Author.Rules.{rules}
 use Rattle.terms.proofs.action.Goals as goal
 
 pub returns-then-t-eq0 : goal.returns-then-t-eq0

@@ -1,7 +1,4 @@
-use Prim.Native.Nat.{◌-◌}
-use lib.ListN.{length}
-use borrow.Author.Rules.{rules}
-use Rattle.terms.proofs.Values.{Met, elements_next, some_elements}
+use Rattle.terms.proofs.Values.{elements_next, some_elements}
 use Rattle.terms.proofs.elements.Goals as goal
 
 pub returns-then-t-ds : goal.returns-then-t-ds

@@ -1,8 +1,7 @@
 -- The loop's next round is stated by hand: `search` over that many facts breaks off.
 use Prim.Native.Nat.{◌-◌}
 use lib.ListN.{length}
-use borrow.Author.Rules.{rules}
-use Rattle.terms.proofs.Values.{Met, elements_next, some_elements}
+use Rattle.terms.proofs.Values.{Met}
 use Rattle.terms.proofs.elements.Given as goal
 
 -- The loop's next round is stated by hand: `search` over that many facts breaks off.

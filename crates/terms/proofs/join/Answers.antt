@@ -1,5 +1,4 @@
 use Rattle.terms.proofs.Numbers.{joins}
-use borrow.Author.Rules.{rules}
 use Rattle.terms.proofs.join.Goals as goal
 
 pub returns-in-22 : goal.returns-in-22

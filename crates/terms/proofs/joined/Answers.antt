@@ -1,5 +1,4 @@
 use Rattle.terms.proofs.Numbers.{joining}
-use borrow.Author.Rules.{rules}
 use Rattle.terms.proofs.joined.Goals as goal
 
 pub pack-requires : goal.pack-requires

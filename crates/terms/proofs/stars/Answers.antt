@@ -1,7 +1,4 @@
-use Prim.Native.Nat.{◌-◌}
-use lib.ListN.{length}
-use Rattle.terms.proofs.Nested.{Counted, counting}
-use borrow.Author.Rules.{rules}
+use Rattle.terms.proofs.Nested.{counting}
 use Rattle.terms.proofs.stars.Goals as goal
 
 pub loop-i-init : goal.loop-i-init

@@ -1,7 +1,6 @@
 use Prim.Native.Nat.{◌-◌}
 use lib.ListN.{length}
-use Rattle.terms.proofs.Nested.{Counted, counting}
-use borrow.Author.Rules.{rules}
+use Rattle.terms.proofs.Nested.{Counted}
 use Rattle.terms.proofs.stars.Given as goal
 
 abbrev pub invariant-loop-i : goal.invariant-loop-i

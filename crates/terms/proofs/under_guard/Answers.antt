@@ -1,5 +1,4 @@
 use Rattle.terms.proofs.Numbers.{guarding}
-use borrow.Author.Rules.{rules}
 use Rattle.terms.proofs.under_guard.Goals as goal
 
 pub pack-requires : goal.pack-requires

@@ -1,7 +1,4 @@
-use Prim.Native.Nat.{◌-◌}
-use Rattle.weights.specs.Weighing.{measure}
-use Rattle.terms.proofs.Numbers.{Starred, starring}
-use borrow.Author.Rules.{rules}
+use Rattle.terms.proofs.Numbers.{starring}
 use Rattle.terms.proofs.under_stars.Goals as goal
 
 pub loop-i-init : goal.loop-i-init

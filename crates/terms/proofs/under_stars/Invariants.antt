@@ -1,7 +1,6 @@
 use Prim.Native.Nat.{◌-◌}
 use Rattle.weights.specs.Weighing.{measure}
-use Rattle.terms.proofs.Numbers.{Starred, starring}
-use borrow.Author.Rules.{rules}
+use Rattle.terms.proofs.Numbers.{Starred}
 use Rattle.terms.proofs.under_stars.Given as goal
 
 abbrev pub invariant-loop-i : goal.invariant-loop-i

@@ -6,12 +6,6 @@ use Rattle.unfold.proofs.TermCases.{mask_taken, copies_next, terms, parts, quant
 use Rattle.unfold.proofs.RowCases.{last_size}
 use native.Mathlib.Omega.{arith}
 use borrow.Author.Rules.{rules}
-use Prim.Native.Nat.{◌+◌, ◌-◌, ◌*◌, min}
-use mathlib.Core.List.{◌∷◌}
-use lib.ListN.{length}
-use Rattle.unfold.specs.Puts.{Putting}
-use Rattle.unfold.specs.Saying.{Copies}
-use Prim.Native.Nat.{ℕ, ◌<◌}
 use Rattle.unfold.proofs.+body_call_copies_copy_guarded_headed_copy_joined_over_starred_two_terms_unfold.Goals as goal
 
 pub body-returns-then-k-gt8 : goal.body-returns-then-k-gt8

@@ -1,19 +1,10 @@
 -- The measures of the cycle, by which a call (a lower process) and an operand (fewer words left) fall; and the contracts that each member reads.
 -- Document 01, "Unfolding, size and breadth".
-use Rattle.unfold.specs.PutsLaws.{place_few, place_room}
-use Rattle.unfold.specs.SayingLaws.{term_room}
-use Rattle.unfold.proofs.ValueCases.{values_length, values_few}
-use Rattle.arguments.specs.VariableLaws.{with_length, with_few}
-use Rattle.unfold.proofs.TermCases.{mask_taken, copies_next, terms, parts, quantifiers, callees}
-use Rattle.unfold.proofs.RowCases.{last_size}
-use native.Mathlib.Omega.{arith}
-use borrow.Author.Rules.{rules}
 use Prim.Native.Nat.{◌+◌, ◌-◌, ◌*◌, min}
 use mathlib.Core.List.{◌∷◌}
 use lib.ListN.{length}
 use Rattle.unfold.specs.Puts.{Putting}
 use Rattle.unfold.specs.Saying.{Copies}
-use Prim.Native.Nat.{ℕ, ◌<◌}
 use Rattle.unfold.proofs.+body_call_copies_copy_guarded_headed_copy_joined_over_starred_two_terms_unfold.Given as goal
 
 abbrev pub decreases-body : goal.decreases-body

@@ -1,5 +1,4 @@
 use Rattle.unfold.proofs.MainCases.{main_none, main_many, main_put}
-use borrow.Author.Rules.{rules}
 use Rattle.unfold.proofs.unfold_main.Goals as goal
 
 pub returns-then-count-eq0 : goal.returns-then-count-eq0

@@ -1,8 +1,4 @@
-use borrow.Author.Rules.{rules}
-use Prim.Native.Nat.{◌-◌}
-use Rattle.eb3.specs.Measures.{sat, nothing, choice_of}
-use Rattle.weights.specs.Weighing.{measure, cap}
-use Rattle.weights.proofs.Copies.{Copied, no_copy, first_copy, next_copy, all_copies}
+use Rattle.weights.proofs.Copies.{no_copy, first_copy, next_copy, all_copies}
 use Rattle.weights.proofs.choices.Goals as goal
 
 pub returns-then-n-eq0 : goal.returns-then-n-eq0

@@ -1,8 +1,7 @@
-use borrow.Author.Rules.{rules}
 use Prim.Native.Nat.{◌-◌}
 use Rattle.eb3.specs.Measures.{sat, nothing, choice_of}
 use Rattle.weights.specs.Weighing.{measure, cap}
-use Rattle.weights.proofs.Copies.{Copied, no_copy, first_copy, next_copy, all_copies}
+use Rattle.weights.proofs.Copies.{Copied}
 use Rattle.weights.proofs.choices.Given as goal
 
 abbrev pub invariant-loop-made : goal.invariant-loop-made

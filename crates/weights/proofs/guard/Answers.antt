@@ -1,4 +1,3 @@
-use borrow.Author.Rules.{rules}
 use native.Mathlib.Omega.{arith}
 use Rattle.weights.proofs.Fields.{by_fields}
 use Rattle.weights.proofs.guard.Goals as goal

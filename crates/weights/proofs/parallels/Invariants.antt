@@ -1,8 +1,7 @@
-use borrow.Author.Rules.{rules}
 use Prim.Native.Nat.{◌-◌}
 use Rattle.eb3.specs.Measures.{sat, nothing}
 use Rattle.weights.specs.Weighing.{measure, cap, parallel_by}
-use Rattle.weights.proofs.Copies.{Copied, no_copy, first_copy, next_copy, all_copies}
+use Rattle.weights.proofs.Copies.{Copied}
 use Rattle.weights.proofs.parallels.Given as goal
 
 abbrev pub invariant-loop-i : goal.invariant-loop-i

@@ -1,7 +1,4 @@
-use borrow.Author.Rules.{rules}
-use Prim.Native.Nat.{◌-◌}
-use Rattle.weights.specs.Weighing.{measure}
-use Rattle.weights.proofs.Laying.{Laid, no_star, next_star, all_stars}
+use Rattle.weights.proofs.Laying.{no_star, next_star, all_stars}
 use Rattle.weights.proofs.stars.Goals as goal
 
 pub loop-laid-init : goal.loop-laid-init

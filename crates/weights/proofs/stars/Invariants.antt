@@ -1,7 +1,6 @@
-use borrow.Author.Rules.{rules}
 use Prim.Native.Nat.{◌-◌}
 use Rattle.weights.specs.Weighing.{measure}
-use Rattle.weights.proofs.Laying.{Laid, no_star, next_star, all_stars}
+use Rattle.weights.proofs.Laying.{Laid}
 use Rattle.weights.proofs.stars.Given as goal
 
 abbrev pub invariant-loop-laid : goal.invariant-loop-laid

@@ -1,6 +1,5 @@
 use Rattle.weights.proofs.Breadth.{product_fits, ways_apart, ways_joint}
 use native.Mathlib.Omega.{arith}
-use borrow.Author.Rules.{rules}
 use Rattle.weights.proofs.ways.Goals as goal
 
 pub returns-then-zero : goal.returns-then-zero

@@ -1,7 +1,6 @@
 use mathlib.Core.Path.{refl}
 use native.Mathlib.Omega.{arith}
 use Rattle.writing.specs.WroteLaws.{room_lacked, wrote_word}
-use borrow.Author.Rules.{rules}
 use Rattle.writing.proofs.put_word.Goals as goal
 
 pub returns-then-out-lt2 : goal.returns-then-out-lt2

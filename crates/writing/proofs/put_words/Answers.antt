@@ -1,9 +1,6 @@
-use mathlib.Core.Path.{◌≡◌, refl}
-use Prim.Native.Nat.{◌*◌, ◌-◌, ◌≤◌}
+use mathlib.Core.Path.{refl}
 use native.Mathlib.Omega.{arith}
-use lib.ListN.{length, take, length-set}
-use borrow.Author.Rules.{rules}
-use Rattle.eb3.specs.Bytes.{written}
+use lib.ListN.{length-set}
 use Rattle.writing.specs.WroteLaws.{room_lacked, words_none, words_next, words_end}
 use Rattle.writing.proofs.put_words.Goals as goal
 

@@ -1,9 +1,6 @@
-use mathlib.Core.Path.{◌≡◌, refl}
-use Prim.Native.Nat.{◌-◌, ◌≤◌}
+use mathlib.Core.Path.{refl}
 use native.Mathlib.Omega.{arith}
-use lib.ListN.{length, length-set}
-use borrow.Author.Rules.{rules}
-use Rattle.cells.specs.Frames.{Copied}
+use lib.ListN.{length-set}
 use Rattle.cells.specs.FramingLaws.{copy_start, copy_next, copy_end}
 use Rattle.cells.proofs.framing.copy_cells.Goals as goal
 

@@ -1,11 +1,8 @@
 -- Each turn of the loop copies one word more (`copy_next`).
-use mathlib.Core.Path.{◌≡◌, refl}
+use mathlib.Core.Path.{◌≡◌}
 use Prim.Native.Nat.{◌-◌, ◌≤◌}
-use native.Mathlib.Omega.{arith}
-use lib.ListN.{length, length-set}
-use borrow.Author.Rules.{rules}
+use lib.ListN.{length}
 use Rattle.cells.specs.Frames.{Copied}
-use Rattle.cells.specs.FramingLaws.{copy_start, copy_next, copy_end}
 use Rattle.cells.proofs.framing.copy_cells.Given as goal
 
 -- Each turn of the loop copies one word more (`copy_next`).

@@ -1,9 +1,7 @@
-use mathlib.Core.Path.{◌≡◌, refl}
-use Prim.Native.Nat.{◌-◌, ◌≤◌}
+use mathlib.Core.Path.{refl}
 use native.Mathlib.Omega.{arith}
-use lib.ListN.{length, length-set}
-use borrow.Author.Rules.{rules}
-use Rattle.cells.specs.FramingLaws.{Begins, each_start, each_next, each_end}
+use lib.ListN.{length-set}
+use Rattle.cells.specs.FramingLaws.{each_start, each_next, each_end}
 use Rattle.cells.proofs.framing.fill_each.Goals as goal
 
 pub loop-x-init : goal.loop-x-init

@@ -1,10 +1,8 @@
 -- Each turn of the loop makes one cell more new (`each_next`).
-use mathlib.Core.Path.{◌≡◌, refl}
+use mathlib.Core.Path.{◌≡◌}
 use Prim.Native.Nat.{◌-◌, ◌≤◌}
-use native.Mathlib.Omega.{arith}
-use lib.ListN.{length, length-set}
-use borrow.Author.Rules.{rules}
-use Rattle.cells.specs.FramingLaws.{Begins, each_start, each_next, each_end}
+use lib.ListN.{length}
+use Rattle.cells.specs.FramingLaws.{Begins}
 use Rattle.cells.proofs.framing.fill_each.Given as goal
 
 -- Each turn of the loop makes one cell more new (`each_next`).

@@ -2,7 +2,6 @@
 use mathlib.Core.Path.{◌≡◌, refl, subst}
 use Prim.Native.Nat.{◌+◌}
 use native.Mathlib.Omega.{arith}
-use borrow.Author.Rules.{rules}
 use Rattle.scan.specs.Laws.{last_len}
 use Rattle.cells.specs.TurnLaws.{turn_room}
 use Rattle.cells.specs.Frames.{kept_value, AsksOne, Tells}

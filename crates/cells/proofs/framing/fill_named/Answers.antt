@@ -4,7 +4,6 @@ use mathlib.Core.Path.{◌≡◌, subst}
 use Prim.Native.Nat.{◌+◌, ◌%◌}
 use native.Mathlib.Omega.{arith}
 use lib.ListN.{length-set}
-use borrow.Author.Rules.{rules}
 use Rattle.scan.specs.Laws.{last_len, part}
 use Rattle.expressions.specs.Answering.{Evaluated}
 use Rattle.cells.specs.Frames.{kept_value, Tells}

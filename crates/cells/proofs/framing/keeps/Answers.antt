@@ -1,7 +1,6 @@
 -- Each test rules out a word of before f(x0), and the last one tells (`keeps_told`).
 use mathlib.Core.Path.{sym, ◌∙◌}
 use native.Mathlib.Omega.{arith}
-use borrow.Author.Rules.{rules}
 use Rattle.cells.specs.FrontLaws.{keeps_told, false_no, equal_tested}
 use Rattle.cells.proofs.framing.keeps.Goals as goal
 

@@ -1,7 +1,6 @@
 -- Each test rules out a word of an expression that asks, and the last one tells (`asks_told`).
 use mathlib.Core.Logic.{inl, inr, ⊎_elim}
 use native.Mathlib.Omega.{arith}
-use borrow.Author.Rules.{rules}
 use Rattle.cells.specs.FrontLaws.{asks_told, false_no, unequal_tested}
 use Rattle.cells.proofs.framing.names_one.Goals as goal
 

@@ -7,7 +7,6 @@ use mathlib.Core.Bool.{not}
 use lib.Seq.{slice}
 use Prim.Native.Nat.{◌-◌}
 use native.Mathlib.Omega.{arith}
-use borrow.Author.Rules.{rules}
 use Rattle.derivation.proofs.searching.locate.Goals as goal
 
 pub returns-then-i-lt-PASSED : goal.returns-then-i-lt-PASSED

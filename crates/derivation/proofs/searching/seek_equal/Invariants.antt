@@ -1,11 +1,6 @@
 -- The loop that looks for the k-th equal number answers what `nth_place` says of the numbers between the two places.
-use Rattle.derivation.proofs.Searches.{search_end, search_skip, search_here, search_pass, next_place}
-use borrow.Author.Tests.{eq-eqb, ne_eqb}
-use borrow.Author.Rules.{rules}
-use native.Mathlib.Omega.{arith}
-use Prim.Native.Nat.{◌+◌, ◌-◌, ◌≤◌}
-use mathlib.Core.Path.{◌≡◌, sym, ap, ◌∙◌}
-use lib.ListN.{get_or}
+use Prim.Native.Nat.{◌-◌, ◌≤◌}
+use mathlib.Core.Path.{◌≡◌}
 use lib.Seq.{slice}
 use lib.Dec.{eqb}
 use Rattle.derivation.specs.Searching.{nth_place}

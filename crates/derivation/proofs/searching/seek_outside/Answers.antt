@@ -1,7 +1,6 @@
 use Rattle.derivation.proofs.Searches.{search_end, search_skip, search_here, search_pass, next_place}
-use borrow.Author.Rules.{rules}
 use native.Mathlib.Omega.{arith}
-use Prim.Native.Nat.{◌+◌, ◌-◌, ◌≤◌}
+use Prim.Native.Nat.{◌+◌, ◌-◌}
 use mathlib.Core.Path.{◌≡◌, sym, ap, ◌∙◌}
 use mathlib.Core.Bool.{not}
 use lib.Seq.{slice}

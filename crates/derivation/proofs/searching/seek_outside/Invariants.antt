@@ -1,9 +1,6 @@
 -- The loop that looks for the k-th number whose label is not in the set answers what `nth_place` says of the numbers between the two places.
-use Rattle.derivation.proofs.Searches.{search_end, search_skip, search_here, search_pass, next_place}
-use borrow.Author.Rules.{rules}
-use native.Mathlib.Omega.{arith}
-use Prim.Native.Nat.{◌+◌, ◌-◌, ◌≤◌}
-use mathlib.Core.Path.{◌≡◌, sym, ap, ◌∙◌}
+use Prim.Native.Nat.{◌-◌, ◌≤◌}
+use mathlib.Core.Path.{◌≡◌}
 use mathlib.Core.Bool.{not}
 use lib.Seq.{slice}
 use Rattle.actions.specs.Sets.{in_set}

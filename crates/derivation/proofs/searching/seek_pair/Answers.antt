@@ -1,14 +1,11 @@
-use Prim.Native.Nat.{◌-◌, ◌≤◌}
-use mathlib.Core.Path.{◌≡◌, refl, sym, ◌∙◌}
+use mathlib.Core.Path.{refl, sym, ◌∙◌}
 use lib.ListN.{get_or}
 use lib.Seq.{slice, length-slice}
 use lib.Dec.{eqb}
 use Rattle.paths.specs.Paths.{paired}
-use Rattle.derivation.specs.Searching.{nth_pair}
 use Rattle.derivation.proofs.Searches.{pairs_end, pairs_skip, pairs_here, pairs_pass}
 use Rattle.derivation.proofs.Places.{place_limit}
 use native.Mathlib.Omega.{arith}
-use borrow.Author.Rules.{rules}
 use Rattle.derivation.proofs.searching.seek_pair.Goals as goal
 
 pub loop-i-init : goal.loop-i-init

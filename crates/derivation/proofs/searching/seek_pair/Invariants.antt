@@ -1,15 +1,9 @@
 -- The loop over the left moves, with a search of the right moves for each that both sides make together, answers what `nth_pair` says.
 use Prim.Native.Nat.{◌-◌, ◌≤◌}
-use mathlib.Core.Path.{◌≡◌, refl, sym, ◌∙◌}
-use lib.ListN.{get_or}
-use lib.Seq.{slice, length-slice}
-use lib.Dec.{eqb}
+use mathlib.Core.Path.{◌≡◌}
+use lib.Seq.{slice}
 use Rattle.paths.specs.Paths.{paired}
 use Rattle.derivation.specs.Searching.{nth_pair}
-use Rattle.derivation.proofs.Searches.{pairs_end, pairs_skip, pairs_here, pairs_pass}
-use Rattle.derivation.proofs.Places.{place_limit}
-use native.Mathlib.Omega.{arith}
-use borrow.Author.Rules.{rules}
 use Rattle.derivation.proofs.searching.seek_pair.Given as goal
 
 -- The loop over the left moves, with a search of the right moves for each that both sides make together, answers what `nth_pair` says.

@@ -1,6 +1,5 @@
 -- Not hidden by a mask above, and in the mask.
 use Rattle.derivation.proofs.Searches.{not_together, together_in}
-use borrow.Author.Rules.{rules}
 use Rattle.derivation.proofs.searching.together.Goals as goal
 
 pub returns-then-in_set : goal.returns-then-in_set

@@ -3,7 +3,6 @@ use Rattle.engine.proofs.CountCases.{unopened_given}
 use Rattle.engine.specs.Counting.{count_refused}
 use native.Mathlib.Omega.{arith}
 use native.Mathlib.Omega.{arith}
-use borrow.Author.Rules.{rules}
 use Rattle.engine.proofs.counting.count.Goals as goal
 
 pub count_small-requires : goal.count_small-requires

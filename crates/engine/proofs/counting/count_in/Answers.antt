@@ -1,6 +1,4 @@
 use Rattle.engine.proofs.CountCases.{counted_refused, counted_short, counted_few, counted_done}
-use native.Mathlib.Omega.{arith}
-use borrow.Author.Rules.{rules}
 use Rattle.engine.proofs.counting.count_in.Goals as goal
 
 pub returns-then-memory-c : goal.returns-then-memory-c

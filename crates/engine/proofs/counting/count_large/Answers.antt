@@ -1,6 +1,5 @@
 use native.Mathlib.Omega.{arith}
 use native.Mathlib.Omega.{arith}
-use borrow.Author.Rules.{rules}
 use Rattle.engine.proofs.counting.count_large.Goals as goal
 
 pub count_in-r-requires : goal.count_in-r-requires

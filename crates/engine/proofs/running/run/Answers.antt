@@ -2,7 +2,6 @@ use Rattle.admission.specs.OpeningLaws.{admit_blocks, admit_opens, open_refused}
 use Rattle.engine.proofs.RunCases.{unopened_run}
 use native.Mathlib.Omega.{arith}
 use native.Mathlib.Omega.{arith}
-use borrow.Author.Rules.{rules}
 use Rattle.engine.proofs.running.run.Goals as goal
 
 pub run_one-requires : goal.run_one-requires

@@ -7,7 +7,6 @@ use Rattle.admission.specs.OpeningLaws.{stream_part}
 use Rattle.engine.proofs.StartCases.{known_tables}
 use Rattle.engine.proofs.RunCases.{ran_short_term, ran_short_memory, ran_short_spare, ran_short_cells, ran_done}
 use native.Mathlib.Omega.{arith}
-use borrow.Author.Rules.{rules}
 use Rattle.engine.proofs.running.run_in.Goals as goal
 
 pub returns-then-term-reach : goal.returns-then-term-reach

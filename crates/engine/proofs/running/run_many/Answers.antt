@@ -1,6 +1,5 @@
 use native.Mathlib.Omega.{arith}
 use native.Mathlib.Omega.{arith}
-use borrow.Author.Rules.{rules}
 use Rattle.engine.proofs.running.run_many.Goals as goal
 
 pub run_in-r-requires : goal.run_in-r-requires

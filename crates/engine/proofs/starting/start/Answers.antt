@@ -1,7 +1,6 @@
 use native.Mathlib.Omega.{arith}
 use Rattle.admission.specs.OpeningLaws.{admit_blocks, admit_opens, open_refused}
 use Rattle.engine.proofs.StartCases.{unopened_start}
-use borrow.Author.Rules.{rules}
 use Rattle.engine.proofs.starting.start.Goals as goal
 
 pub start_one-requires : goal.start_one-requires

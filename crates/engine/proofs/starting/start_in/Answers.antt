@@ -5,7 +5,6 @@ use Rattle.admission.specs.Knowing.{known, known_refused}
 use Rattle.engine.specs.StartLaws.{start_refused}
 use Rattle.admission.specs.OpeningLaws.{stream_part}
 use Rattle.engine.proofs.StartCases.{known_tables, known_short_term, known_short_memory, known_done}
-use borrow.Author.Rules.{rules}
 use Rattle.engine.proofs.starting.start_in.Goals as goal
 
 pub returns-then-term-wide32 : goal.returns-then-term-wide32

@@ -1,5 +1,4 @@
 use native.Mathlib.Omega.{arith}
-use borrow.Author.Rules.{rules}
 use Rattle.engine.proofs.starting.start_memory.Goals as goal
 
 pub returns-then-c-le64 : goal.returns-then-c-le64

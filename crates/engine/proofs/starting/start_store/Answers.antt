@@ -4,7 +4,6 @@ use Prim.Native.Nat.{◌+◌}
 use Rattle.eb3.specs.Expressions.{no_reading}
 use Rattle.eb3.specs.RuleSets.{attributes}
 use Rattle.engine.specs.Memories.{memory_started}
-use borrow.Author.Rules.{rules}
 use Rattle.engine.proofs.starting.start_store.Goals as goal
 
 pub returns : goal.returns

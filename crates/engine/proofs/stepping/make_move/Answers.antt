@@ -1,7 +1,6 @@
 use mathlib.Core.Path.{sym, subst}
 use Rattle.engine.specs.Stepping.{Done}
 use Rattle.engine.specs.StepLaws.{move_stepped}
-use borrow.Author.Rules.{rules}
 use Rattle.engine.proofs.stepping.make_move.Goals as goal
 
 pub returns : goal.returns

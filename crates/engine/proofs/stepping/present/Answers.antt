@@ -1,7 +1,6 @@
 use mathlib.Core.Path.{sym, subst}
 use Rattle.engine.specs.Stepping.{Done}
 use Rattle.engine.specs.StepLaws.{present_stepped}
-use borrow.Author.Rules.{rules}
 use Rattle.engine.proofs.stepping.present.Goals as goal
 
 pub returns : goal.returns

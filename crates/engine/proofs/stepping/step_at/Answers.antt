@@ -2,7 +2,6 @@ use Rattle.engine.proofs.StepCases.{step_loaded}
 use mathlib.Core.Path.{ap, ◌∙◌}
 use Prim.Native.Nat.{◌+◌}
 use native.Mathlib.Omega.{arith}
-use borrow.Author.Rules.{rules}
 use Rattle.engine.proofs.stepping.step_at.Goals as goal
 
 pub returns : goal.returns

@@ -3,7 +3,6 @@ use Rattle.engine.proofs.CountCases.{unopened_given}
 use Rattle.engine.specs.StepLaws.{step_refused}
 use native.Mathlib.Omega.{arith}
 use native.Mathlib.Omega.{arith}
-use borrow.Author.Rules.{rules}
 use Rattle.engine.proofs.stepping.step_by.Goals as goal
 
 pub step_small-requires : goal.step_small-requires

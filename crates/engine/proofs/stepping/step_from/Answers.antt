@@ -1,7 +1,6 @@
 use Rattle.engine.proofs.StepCases.{step_made, step_refused}
 use mathlib.Core.Path.{ap, ◌∙◌}
 use Prim.Native.Nat.{◌+◌}
-use borrow.Author.Rules.{rules}
 use Rattle.engine.proofs.stepping.step_from.Goals as goal
 
 pub returns-in-Made : goal.returns-in-Made

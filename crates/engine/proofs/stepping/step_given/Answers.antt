@@ -1,5 +1,4 @@
 use Rattle.engine.proofs.StepGivenCases.{steps_stranger, steps_short_term, steps_short_memory, steps_short_next, steps_done}
-use borrow.Author.Rules.{rules}
 use Rattle.engine.proofs.stepping.step_given.Goals as goal
 
 pub returns-then-next_term-reach : goal.returns-then-next_term-reach

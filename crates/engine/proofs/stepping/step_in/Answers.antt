@@ -4,7 +4,6 @@ use lib.ListN.{drop, length-take}
 use Rattle.admission.specs.OpeningLaws.{stream_part}
 use Rattle.engine.proofs.StepGivenCases.{stepped_refused, stepped_few, stepped_done}
 use native.Mathlib.Omega.{arith}
-use borrow.Author.Rules.{rules}
 use Rattle.engine.proofs.stepping.step_in.Goals as goal
 
 pub step_given-requires : goal.step_given-requires

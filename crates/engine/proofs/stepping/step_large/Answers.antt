@@ -1,6 +1,5 @@
 use native.Mathlib.Omega.{arith}
 use native.Mathlib.Omega.{arith}
-use borrow.Author.Rules.{rules}
 use Rattle.engine.proofs.stepping.step_large.Goals as goal
 
 pub step_in-r-requires : goal.step_in-r-requires

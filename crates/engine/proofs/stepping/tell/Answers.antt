@@ -1,5 +1,4 @@
 use Rattle.engine.proofs.StepCases.{told_internal, told_visible}
-use borrow.Author.Rules.{rules}
 use Rattle.engine.proofs.stepping.tell.Goals as goal
 
 pub returns-then-code-eq0 : goal.returns-then-code-eq0

@@ -1,5 +1,4 @@
 use Rattle.engine.proofs.StepCases.{event_wanted, number_wanted}
-use borrow.Author.Rules.{rules}
 use Rattle.engine.proofs.stepping.wanted.Goals as goal
 
 pub returns-then-by_event : goal.returns-then-by_event

@@ -1,4 +1,3 @@
-use borrow.Author.Rules.{rules}
 use Rattle.given.proofs.AskCases.{cases}
 use Rattle.given.proofs.asking.ask.Goals as goal
 

@@ -1,5 +1,4 @@
 use native.Mathlib.Omega.{arith}
-use borrow.Author.Rules.{rules}
 use Rattle.given.proofs.AskCases.{asked_odd, asked_long, cases}
 use Rattle.given.proofs.asking.read_event.Goals as goal
 

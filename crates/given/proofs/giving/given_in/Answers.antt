@@ -1,6 +1,5 @@
 use Rattle.admission.specs.Knowing.{known, known_refused}
 use Rattle.given.specs.GivingLaws.{given_refused, given_checked}
-use native.Mathlib.Omega.{arith}
 use borrow.Author.Rules.{rules}
 use Rattle.given.proofs.giving.given_in.Goals as goal
 

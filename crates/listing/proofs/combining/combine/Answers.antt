@@ -2,7 +2,6 @@ use Prim.Native.Nat.{◌+◌}
 use Rattle.actions.specs.Sets.{in_set}
 use Rattle.listing.proofs.Copying.{wrote_range, lost_1, lost_2, lost_3, made_all}
 use native.Mathlib.Omega.{arith}
-use borrow.Author.Rules.{rules}
 use Rattle.listing.proofs.combining.combine.Goals as goal
 
 pub returns-then-p-ge-FULL : goal.returns-then-p-ge-FULL

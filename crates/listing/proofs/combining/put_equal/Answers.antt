@@ -1,11 +1,10 @@
-use Prim.Native.Nat.{◌+◌, ◌-◌, ◌≤◌}
+use Prim.Native.Nat.{◌+◌}
 use mathlib.Core.Path.{◌≡◌, refl, sym, ap, ◌∙◌}
 use lib.ListN.{length, get_or, length-set}
 use lib.Seq.{slice}
 use Rattle.listing.specs.Combining.{equal_to}
-use Rattle.listing.proofs.Writing.{Writing, writing_start, writing_pass, writing_one, writing_lost, writing_ends, read_kept, equal_one, equal_none, equal_end}
+use Rattle.listing.proofs.Writing.{writing_start, writing_pass, writing_one, writing_lost, writing_ends, read_kept, equal_one, equal_none, equal_end}
 use native.Mathlib.Omega.{arith}
-use borrow.Author.Rules.{rules}
 use Rattle.listing.proofs.combining.put_equal.Goals as goal
 
 pub loop-i-init : goal.loop-i-init

@@ -1,11 +1,9 @@
-use Prim.Native.Nat.{◌+◌, ◌-◌, ◌≤◌}
-use mathlib.Core.Path.{◌≡◌, refl, sym, ap, ◌∙◌}
-use lib.ListN.{length, get_or, length-set}
+use Prim.Native.Nat.{◌-◌, ◌≤◌}
+use mathlib.Core.Path.{◌≡◌}
+use lib.ListN.{length}
 use lib.Seq.{slice}
 use Rattle.listing.specs.Combining.{equal_to}
-use Rattle.listing.proofs.Writing.{Writing, writing_start, writing_pass, writing_one, writing_lost, writing_ends, read_kept, equal_one, equal_none, equal_end}
-use native.Mathlib.Omega.{arith}
-use borrow.Author.Rules.{rules}
+use Rattle.listing.proofs.Writing.{Writing}
 use Rattle.listing.proofs.combining.put_equal.Given as goal
 
 abbrev pub invariant-loop-i : goal.invariant-loop-i

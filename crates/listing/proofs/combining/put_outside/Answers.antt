@@ -1,4 +1,4 @@
-use Prim.Native.Nat.{◌+◌, ◌-◌, ◌≤◌}
+use Prim.Native.Nat.{◌+◌}
 use mathlib.Core.Path.{◌≡◌, refl, sym, ap, ◌∙◌}
 use mathlib.Core.Bool.{true, false}
 use mathlib.Core.List.{◌∷◌}
@@ -6,9 +6,8 @@ use lib.ListN.{length, get_or, length-set}
 use lib.Seq.{slice}
 use Rattle.actions.specs.Sets.{in_set}
 use Rattle.listing.specs.Combining.{outside}
-use Rattle.listing.proofs.Writing.{Writing, writing_start, writing_pass, writing_one, writing_lost, writing_ends, read_kept, test_kept, outside_in, outside_out, outside_end}
+use Rattle.listing.proofs.Writing.{writing_start, writing_pass, writing_one, writing_lost, writing_ends, read_kept, test_kept, outside_in, outside_out, outside_end}
 use native.Mathlib.Omega.{arith}
-use borrow.Author.Rules.{rules}
 use Rattle.listing.proofs.combining.put_outside.Goals as goal
 
 pub loop-i-init : goal.loop-i-init

@@ -1,14 +1,10 @@
-use Prim.Native.Nat.{◌+◌, ◌-◌, ◌≤◌}
-use mathlib.Core.Path.{◌≡◌, refl, sym, ap, ◌∙◌}
-use mathlib.Core.Bool.{true, false}
-use mathlib.Core.List.{◌∷◌}
-use lib.ListN.{length, get_or, length-set}
+use Prim.Native.Nat.{◌-◌, ◌≤◌}
+use mathlib.Core.Path.{◌≡◌}
+use lib.ListN.{length}
 use lib.Seq.{slice}
 use Rattle.actions.specs.Sets.{in_set}
 use Rattle.listing.specs.Combining.{outside}
-use Rattle.listing.proofs.Writing.{Writing, writing_start, writing_pass, writing_one, writing_lost, writing_ends, read_kept, test_kept, outside_in, outside_out, outside_end}
-use native.Mathlib.Omega.{arith}
-use borrow.Author.Rules.{rules}
+use Rattle.listing.proofs.Writing.{Writing}
 use Rattle.listing.proofs.combining.put_outside.Given as goal
 
 abbrev pub invariant-loop-i : goal.invariant-loop-i

@@ -1,4 +1,4 @@
-use Prim.Native.Nat.{◌+◌, ◌-◌, ◌≤◌}
+use Prim.Native.Nat.{◌+◌}
 use mathlib.Core.Path.{◌≡◌, refl, sym, ap, ◌∙◌}
 use mathlib.Core.Bool.{true, false}
 use mathlib.Core.List.{◌++◌}
@@ -6,9 +6,8 @@ use lib.ListN.{length, get_or, drop, length-append}
 use lib.Seq.{slice}
 use Rattle.actions.specs.Sets.{in_set}
 use Rattle.listing.specs.Combining.{equal_to, pairs}
-use Rattle.listing.proofs.Writing.{Writing, writing_start, writing_pass, writing_more, writing_lost, writing_ends, read_kept, test_kept, written_kept, pairs_in, pairs_out, pairs_end}
+use Rattle.listing.proofs.Writing.{writing_start, writing_pass, writing_more, writing_lost, writing_ends, read_kept, test_kept, written_kept, pairs_in, pairs_out, pairs_end}
 use native.Mathlib.Omega.{arith}
-use borrow.Author.Rules.{rules}
 use Rattle.listing.proofs.combining.put_pairs.Goals as goal
 
 pub loop-i-init : goal.loop-i-init

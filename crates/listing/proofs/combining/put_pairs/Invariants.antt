@@ -1,14 +1,10 @@
-use Prim.Native.Nat.{◌+◌, ◌-◌, ◌≤◌}
-use mathlib.Core.Path.{◌≡◌, refl, sym, ap, ◌∙◌}
-use mathlib.Core.Bool.{true, false}
-use mathlib.Core.List.{◌++◌}
-use lib.ListN.{length, get_or, drop, length-append}
+use Prim.Native.Nat.{◌-◌, ◌≤◌}
+use mathlib.Core.Path.{◌≡◌}
+use lib.ListN.{length}
 use lib.Seq.{slice}
 use Rattle.actions.specs.Sets.{in_set}
-use Rattle.listing.specs.Combining.{equal_to, pairs}
-use Rattle.listing.proofs.Writing.{Writing, writing_start, writing_pass, writing_more, writing_lost, writing_ends, read_kept, test_kept, written_kept, pairs_in, pairs_out, pairs_end}
-use native.Mathlib.Omega.{arith}
-use borrow.Author.Rules.{rules}
+use Rattle.listing.specs.Combining.{pairs}
+use Rattle.listing.proofs.Writing.{Writing}
 use Rattle.listing.proofs.combining.put_pairs.Given as goal
 
 abbrev pub invariant-loop-i : goal.invariant-loop-i

@@ -1,8 +1,7 @@
 use Rattle.listing.proofs.Copying.{copied_below, copied_above, copied_all}
 use borrow.Author.Rules.{rules}
-use Prim.Native.Nat.{ℕ, ◌<◌, ◌≤◌, ◌+◌, ◌-◌}
-use lib.ListN.{length, get_or, length-set}
-use mathlib.Core.Path.{◌≡◌}
+use Prim.Native.Nat.{◌<◌}
+use lib.ListN.{length, length-set}
 use native.Mathlib.Omega.{arith}
 use Rattle.listing.proofs.combining.shift.Goals as goal
 

@@ -1,9 +1,6 @@
-use Rattle.listing.proofs.Copying.{copied_below, copied_above, copied_all}
-use borrow.Author.Rules.{rules}
 use Prim.Native.Nat.{ℕ, ◌<◌, ◌≤◌, ◌+◌, ◌-◌}
-use lib.ListN.{length, get_or, length-set}
+use lib.ListN.{length, get_or}
 use mathlib.Core.Path.{◌≡◌}
-use native.Mathlib.Omega.{arith}
 use Rattle.listing.proofs.combining.shift.Given as goal
 
 abbrev pub invariant-loop-i : goal.invariant-loop-i

@@ -1,9 +1,6 @@
-use mathlib.Core.Path.{◌≡◌, refl, ap, ◌∙◌}
-use Prim.Native.Nat.{◌-◌, ◌/◌, ◌≤◌}
-use lib.ListN.{length}
+use mathlib.Core.Path.{refl, ap, ◌∙◌}
 use Rattle.runs.proofs.RunCases.{total, counted_once}
-use Rattle.runs.proofs.SharedCases.{Shared_to, shared_start, shared_next, shared_end}
-use borrow.Author.Rules.{rules}
+use Rattle.runs.proofs.SharedCases.{shared_start, shared_next, shared_end}
 use native.Mathlib.Omega.{arith}
 use Rattle.runs.proofs.shared.run_shared.Goals as goal
 

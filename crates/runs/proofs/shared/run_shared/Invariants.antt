@@ -1,11 +1,9 @@
 -- After i numbers the machine is run by the first i (`shared_next`), and as many are counted, so that no count overflows.
-use mathlib.Core.Path.{◌≡◌, refl, ap, ◌∙◌}
+use mathlib.Core.Path.{◌≡◌}
 use Prim.Native.Nat.{◌-◌, ◌/◌, ◌≤◌}
 use lib.ListN.{length}
-use Rattle.runs.proofs.RunCases.{total, counted_once}
-use Rattle.runs.proofs.SharedCases.{Shared_to, shared_start, shared_next, shared_end}
-use borrow.Author.Rules.{rules}
-use native.Mathlib.Omega.{arith}
+use Rattle.runs.proofs.RunCases.{total}
+use Rattle.runs.proofs.SharedCases.{Shared_to}
 use Rattle.runs.proofs.shared.run_shared.Given as goal
 
 -- After i numbers the machine is run by the first i (`shared_next`), and as many are counted, so that no count overflows.

@@ -1,15 +1,7 @@
 -- The beginning of a successor and its parts, which call one another, meet their contracts (document 01, "Moves, in order"). The measure is four times the words of the
 -- term at hand, with less for a part than for what calls it on the same words. Where a part returns, a case of proofs/ says what it answers.
-use mathlib.Core.Path.{refl, sym, ap, ◌∙◌}
-use mathlib.Core.List.{List}
-use Prim.Native.Nat.{ℕ, ◌+◌, ◌-◌, ◌*◌, ◌<◌}
-use native.Mathlib.Omega.{arith}
-use lib.ListN.{length, take, drop, set, length-set, length-drop}
-use borrow.Author.Rules.{rules}
-use Rattle.scan.specs.Laws.{part, behind_len, last_len, behind_fewer}
-use Rattle.sharing.proofs.BeginningEnds.{lent_length}
-use Rattle.sharing.proofs.BeginningCases.{leaf_case, action_case, sequence_done, sequence_full, sequence_goes, guard_case, choice_left, choice_short, choice_right, star_ends, round_full, round}
-use Rattle.sharing.proofs.BeginningParallels.{left_full, left_begun, both_full, both_begun, parallel_ends, parallel_short, parallel_full, parallel_left, parallel_right, parallel_cut, parallel_both}
+use Prim.Native.Nat.{◌+◌, ◌*◌}
+use lib.ListN.{length}
 use Rattle.sharing.proofs.beginning.+begin_begin_both_begin_choice_begin_guard_begin_left_begin_parallel_begin_right_begin_sequence_begin_star.Given as goal
 
 abbrev pub decreases-begin : goal.decreases-begin

@@ -2,7 +2,6 @@
 use native.Mathlib.Omega.{arith}
 use Rattle.sharing.proofs.BeginningCodes.{never_large}
 use native.Mathlib.Omega.{arith}
-use borrow.Author.Rules.{rules}
 use Rattle.sharing.proofs.beginning.action_number.Goals as goal
 
 pub returns : goal.returns

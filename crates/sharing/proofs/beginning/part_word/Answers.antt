@@ -1,7 +1,6 @@
 -- The word of a part: done by its own code, any other by the words that are left where it stands.
 use mathlib.Core.Path.{sym, ◌∙◌}
 use Rattle.sharing.proofs.BeginningEnds.{word_done, word_part}
-use borrow.Author.Rules.{rules}
 use Rattle.sharing.proofs.beginning.part_word.Goals as goal
 
 pub returns-then-first-eq30 : goal.returns-then-first-eq30

@@ -1,6 +1,5 @@
 -- Done is one word, and three numbers stand in the answer.
 use Rattle.sharing.proofs.BeginningPuts.{end_none, end_put}
-use borrow.Author.Rules.{rules}
 use Rattle.sharing.proofs.beginning.put_done.Goals as goal
 
 -- Done is one word, and three numbers stand in the answer.

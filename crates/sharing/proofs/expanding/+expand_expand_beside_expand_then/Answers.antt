@@ -1,15 +1,12 @@
-use mathlib.Core.Path.{refl, ◌∙◌, ap}
+use mathlib.Core.Path.{◌∙◌, ap}
 use lib.Dec.{lit<}
 use lib.ListN.{length, length-set}
-use Prim.Native.Nat.{◌+◌, ◌*◌}
 use Rattle.scan.specs.Laws.{behind_len, last_len}
 use Rattle.listing.specs.Operands.{front_len}
 use Rattle.sharing.proofs.BeginningPuts.{put_length}
 use Rattle.sharing.proofs.ExpandingCases.{expand_front, expand_none, done_expanded, part_expanded, then_expanded}
 use Rattle.sharing.proofs.BesideCases.{head, beside_short, beside_expanded}
-use borrow.Author.Rules.{rules}
 use native.Mathlib.Omega.{arith}
-use Prim.Native.Nat.{ℕ, ◌<◌}
 use Rattle.sharing.proofs.expanding.+expand_expand_beside_expand_then.Goals as goal
 
 pub expand-expand_then-requires : goal.expand-expand_then-requires

@@ -1,6 +1,5 @@
 -- Done is one word (document 01, "Operations": Run writes the last term).
 use Rattle.sharing.proofs.ExpandingCases.{done_none, done_made}
-use borrow.Author.Rules.{rules}
 use Rattle.sharing.proofs.expanding.expand_done.Goals as goal
 
 pub returns-then-out-at : goal.returns-then-out-at

@@ -6,7 +6,6 @@ use Prim.Native.Nat.{◌-◌}
 use Rattle.scan.specs.Laws.{last_len}
 use Rattle.sharing.proofs.ExpandingCases.{part_none, part_no_room, part_made}
 use native.Mathlib.Omega.{arith}
-use borrow.Author.Rules.{rules}
 use Rattle.sharing.proofs.expanding.expand_part.Goals as goal
 
 pub returns-then-w-lt32 : goal.returns-then-w-lt32

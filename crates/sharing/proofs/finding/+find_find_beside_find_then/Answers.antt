@@ -1,4 +1,3 @@
-use mathlib.Core.Logic.{⊎_elim}
 use mathlib.Core.Path.{refl, sym, ap, ◌∙◌}
 use lib.Dec.{lit<}
 use Rattle.scan.specs.Laws.{behind_len, last_len}
@@ -7,8 +6,6 @@ use Rattle.sharing.proofs.FindingCases.{done_found, part_found, then_resumed, th
 use Rattle.sharing.proofs.FindingSides.{beside_joined, beside_past, apart_first, apart_second, beside_left, beside_lost, rest_count, beside_right}
 use native.Mathlib.Omega.{arith}
 use lib.ListN.{length, drop}
-use borrow.Author.Rules.{rules}
-use Prim.Native.Nat.{ℕ, ◌+◌, ◌*◌, ◌<◌}
 use Rattle.sharing.proofs.finding.+find_find_beside_find_then.Goals as goal
 use Rattle.sharing.proofs.finding.+find_find_beside_find_then.Goals.{find_beside-then-first-eq30+else-first-eq30-2, find_beside-else-first-eq30}
 

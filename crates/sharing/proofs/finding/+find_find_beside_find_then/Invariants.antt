@@ -1,16 +1,7 @@
 -- The walk over a shared term, whose functions call one another, meets its contracts: FindingCases and FindingSides say what is answered where it returns
 -- (document 01, "Moves, in order").
-use mathlib.Core.Logic.{⊎_elim}
-use mathlib.Core.Path.{refl, sym, ap, ◌∙◌}
-use lib.Dec.{lit<}
-use Rattle.scan.specs.Laws.{behind_len, last_len}
-use Rattle.listing.specs.Operands.{front_len}
-use Rattle.sharing.proofs.FindingCases.{done_found, part_found, then_resumed, then_found, at_front}
-use Rattle.sharing.proofs.FindingSides.{beside_joined, beside_past, apart_first, apart_second, beside_left, beside_lost, rest_count, beside_right}
-use native.Mathlib.Omega.{arith}
-use lib.ListN.{length, drop}
-use borrow.Author.Rules.{rules}
-use Prim.Native.Nat.{ℕ, ◌+◌, ◌*◌, ◌<◌}
+use lib.ListN.{length}
+use Prim.Native.Nat.{◌+◌, ◌*◌}
 use Rattle.sharing.proofs.finding.+find_find_beside_find_then.Given as goal
 
 abbrev pub decreases-find : goal.decreases-find

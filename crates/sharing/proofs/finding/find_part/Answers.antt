@@ -4,7 +4,6 @@ use mathlib.Core.Path.{refl}
 use Rattle.scan.specs.Laws.{last_len}
 use Rattle.sharing.proofs.FindingParts.{part_never, part_lost, part_placed, part_rest, part_passed}
 use native.Mathlib.Omega.{arith}
-use borrow.Author.Rules.{rules}
 use Rattle.sharing.proofs.finding.find_part.Goals as goal
 
 pub returns-then-w-lt32 : goal.returns-then-w-lt32

@@ -1,12 +1,8 @@
 use lib.Dec.{lit<}
-use lib.ListN.{length}
-use Prim.Native.Nat.{◌+◌, ◌*◌}
 use Rattle.scan.specs.Laws.{behind_len, last_len}
 use Rattle.listing.specs.Operands.{front_len, mask_len}
 use Rattle.sharing.proofs.MasksCases.{masked, two_masked, at_front, action_bare, sequence_bare, choice_bare, star_bare, parallel_bare, guard_bare, leaf_bare, two_bare}
-use borrow.Author.Rules.{rules}
 use native.Mathlib.Omega.{arith}
-use Prim.Native.Nat.{ℕ, ◌<◌}
 use Rattle.sharing.proofs.masks.+bare_bare_parallel_bare_two.Goals as goal
 
 pub bare-returns-then-levels-eq0 : goal.bare-returns-then-levels-eq0

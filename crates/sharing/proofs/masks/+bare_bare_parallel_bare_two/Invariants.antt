@@ -1,14 +1,7 @@
 -- Whether a term is without masks, asked of its operands in turn (document 01, "Moves, in order"). The measure is four times the words at hand, with more for a
 -- part that is asked of the same words.
-use lib.Dec.{lit<}
 use lib.ListN.{length}
 use Prim.Native.Nat.{◌+◌, ◌*◌}
-use Rattle.scan.specs.Laws.{behind_len, last_len}
-use Rattle.listing.specs.Operands.{front_len, mask_len}
-use Rattle.sharing.proofs.MasksCases.{masked, two_masked, at_front, action_bare, sequence_bare, choice_bare, star_bare, parallel_bare, guard_bare, leaf_bare, two_bare}
-use borrow.Author.Rules.{rules}
-use native.Mathlib.Omega.{arith}
-use Prim.Native.Nat.{ℕ, ◌<◌}
 use Rattle.sharing.proofs.masks.+bare_bare_parallel_bare_two.Given as goal
 
 abbrev pub decreases-bare : goal.decreases-bare

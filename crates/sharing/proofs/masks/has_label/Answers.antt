@@ -1,6 +1,5 @@
 -- The four words of a mask are zero where their sum is (document 01, "Moves, in order").
 use Rattle.sharing.proofs.MasksCases.{label_none}
-use borrow.Author.Rules.{rules}
 use Rattle.sharing.proofs.masks.has_label.Goals as goal
 
 pub returns : goal.returns

@@ -1,7 +1,6 @@
 -- Asked of the whole term; only an answer below 65,536 says that no label stands in a mask (document 01, "Moves, in order").
 use mathlib.Core.Path.{sym}
 use mathlib.Core.Bool.{true≢false}
-use borrow.Author.Rules.{rules}
 use Rattle.sharing.proofs.masks.shareable.Goals as goal
 
 pub returns-then-r-lt-MASKED : goal.returns-then-r-lt-MASKED

@@ -1,12 +1,8 @@
 -- A copy word by word is the words put at their place (document 01, "Moves, in order"). The loop has copied the first i of them.
 use Prim.Native.Nat.{◌-◌, ◌≤◌}
-use mathlib.Core.Path.{◌≡◌, refl}
+use mathlib.Core.Path.{◌≡◌}
 use lib.ListN.{length}
-use lib.Seq.{paste, paste-zero}
-use Rattle.scan.specs.Laws.{copy_len}
-use Rattle.sharing.proofs.SplicingCases.{copy_more, copy_last}
-use borrow.Author.Rules.{rules}
-use native.Mathlib.Omega.{arith}
+use lib.Seq.{paste}
 use Rattle.sharing.proofs.splicing.copy_words.Given as goal
 
 -- A copy word by word is the words put at their place (document 01, "Moves, in order"). The loop has copied the first i of them.

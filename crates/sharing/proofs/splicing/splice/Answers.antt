@@ -6,7 +6,6 @@ use mathlib.Core.Path.{refl, sym}
 use lib.Seq.{length-take-le, length-slice}
 use Rattle.sharing.proofs.SplicingCases.{splice_none, splice_same, splice_moved}
 use native.Mathlib.Omega.{arith}
-use borrow.Author.Rules.{rules}
 use Rattle.sharing.proofs.splicing.splice.Goals as goal
 
 pub returns-then-n-e : goal.returns-then-n-e

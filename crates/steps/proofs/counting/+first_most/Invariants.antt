@@ -1,5 +1,3 @@
-use borrow.Author.Rules.{rules}
-use Prim.Native.Nat.{ℕ, ◌<◌}
 use Rattle.steps.proofs.counting.+first_most.Given as goal
 
 abbrev pub decreases-first_most : goal.decreases-first_most

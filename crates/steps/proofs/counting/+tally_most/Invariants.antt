@@ -1,5 +1,3 @@
-use borrow.Author.Rules.{rules}
-use Prim.Native.Nat.{ℕ, ◌<◌}
 use Rattle.steps.proofs.counting.+tally_most.Given as goal
 
 abbrev pub decreases-tally_most : goal.decreases-tally_most

@@ -1,5 +1,4 @@
 use Rattle.steps.proofs.Tallying.{counted, counted_most}
-use borrow.Author.Rules.{rules}
 use Rattle.steps.proofs.counting.count_moves.Goals as goal
 
 pub returns-then-few-lt-FULL : goal.returns-then-few-lt-FULL

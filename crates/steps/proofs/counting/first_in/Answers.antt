@@ -1,5 +1,4 @@
 use Rattle.steps.proofs.Finding.{count_within, sought, not_sought}
-use borrow.Author.Rules.{rules}
 use Rattle.steps.proofs.counting.first_in.Goals as goal
 
 pub seek-requires : goal.seek-requires

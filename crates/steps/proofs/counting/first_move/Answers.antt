@@ -1,6 +1,5 @@
 use Rattle.steps.proofs.Finding.{found_below, found_most}
 use mathlib.Core.Path.{refl}
-use borrow.Author.Rules.{rules}
 use Rattle.steps.proofs.counting.first_move.Goals as goal
 
 pub returns-then-few-lt-FULL : goal.returns-then-few-lt-FULL

@@ -1,9 +1,5 @@
-use mathlib.Core.Path.{◌≡◌, sym, ◌∙◌}
-use Prim.Native.Nat.{◌-◌, ◌≤◌}
-use lib.ListN.{take}
-use Rattle.steps.specs.Counting.{place_of, first_number}
-use Rattle.steps.proofs.Finding.{due_from, due_start, due_end, due_here, due_later}
-use borrow.Author.Rules.{rules}
+use mathlib.Core.Path.{sym, ◌∙◌}
+use Rattle.steps.proofs.Finding.{due_start, due_end, due_here, due_later}
 use native.Mathlib.Omega.{arith}
 use Rattle.steps.proofs.counting.seek.Goals as goal
 

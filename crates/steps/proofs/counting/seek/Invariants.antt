@@ -1,10 +1,8 @@
-use mathlib.Core.Path.{◌≡◌, sym, ◌∙◌}
+use mathlib.Core.Path.{◌≡◌}
 use Prim.Native.Nat.{◌-◌, ◌≤◌}
 use lib.ListN.{take}
 use Rattle.steps.specs.Counting.{place_of, first_number}
-use Rattle.steps.proofs.Finding.{due_from, due_start, due_end, due_here, due_later}
-use borrow.Author.Rules.{rules}
-use native.Mathlib.Omega.{arith}
+use Rattle.steps.proofs.Finding.{due_from}
 use Rattle.steps.proofs.counting.seek.Given as goal
 
 abbrev pub invariant-loop-i : goal.invariant-loop-i

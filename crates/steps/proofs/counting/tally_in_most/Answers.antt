@@ -1,5 +1,4 @@
 use Rattle.steps.proofs.Tallying.{tallied}
-use borrow.Author.Rules.{rules}
 use Rattle.steps.proofs.counting.tally_in_most.Goals as goal
 
 pub returns : goal.returns

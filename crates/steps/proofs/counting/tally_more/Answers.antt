@@ -1,5 +1,4 @@
 use Rattle.steps.proofs.Tallying.{tallied}
-use borrow.Author.Rules.{rules}
 use Rattle.steps.proofs.counting.tally_more.Goals as goal
 
 pub returns : goal.returns

@@ -1,6 +1,4 @@
 use Rattle.steps.proofs.TakeCases.{sought_again}
-use borrow.Author.Rules.{rules}
-use Prim.Native.Nat.{ℕ, ◌<◌}
 use Rattle.steps.proofs.moving.+path_most.Goals as goal
 
 pub returns : goal.returns

@@ -1,7 +1,6 @@
 -- Sought in the lent numbers first (`walked`), then in more room, until there is an answer (`answered_path`); in the most room there is one (`most_path`).
 use mathlib.Core.Path.{refl, ◌∙◌}
 use Rattle.steps.proofs.TakeCases.{walked, answered_path, most_path}
-use borrow.Author.Rules.{rules}
 use Rattle.steps.proofs.moving.find_path.Goals as goal
 
 pub returns-then-few-lt-FULL : goal.returns-then-few-lt-FULL

@@ -1,6 +1,5 @@
 -- One walk, with room for a fixed count of numbers (`walked`).
 use Rattle.steps.proofs.TakeCases.{walked}
-use borrow.Author.Rules.{rules}
 use Rattle.steps.proofs.moving.path_more.Goals as goal
 
 pub returns : goal.returns

@@ -1,6 +1,5 @@
 -- A short term has a short path (`size_below`), and any other room in the long array.
 use Rattle.steps.proofs.TakeCases.{size_below}
-use borrow.Author.Rules.{rules}
 use Rattle.steps.proofs.moving.take_move.Goals as goal
 
 pub returns-then-s-le256 : goal.returns-then-s-le256

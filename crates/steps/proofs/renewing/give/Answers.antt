@@ -2,7 +2,6 @@
 use lib.ListN.{length-set}
 use Rattle.steps.proofs.Keeps.{variables_given}
 use native.Mathlib.Omega.{arith}
-use borrow.Author.Rules.{rules}
 use Rattle.steps.proofs.renewing.give.Goals as goal
 
 pub bounds-m-2 : goal.bounds-m-2

@@ -1,8 +1,6 @@
-use mathlib.Core.Path.{◌≡◌, refl}
-use Prim.Native.Nat.{◌-◌, ◌≤◌}
-use lib.ListN.{length, length-set}
-use Rattle.steps.proofs.Keeps.{Keeping, keeping_start, keeping_next, keeping_end}
-use borrow.Author.Rules.{rules}
+use mathlib.Core.Path.{refl}
+use lib.ListN.{length-set}
+use Rattle.steps.proofs.Keeps.{keeping_start, keeping_next, keeping_end}
 use native.Mathlib.Omega.{arith}
 use Rattle.steps.proofs.renewing.keep.Goals as goal
 

@@ -1,10 +1,8 @@
 -- Each turn of the loop copies one cell more (`keeping_next`).
-use mathlib.Core.Path.{◌≡◌, refl}
+use mathlib.Core.Path.{◌≡◌}
 use Prim.Native.Nat.{◌-◌, ◌≤◌}
-use lib.ListN.{length, length-set}
-use Rattle.steps.proofs.Keeps.{Keeping, keeping_start, keeping_next, keeping_end}
-use borrow.Author.Rules.{rules}
-use native.Mathlib.Omega.{arith}
+use lib.ListN.{length}
+use Rattle.steps.proofs.Keeps.{Keeping}
 use Rattle.steps.proofs.renewing.keep.Given as goal
 
 -- Each turn of the loop copies one cell more (`keeping_next`).

@@ -2,7 +2,6 @@
 -- (`store_renewed`).
 use mathlib.Core.Path.{refl, ◌∙◌}
 use Rattle.steps.proofs.Stores.{store_same, store_room, store_label, store_renewed}
-use borrow.Author.Rules.{rules}
 use Rattle.steps.proofs.renewing.renew.Goals as goal
 
 pub returns-then-code-eq0 : goal.returns-then-code-eq0

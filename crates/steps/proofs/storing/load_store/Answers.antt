@@ -1,7 +1,6 @@
 -- A store made ready, and the words of a memory put into it (`store_loaded`).
 use mathlib.Core.Path.{◌∙◌}
 use Rattle.steps.proofs.Stores.{store_loaded}
-use borrow.Author.Rules.{rules}
 use Rattle.steps.proofs.storing.load_store.Goals as goal
 
 pub returns : goal.returns

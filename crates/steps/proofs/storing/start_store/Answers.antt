@@ -1,7 +1,6 @@
 -- A store made ready, and filled by the expressions for the empty trace (`store_started`).
 use mathlib.Core.Path.{◌∙◌}
 use Rattle.steps.proofs.Stores.{store_started}
-use borrow.Author.Rules.{rules}
 use Rattle.steps.proofs.storing.start_store.Goals as goal
 
 pub returns : goal.returns

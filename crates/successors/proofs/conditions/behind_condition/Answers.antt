@@ -2,8 +2,7 @@ use mathlib.Core.Path.{ap, ◌∙◌}
 use Prim.Native.Nat.{◌+◌}
 use Rattle.successors.specs.Passing.{operands, numbers}
 use native.Mathlib.Omega.{arith}
-use Rattle.successors.proofs.Passes.{Passing, passing_start, passing_short, passing_next, passing_none, passing_end, condition_passed}
-use borrow.Author.Rules.{rules}
+use Rattle.successors.proofs.Passes.{passing_start, passing_short, passing_next, passing_none, passing_end, condition_passed}
 use Rattle.successors.proofs.conditions.behind_condition.Goals as goal
 
 pub loop-more-init : goal.loop-more-init

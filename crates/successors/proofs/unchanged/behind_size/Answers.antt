@@ -2,7 +2,6 @@
 use Rattle.successors.proofs.Ends.{two_behind}
 use mathlib.Core.Path.{◌∙◌, ap}
 use lib.ListN.{drop}
-use borrow.Author.Rules.{rules}
 use Rattle.successors.proofs.unchanged.behind_size.Goals as goal
 
 pub returns : goal.returns

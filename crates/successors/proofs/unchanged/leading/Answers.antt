@@ -3,7 +3,6 @@ use native.Mathlib.Omega.{arith}
 use native.Mathlib.Omega.{arith}
 use mathlib.Core.Path.{sym, ◌∙◌}
 use Rattle.successors.proofs.Stays.{leads_none, leads_one, leads_two}
-use borrow.Author.Rules.{rules}
 use Rattle.successors.proofs.unchanged.leading.Goals as goal
 
 pub returns-then-first-eq22 : goal.returns-then-first-eq22

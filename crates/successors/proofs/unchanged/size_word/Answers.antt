@@ -2,7 +2,6 @@
 use Rattle.successors.proofs.Ends.{second_word}
 use mathlib.Core.Path.{◌∙◌, ap}
 use lib.ListN.{get_or}
-use borrow.Author.Rules.{rules}
 use Rattle.successors.proofs.unchanged.size_word.Goals as goal
 
 pub returns : goal.returns

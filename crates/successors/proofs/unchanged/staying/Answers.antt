@@ -1,7 +1,6 @@
 -- One step over words that stay: a case of proofs/Stays for each way that it returns.
 use mathlib.Core.Path.{sym, ◌∙◌}
 use Rattle.successors.proofs.Stays.{stays_none, stays_sequence, stays_left, stays_right}
-use borrow.Author.Rules.{rules}
 use Rattle.successors.proofs.unchanged.staying.Goals as goal
 
 pub returns-then-first-eq30 : goal.returns-then-first-eq30

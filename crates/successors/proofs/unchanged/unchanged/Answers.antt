@@ -1,8 +1,4 @@
-use borrow.Author.Rules.{rules}
-use lib.ListN.{length, drop}
-use Prim.Native.Nat.{◌-◌}
-use Rattle.successors.specs.Unchanged.{Staying}
-use Rattle.successors.proofs.Stays.{Passed, passed_none, stays_there, passed_next, passed_all}
+use Rattle.successors.proofs.Stays.{passed_none, stays_there, passed_next, passed_all}
 use Rattle.successors.proofs.unchanged.unchanged.Goals as goal
 
 pub loop-n-init : goal.loop-n-init

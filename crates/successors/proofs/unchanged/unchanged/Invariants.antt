@@ -1,9 +1,8 @@
 -- The steps one behind another. The invariant: what was passed stays, and the next step is known; fewer words of the term are left with each step.
-use borrow.Author.Rules.{rules}
 use lib.ListN.{length, drop}
 use Prim.Native.Nat.{◌-◌}
 use Rattle.successors.specs.Unchanged.{Staying}
-use Rattle.successors.proofs.Stays.{Passed, passed_none, stays_there, passed_next, passed_all}
+use Rattle.successors.proofs.Stays.{Passed}
 use Rattle.successors.proofs.unchanged.unchanged.Given as goal
 
 -- The steps one behind another. The invariant: what was passed stays, and the next step is known; fewer words of the term are left with each step.

@@ -2,7 +2,6 @@ use Rattle.unfold.specs.PutsLaws.{from_word}
 use Prim.Native.Nat.{◌*◌, ◌%◌}
 use lib.ListN.{length-set}
 use native.Mathlib.Omega.{arith}
-use borrow.Author.Rules.{rules}
 use Rattle.unfold.proofs.rows.put.Goals as goal
 
 pub bounds-out-at-2 : goal.bounds-out-at-2

@@ -1,5 +1,4 @@
 use Rattle.unfold.proofs.RowCases.{fronts}
-use borrow.Author.Rules.{rules}
 use Rattle.unfold.proofs.rows.put_front.Goals as goal
 
 pub returns-then-c-eq2 : goal.returns-then-c-eq2

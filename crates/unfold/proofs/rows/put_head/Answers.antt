@@ -1,12 +1,8 @@
-use borrow.Author.Rules.{rules}
 use Rattle.unfold.proofs.RowCases.{heads, word_length, head_room, head_next}
 use Rattle.unfold.specs.PutsLaws.{from_none}
 use borrow.Author.Tests.{not-false}
-use mathlib.Core.Path.{◌≡◌, refl, ◌∙◌}
+use mathlib.Core.Path.{refl, ◌∙◌}
 use native.Mathlib.Omega.{arith}
-use Rattle.unfold.specs.Unfolded.{written_from}
-use Prim.Native.Nat.{◌+◌, ◌-◌, ◌≤◌}
-use lib.ListN.{length, take}
 use Rattle.unfold.proofs.rows.put_head.Goals as goal
 
 pub returns-then-not-has_room : goal.returns-then-not-has_room

@@ -1,10 +1,5 @@
-use borrow.Author.Rules.{rules}
 use native.Mathlib.Omega.{arith}
 use Rattle.unfold.proofs.RowCases.{rows, last_size, row_next}
-use Prim.Native.Nat.{◌+◌, ◌*◌, ◌≤◌}
-use lib.ListN.{length}
-use Rattle.unfold.specs.Puts.{Putting}
-use Rattle.unfold.specs.Instantiation.{Instantiates}
 use Rattle.unfold.proofs.rows.put_row.Goals as goal
 
 pub loop-k-init : goal.loop-k-init

@@ -1,6 +1,3 @@
-use borrow.Author.Rules.{rules}
-use native.Mathlib.Omega.{arith}
-use Rattle.unfold.proofs.RowCases.{rows, last_size, row_next}
 use Prim.Native.Nat.{◌+◌, ◌*◌, ◌≤◌}
 use lib.ListN.{length}
 use Rattle.unfold.specs.Puts.{Putting}

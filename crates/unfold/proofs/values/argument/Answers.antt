@@ -1,5 +1,4 @@
 use Rattle.unfold.proofs.ValueCases.{argument_variable, argument_constant}
-use borrow.Author.Rules.{rules}
 use Rattle.unfold.proofs.values.argument.Goals as goal
 
 pub returns-then-c-eq2 : goal.returns-then-c-eq2

@@ -2,15 +2,8 @@ use mathlib.Core.List.{[]}
 use Rattle.unfold.proofs.ValueCases.{values_none, values_next, values_all}
 use mathlib.Core.Path.{refl}
 use native.Mathlib.Omega.{arith}
-use borrow.Author.Rules.{rules}
 use lib.ListN.{length-set}
-use borrow.Author.Rules.{rules}
 use native.Mathlib.Omega.{arith}
-use mathlib.Core.Path.{◌≡◌}
-use Prim.Native.Nat.{◌≤◌, ◌-◌}
-use lib.ListN.{length, take}
-use Rattle.arguments.specs.Tables.{from}
-use Rattle.unfold.specs.Saying.{argument_at}
 use Rattle.unfold.proofs.values.arguments_of.Goals as goal
 
 pub loop-j-init : goal.loop-j-init

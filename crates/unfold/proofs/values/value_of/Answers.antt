@@ -1,5 +1,4 @@
 use Rattle.arguments.specs.TableLaws.{entry_beyond}
-use borrow.Author.Rules.{rules}
 use Rattle.unfold.proofs.values.value_of.Goals as goal
 
 pub returns : goal.returns
