@@ -1,11 +1,26 @@
 // Text on its way to standard output. It is gathered in a page, of which the first `used` bytes wait, and a page is written at once:
 // when it is full, and when a choice or a state is whole, so that whoever sends the numbers one by one sees each answer.
-ghost use Rattle.std.specs.Prelude.{◌≤◌, length};
+ghost use Rattle.std.specs.Prelude.{◌≡◌, ◌≤◌, ◌++◌, length, drop};
+ghost use Rattle.std.specs.Fmt.{decimal};
 
-use io::{decimal, write_all};
-use libc::STDOUT_FILENO;
+use std::io::{Stdout, Write};
 
-pub type Page = [u8; 4096];
+// The bytes that wait, and where they go.
+#[derive(Drop)]
+pub struct Page {
+    bytes: [u8; 4096],
+    out: Stdout,
+}
+
+impl Page {
+    // Nothing waits.
+    pub fn new(out: Stdout) -> Page {
+        Page {
+            bytes: [0; 4096],
+            out,
+        }
+    }
+}
 
 // One byte more waits. Of a full page the bytes are written first.
 pub fn put(page: &mut Page, used: usize, byte: u8) -> usize
@@ -13,11 +28,11 @@ pub fn put(page: &mut Page, used: usize, byte: u8) -> usize
     ensures { (1 ≤ result) × (result ≤ 4096) }
 {
     if used < 4096 {
-        page[used] = byte;
+        page.bytes[used] = byte;
         return used + 1;
     }
-    write_all(STDOUT_FILENO, page);
-    page[0] = byte;
+    send(&mut page.out, &page.bytes, 4096);
+    page.bytes[0] = byte;
     1
 }
 
@@ -34,13 +49,45 @@ pub fn put_text(page: &mut Page, used: usize, text: &[u8]) -> usize
     at
 }
 
+// How many digits a number has.
+fn digit_count(n: u64) -> usize
+    ensures { result ≡ length (decimal n) }
+{
+    let mut k = 1;
+    let mut rest = n;
+    while 9 < rest {
+        rest = rest / 10;
+        k = k + 1;
+    }
+    k
+}
+
+// Puts a number's digits at the start of the array, the most significant first, and answers how many they are. What stands behind
+// them stays.
+fn write_decimal(n: u64, digits: &mut [u8; 20]) -> usize
+    ensures count { result ≡ length (decimal n) }
+    ensures within { result ≤ 20 }
+    ensures written { digits.new ≡ decimal n ++ drop result digits.old }
+{
+    let k = digit_count(n);
+    let mut rest = n;
+    let mut i = k - 1;
+    while 9 < rest {
+        digits[i] = b'0' + (rest % 10) as u8;
+        rest = rest / 10;
+        i = i - 1;
+    }
+    digits[0] = b'0' + rest as u8;
+    k
+}
+
 // A number's digits: twenty at most.
 pub fn put_number(page: &mut Page, used: usize, n: u64) -> usize
     requires { used ≤ 4096 }
     ensures { result ≤ 4096 }
 {
     let mut digits = [0u8; 20];
-    let k = decimal(n, &mut digits);
+    let k = write_decimal(n, &mut digits);
     put_text(page, used, &digits[..k])
 }
 
@@ -53,11 +100,19 @@ pub fn put_refusal(page: &mut Page, used: usize, k: u8) -> usize
     put_number(page, at, k as u64)
 }
 
-// Writes the first n bytes, and answers whether it could.
-fn send(bytes: &[u8], n: usize) -> bool
+// Writes the first n bytes, and answers whether it could. It stops at the first write that takes nothing or fails.
+fn send(out: &mut Stdout, bytes: &[u8], n: usize) -> bool
     requires { n ≤ length bytes.now }
 {
-    write_all(STDOUT_FILENO, &bytes[0..n])
+    let mut done = 0;
+    while done < n {
+        match out.write(&bytes[done..n]) {
+            Ok(0) => return false,
+            Ok(k) => done = done + k,
+            Err(_) => return false,
+        }
+    }
+    true
 }
 
 // The line ends, and all that waits is written. Answers whether it could be.
@@ -65,7 +120,7 @@ pub fn end_line(page: &mut Page, used: usize) -> bool
     requires { used ≤ 4096 }
 {
     let end = put(page, used, b'\n');
-    send(page, end)
+    send(&mut page.out, &page.bytes, end)
 }
 
 // A line that is a refusal.

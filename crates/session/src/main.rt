@@ -17,6 +17,7 @@ use input::{Input, read_number, read_rules};
 use lines::{Page, end_line, print_refusal, put, put_number, put_refusal, put_text};
 use scan::wide;
 use states::print_state;
+use std::io::Stdin;
 
 // Where a session stands: the moves taken, the words of the term, the cells of the memory, and whether they are in the other buffers.
 #[derive(Clone, Copy)]
@@ -140,6 +141,7 @@ fn turn_either_way(
 // The numbers, one by one; with each move taken the buffers change places. The turns left only say that the loop ends: no input is as
 // long.
 fn play(
+    input: &mut Stdin,
     page: &mut Page,
     start: Place,
     rules: &[u8],
@@ -154,7 +156,7 @@ fn play(
     let mut at = start;
     while 0 < turns {
         turns = turns - 1;
-        let Input::Number(k) = read_number() else {
+        let Input::Number(k) = read_number(input) else {
             return;
         };
         match turn_either_way(page, k, at, rules, term, memory, other_term, other_memory) {
@@ -170,7 +172,7 @@ fn play(
 }
 
 // The session of an admitted rule set, in buffers for the largest sizes that are reported.
-fn begin(page: &mut Page, rules: &[u8], cells: usize) {
+fn begin(input: &mut Stdin, page: &mut Page, rules: &[u8], cells: usize) {
     let mut term = [0u8; 16384];
     let mut memory = [0u8; 2048];
     let mut other_term = [0u8; 16384];
@@ -190,6 +192,7 @@ fn begin(page: &mut Page, rules: &[u8], cells: usize) {
                 &mut other_memory,
             ) {
                 play(
+                    input,
                     page,
                     at,
                     rules,
@@ -206,13 +209,14 @@ fn begin(page: &mut Page, rules: &[u8], cells: usize) {
     }
 }
 
-fn main() {
+fn main(rt: HostRuntime) {
+    let mut input = rt.stdin();
+    let mut page = Page::new(rt.stdout());
     let mut file = [0u8; 32768];
-    let mut page = [0u8; 4096];
-    let n = read_rules(&mut file);
+    let n = read_rules(&mut input, &mut file);
     let rules = &file[0..n];
     match admit(rules) {
-        Admitted::Sizes(l) => begin(&mut page, rules, wide32(l.cells)),
+        Admitted::Sizes(l) => begin(&mut input, &mut page, rules, wide32(l.cells)),
         Admitted::Refused(k) => {
             print_refusal(&mut page, k);
         }
