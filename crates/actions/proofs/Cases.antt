@@ -11,8 +11,8 @@ use borrow.Author.Tests.{eq-eqb, ne_eqb}
 use Rattle.eb3.specs.Generic.AllLists.{All}
 use Rattle.eb3.specs.Terms.{VisibleAction, visible, Mask}
 use Rattle.eb3.specs.Spelling.{number_words, arguments_words}
-use Rattle.eb3.specs.Laws.Sizes.{arguments_double}
-use Rattle.eb3.specs.Laws.Spelling.{arguments_length}
+use Rattle.eb3.proofs.Laws.Sizes.{arguments_double}
+use Rattle.eb3.proofs.Laws.Spelling.{arguments_length}
 use Rattle.actions.specs.Codes.{arguments_code, action_code, Small, Closed, ActionAt}
 use Rattle.actions.specs.CodesLaws.{label_in, label_back, arguments_back, visible_positive}
 use Rattle.actions.specs.Sets.{bit_at, in_set, mask_word, mask_set}

@@ -3,7 +3,7 @@
 use Rattle.std.proofs.Common.{arith}
 use Rattle.eb3.specs.Terms.{Action, internal, visible}
 use Rattle.eb3.specs.RuleSets.{RuleSet, label}
-use Rattle.eb3.specs.Laws.Elements.{within_small, arguments_two}
+use Rattle.eb3.proofs.Laws.Elements.{within_small, arguments_two}
 use Rattle.eb3.specs.WellFormedness.{WellFormedAction, Form}
 use Rattle.actions.specs.Codes.{Small}
 

@@ -5,7 +5,7 @@ use Rattle.std.proofs.Common.{ap, ◌∙◌, subst, arith, eqb→eq, get_or-take
 use Rattle.std.proofs.Math.Dec.{eqb_refl}
 use Rattle.eb3.specs.Generic.AllLists.{All}
 use Rattle.eb3.specs.Terms.{VisibleAction, Action, internal, visible, Mask, bit, in_mask, same_action}
-use Rattle.eb3.specs.Laws.Terms.{same_action→eq, same_action_refl}
+use Rattle.eb3.proofs.Laws.Terms.{same_action→eq, same_action_refl}
 use Rattle.actions.specs.Codes.{arguments_code, action_code, Small}
 
 -- The label that a number other than 0 tells.

@@ -10,10 +10,10 @@ use lib.Seq.{drop-cons}
 use borrow.Author.Tests.{not-true, not-false, eq-eqb, ne_eqb}
 use Rattle.eb3.specs.Editions.{edition_1}
 use Rattle.eb3.specs.Blocks.{stream}
-use Rattle.eb3.specs.Laws.Reading.{pick_true, pick_false}
+use Rattle.eb3.proofs.Laws.Reading.{pick_true, pick_false}
 use Rattle.eb3.specs.RuleReading.{read_rules}
 use Rattle.eb3.specs.Admission.{all_zero}
-use Rattle.eb3.specs.Laws.Judging.{judged}
+use Rattle.eb3.specs.Judging.{judged}
 use Rattle.weights.specs.Weighing.{measure, reported}
 use Rattle.weights.specs.declared.Weight.{Weight}
 use Rattle.weights.specs.declared.Limits.{Limits}

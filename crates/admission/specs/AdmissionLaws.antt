@@ -9,13 +9,13 @@ use Rattle.eb3.specs.RuleSets.{RuleSet}
 use Rattle.eb3.specs.Reading.{Read, taken}
 use Rattle.eb3.specs.RuleReading.{read_rules}
 use Rattle.eb3.specs.Blocks.{stream, Opened, open_blocks}
-use Rattle.eb3.specs.Laws.Admission.{opened_is_1}
+use Rattle.eb3.proofs.Laws.Admission.{opened_is_1}
 use Rattle.eb3.specs.Admission.{ends_right, ended, within_limits, admission}
 use Rattle.eb3.specs.Sizes.{reach, breadth}
 use Rattle.eb3.specs.Unfolding.{unfold_main}
 use Rattle.eb3.specs.Answers.{Answer, refused, answered, and_then}
 use Rattle.eb3.specs.Operations.{admit, sizes_needed}
-use Rattle.eb3.specs.Laws.Answers.{and_then_answered, answered_injective, pick_answered, not_both}
+use Rattle.eb3.proofs.Laws.Answers.{and_then_answered, answered_injective, pick_answered, not_both}
 use Rattle.weights.specs.declared.Limits.{Limits}
 use Rattle.admission.specs.declared.Admitted.TheVariants.{Sizes as Admitted_sizes, Refused as Admitted_refused}
 use Rattle.admission.specs.Answering.{limits, admitted}

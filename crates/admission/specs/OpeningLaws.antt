@@ -6,11 +6,11 @@ use Rattle.std.proofs.Common.{◌∙◌, subst, arith, eqb→eq, leb→le, lengt
 use Rattle.std.proofs.lemmas.List.{drop-append-le}
 use Rattle.eb3.specs.Generic.Booleans.{T_fst, T_snd}
 use Rattle.eb3.specs.Blocks.{block_count, stream, whole_blocks, Opened as Blocks_as_Opened, open_blocks}
-use Rattle.eb3.specs.Laws.Admission.{stream_length, opened as opened_as, opened_1, opened_is_1}
+use Rattle.eb3.proofs.Laws.Admission.{stream_length, opened as opened_as, opened_1, opened_is_1}
 use Rattle.eb3.specs.Answers.{Answer, refused, answered, and_then}
 use Rattle.eb3.specs.RuleReading.{read_rules}
 use Rattle.eb3.specs.Operations.{admit}
-use Rattle.eb3.specs.Laws.Judging.{whole_of, admit_by_parts}
+use Rattle.eb3.proofs.Laws.Judging.{whole_of, admit_by_parts}
 use Rattle.blocks.specs.declared.Opened.{Opened}
 use Rattle.blocks.specs.declared.Opened.TheVariants.{Blocks, Refused as Opened_refused}
 use Rattle.blocks.specs.Opening.{opening}

@@ -9,7 +9,7 @@ ghost use Rattle.eb3.specs.Admission.{all_zero};
 ghost use Rattle.eb3.specs.Operations.{admit};
 ghost use Rattle.rules.specs.Sections.{rules_weighed};
 ghost use Rattle.weights.specs.Weighing.{measure};
-ghost use Rattle.eb3.specs.Laws.Judging.{judged};
+ghost use Rattle.eb3.specs.Judging.{judged};
 ghost use Rattle.admission.specs.Answering.{admitted, read_whole};
 ghost use Rattle.admission.specs.Admitting.{WordsAdmitted, FileAdmitted};
 

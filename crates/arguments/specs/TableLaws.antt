@@ -18,11 +18,11 @@ use Rattle.eb3.specs.Refusal
 use Rattle.eb3.specs.Reading.{refused, taken, pick, both, number_of, number_in}
 use Rattle.eb3.specs.TermReading.{mask_of}
 use Rattle.eb3.specs.RuleReading.{argument_of, arguments_of}
-use Rattle.eb3.specs.Laws.Reading.{Sound}
-use Rattle.eb3.specs.Laws.TermReading.{mask_sound}
-use Rattle.eb3.specs.Laws.RuleTermReading.{arguments_sound}
-use Rattle.eb3.specs.Laws.RuleSets.{functions_counted, domain_is}
-use Rattle.eb3.specs.Laws.Attributes.{no_domain_beyond}
+use Rattle.eb3.proofs.Laws.Reading.{Sound}
+use Rattle.eb3.proofs.Laws.TermReading.{mask_sound}
+use Rattle.eb3.proofs.Laws.RuleTermReading.{arguments_sound}
+use Rattle.eb3.proofs.Laws.RuleSets.{functions_counted, domain_is}
+use Rattle.eb3.proofs.Laws.Attributes.{no_domain_beyond}
 use Rattle.scan.specs.Laws.{Fine, Ends, tail_here, giving_fine, then_fine, both_ends, step_fine, pick_fine, number_ends, by_number_ends}
 use Rattle.scan.specs.RowLaws.{number_in_ends}
 use Rattle.arguments.specs.Tables.{from, row, label_place, some_function, process_row, declared, constant_of_domain, variable_of_domain}

@@ -15,7 +15,7 @@ use Rattle.eb3.specs.Reading.{pick}
 use Rattle.eb3.specs.Answers.{Answer, answered, refused, or_refused, and_then}
 use Rattle.eb3.specs.Bytes.{words_in}
 use Rattle.eb3.specs.Blocks.{contents, block_count, whole_blocks, blocks_right, edition_in, open_blocks}
-use Rattle.eb3.specs.Laws.Reading.{pick_false}
+use Rattle.eb3.proofs.Laws.Reading.{pick_false}
 use Rattle.blocks.specs.Opening.{edition_test, opening}
 use Rattle.blocks.specs.declared.Opened.TheVariants.{Blocks, Refused}
 use Rattle.blocks.proofs.Joining.{one_content}

@@ -8,7 +8,7 @@ use lib.ListN.{length, take, drop, get_or, set, length-append, length-take, leng
 use lib.Seq.{drop-cons, drop-drop, take-suc-set, take_all, take-add, drop_at, take_at, length-take-le}
 use borrow.Rule.Slice.PartMut.{put_mid}
 use Rattle.eb3.specs.Bytes.{words_in}
-use Rattle.eb3.specs.Laws.Bytes.{words_counted}
+use Rattle.eb3.proofs.Laws.Bytes.{words_counted}
 use Rattle.eb3.specs.Blocks.{contents}
 
 word_next : (s : List ℕ) (j : ℕ) → j + 1 < length s → words_in (drop j s) ≡ (get_or s j 0 + 256 * get_or s (j + 1) 0) ∷ words_in (drop (j + 2) s)

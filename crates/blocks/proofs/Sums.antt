@@ -9,7 +9,8 @@ use lib.Seq.{drop-cons, take_all}
 use mir.Val.{Fits}
 use mir.Syntax.{w8}
 use Rattle.eb3.specs.Blocks.{Sums, sums}
-use Rattle.eb3.specs.Laws.Blocks.{plain_sums, reduced, sums_deferred}
+use Rattle.eb3.specs.Blocks.{plain_sums}
+use Rattle.eb3.proofs.Laws.Blocks.{reduced, sums_deferred}
 
 abbrev pub none_yet : Sums
 none_yet = record { a = 0; b = 0 }

@@ -5,7 +5,7 @@
 ghost use Rattle.std.specs.Prelude.{◌≡◌, Bool, List, [], ◌∷◌, ◌++◌, ℕ, ◌+◌, ◌*◌, ◌/◌, ◌%◌, ◌≤◌, ◌<◌, length, take, drop, get_or};
 ghost use Rattle.eb3.specs.Bytes.{words_in};
 ghost use Rattle.eb3.specs.Blocks.{Sums, sums, block_right, blocks_right, contents, stream, open_blocks};
-ghost use Rattle.eb3.specs.Laws.Blocks.{plain_sums};
+ghost use Rattle.eb3.specs.Blocks.{plain_sums};
 ghost use Rattle.blocks.specs.Opening.{as_sums, edition_test, opening};
 
 // What opening a file gives: how many blocks there are, or the number of a refusal.

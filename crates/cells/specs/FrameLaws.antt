@@ -10,7 +10,7 @@ use Rattle.std.proofs.Math.ListN.{length}
 use Rattle.eb3.specs.Values.{Value, undefined, number, equal, encode, decode, AtMost}
 use Rattle.eb3.specs.Expressions.{Data, Variable, If, Equal, evaluate_data}
 use Rattle.eb3.specs.Attributes.{function, expression, number_of_functions}
-use Rattle.eb3.specs.Laws.Attributes.{apply_numbers}
+use Rattle.eb3.proofs.Laws.Attributes.{apply_numbers}
 use Rattle.eb3.specs.Scopes.{DataInScope}
 use Rattle.eb3.specs.Cells.{offset, cells_up_to}
 use Rattle.eb3.specs.Spelling.{data_words}

@@ -4,12 +4,12 @@ use Rattle.std.specs.Prelude.{◌≡◌, List, [], ◌∷◌, ◌++◌, map, ℕ
 use Rattle.std.proofs.Common.{sym, ap, subst, ◌∙◌, arith, lit<, length-drop, length-append, take_all, take_at, length-take-le, get_or-take, get_or-drop, ext_get_or}
 use Rattle.std.proofs.lemmas.List.{length-map}
 use Rattle.eb3.specs.Values.{Value, undefined, encode, decode}
-use Rattle.eb3.specs.Laws.Values.{bounded_at_most}
-use Rattle.eb3.specs.Laws.Cells.{ValuesAtMost}
-use Rattle.eb3.specs.Laws.RuleSets.{get_d_map}
+use Rattle.eb3.proofs.Laws.Values.{bounded_at_most}
+use Rattle.eb3.proofs.Laws.Cells.{ValuesAtMost}
+use Rattle.eb3.proofs.Laws.RuleSets.{get_d_map}
 use Rattle.eb3.specs.Bytes.{words_in, word_count, written}
-use Rattle.eb3.specs.Laws.Bytes.{words_counted, written_words}
-use Rattle.eb3.specs.Laws.Spelling.{Small}
+use Rattle.eb3.proofs.Laws.Bytes.{words_counted, written_words}
+use Rattle.eb3.proofs.Laws.Spelling.{Small}
 use Rattle.eb3.specs.Memory.{memory_words, cells_in}
 use Rattle.expressions.specs.Stores.{stored, now_place}
 use Rattle.expressions.specs.ValueLaws.{word_of_value, any_default}

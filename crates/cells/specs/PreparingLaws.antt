@@ -7,7 +7,7 @@ use Rattle.std.proofs.Math.Decide.{ℕ_discrete, dec_lt}
 use Rattle.std.proofs.Math.ListN.{get_or-eq_default}
 use borrow.Author.Tests.{lt-ltb, le-ltb, le-leb}
 use Rattle.eb3.specs.Bytes.{words_in, written}
-use Rattle.eb3.specs.Laws.Bytes.{words_counted}
+use Rattle.eb3.proofs.Laws.Bytes.{words_counted}
 use Rattle.expressions.specs.Stores.{stored, now_place}
 use Rattle.writing.specs.Wrote.{Wrote}
 use Rattle.cells.specs.TurnLaws.{stored_there, stored_else}

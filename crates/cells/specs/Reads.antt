@@ -6,13 +6,13 @@ use Rattle.std.proofs.Math.Path.{ap}
 use Rattle.std.proofs.Math.ListN.{get_or}
 use Rattle.eb3.specs.Generic.Lists.{Within}
 use Rattle.eb3.specs.Values.{Value, undefined, encode, decode, AtMost}
-use Rattle.eb3.specs.Laws.Values.{decode_encode}
+use Rattle.eb3.proofs.Laws.Values.{decode_encode}
 use Rattle.eb3.specs.Expressions.{Cond, no_reading, environment, evaluate_cond}
 use Rattle.eb3.specs.Attributes.{Attributes, domain, number_of_functions, apply_in_domain, guard_holds}
-use Rattle.eb3.specs.Laws.Attributes.{apply_cong, guard_evaluated}
+use Rattle.eb3.proofs.Laws.Attributes.{apply_cong, guard_evaluated}
 use Rattle.eb3.specs.Scopes.{CondInScope, guard_scope}
 use Rattle.eb3.specs.Cells.{cell_count, cell_index, offset, total_cells, cell_at}
-use Rattle.eb3.specs.Laws.Cells.{ValuesAtMost}
+use Rattle.eb3.proofs.Laws.Cells.{ValuesAtMost}
 use Rattle.expressions.specs.Stores.{stored, row_place, now_place, cell_in, reading_in, environment_in}
 use Rattle.expressions.specs.Answering.{Plain}
 use Rattle.cells.specs.Layout.{RowLaid, Laid, Holds}

@@ -8,12 +8,12 @@ use Rattle.eb3.specs.Expressions.{Data, Undefined}
 use Rattle.eb3.specs.Attributes.{Attributes, domain, number_of_functions}
 use Rattle.eb3.specs.Scopes.{start_scope, label_scope, guard_scope}
 use Rattle.eb3.specs.Cells.{cell_count, offset, total_cells}
-use Rattle.eb3.specs.Laws.CellCounts.{one_parameter_count, one_arity, cells_below as cells_at_most}
+use Rattle.eb3.proofs.Laws.CellCounts.{one_parameter_count, one_arity, cells_below as cells_at_most}
 use Rattle.eb3.specs.RuleSets.{Function, RuleSet, domain_size, sizes_of, no_rule, function_rule, attributes}
-use Rattle.eb3.specs.Laws.RuleSets.{functions_counted, domain_is}
+use Rattle.eb3.proofs.Laws.RuleSets.{functions_counted, domain_is}
 use Rattle.eb3.specs.Spelling.{data_words}
 use Rattle.eb3.specs.WellFormedness.{DomainsDefined, Form}
-use Rattle.eb3.specs.Laws.Editions.{top_is_65534}
+use Rattle.eb3.proofs.Laws.Editions.{top_is_65534}
 use Rattle.declarations.specs.Directory.{Stands, Standing, FunctionRow, FunctionRows, row_width, Directory}
 use Rattle.declarations.specs.Entering.{cells_of, all_cells}
 use Rattle.expressions.specs.Stores.{stored, row_place}

@@ -7,20 +7,20 @@ use Rattle.std.proofs.Math.Option.{none, some}
 use Rattle.std.proofs.Math.ListN.{get_or}
 use Rattle.eb3.specs.Generic.AllLists.{all_at}
 use Rattle.eb3.specs.Values.{Value, undefined, number, encode, decode}
-use Rattle.eb3.specs.Laws.Values.{decode_encode}
+use Rattle.eb3.proofs.Laws.Values.{decode_encode}
 use Rattle.eb3.specs.Expressions.{Undefined, no_reading, variables}
 use Rattle.eb3.specs.Terms.{VisibleAction, visible}
 use Rattle.eb3.specs.Attributes.{Attributes, AttributeFunction}
 use Rattle.eb3.specs.Scopes.{DataInScope, start_scope, label_scope}
 use Rattle.eb3.specs.Cells.{total_cells, cell_at}
-use Rattle.eb3.specs.Laws.Cells.{ValuesAtMost}
-use Rattle.eb3.specs.Laws.CellCounts.{one_arity}
+use Rattle.eb3.proofs.Laws.Cells.{ValuesAtMost}
+use Rattle.eb3.proofs.Laws.CellCounts.{one_arity}
 use Rattle.eb3.specs.RuleSets.{RuleSet, label, function_rule, attributes}
-use Rattle.eb3.specs.Laws.RuleSets.{get_d_map, functions_counted, function_is}
-use Rattle.eb3.specs.Laws.Elements.{within_small, arguments_counted, arguments_two}
+use Rattle.eb3.proofs.Laws.RuleSets.{get_d_map, functions_counted, function_is}
+use Rattle.eb3.proofs.Laws.Elements.{within_small, arguments_counted, arguments_two}
 use Rattle.eb3.specs.Spelling.{data_words}
 use Rattle.eb3.specs.WellFormedness.{WellFormedAction, Form}
-use Rattle.eb3.specs.Laws.Editions.{top_is_65534}
+use Rattle.eb3.proofs.Laws.Editions.{top_is_65534}
 use Rattle.declarations.specs.Directory.{Stands, row_width, Directory}
 use Rattle.expressions.specs.Stores.{stored, now_place, before_place, variable_in}
 use Rattle.cells.specs.Layout.{Laid, Holds}

@@ -10,13 +10,13 @@ use Rattle.std.proofs.Math.Decide.{ℕ_discrete}
 use Rattle.std.proofs.Math.ListN.{length, get_or, length-set}
 use Rattle.eb3.specs.Generic.Lists.{Within}
 use Rattle.eb3.specs.Values.{Value, undefined, number, encode, decode, AtMost}
-use Rattle.eb3.specs.Laws.Values.{decode_encode}
+use Rattle.eb3.proofs.Laws.Values.{decode_encode}
 use Rattle.eb3.specs.Expressions.{Reading, environment, variables, evaluate_data}
 use Rattle.eb3.specs.Terms.{VisibleAction}
 use Rattle.eb3.specs.Attributes.{Attributes, domain, function, expression, variables_in_scope, number_of_functions, apply_in_domain, evaluate}
-use Rattle.eb3.specs.Laws.Attributes.{apply_cong}
+use Rattle.eb3.proofs.Laws.Attributes.{apply_cong}
 use Rattle.eb3.specs.Cells.{cell_count, offset, total_cells, cell_at, cells_up_to}
-use Rattle.eb3.specs.Laws.Cells.{renewed}
+use Rattle.eb3.proofs.Laws.Cells.{renewed}
 use Rattle.scan.specs.Checking.{last_of}
 use Rattle.expressions.specs.Stores.{stored, row_place, now_place, before_place, cell_in, reading_in, variable_in, environment_in}
 use Rattle.expressions.specs.Answering.{DataAt, Evaluated}

@@ -19,10 +19,10 @@ use Rattle.eb3.specs.RuleSpelling.{one_word, counted_words}
 use Rattle.eb3.specs.Reading.{taken, count_of}
 use Rattle.eb3.specs.RuleReading.{read_domains, with_process, without_processes}
 use Rattle.eb3.specs.Measures.{sat, Measure, measure_term, table, row_of}
-use Rattle.eb3.specs.Laws.Reading.{Sound, count_sound, counted_sound}
-use Rattle.eb3.specs.Laws.RuleSets.{get_d_map, functions_counted, domain_is}
-use Rattle.eb3.specs.Laws.Attributes.{no_domain_beyond}
-use Rattle.eb3.specs.Laws.Signatures.{Alike, rows_grown}
+use Rattle.eb3.proofs.Laws.Reading.{Sound, count_sound, counted_sound}
+use Rattle.eb3.proofs.Laws.RuleSets.{get_d_map, functions_counted, domain_is}
+use Rattle.eb3.proofs.Laws.Attributes.{no_domain_beyond}
+use Rattle.eb3.proofs.Laws.Signatures.{Alike, rows_grown}
 use Rattle.arguments.specs.Tables.{row, declared, measure_row, callee}
 use Rattle.arguments.specs.TableLaws.{domains_length, domain_at, labels_length, label_at, guard_declared}
 use Rattle.declarations.specs.Entering.{put_row, put_rows}

@@ -12,9 +12,9 @@ use Rattle.eb3.specs.RuleSpelling.{one_word, counted_words, rule_words}
 use Rattle.eb3.specs.Reading.{Read, refused, taken, Reader, giving, then, both, number_of, counted, for_each}
 use Rattle.eb3.specs.ExpressionReading.{read_data}
 use Rattle.eb3.specs.RuleReading.{read_rule_term, read_process}
-use Rattle.eb3.specs.Laws.Reading.{Sound, Sounds, number_sound, counted_sound}
-use Rattle.eb3.specs.Laws.RuleTermReading.{rule_term_sound}
-use Rattle.eb3.specs.Laws.ExpressionReading.{data_sound}
+use Rattle.eb3.proofs.Laws.Reading.{Sound, Sounds, number_sound, counted_sound}
+use Rattle.eb3.proofs.Laws.RuleTermReading.{rule_term_sound}
+use Rattle.eb3.proofs.Laws.ExpressionReading.{data_sound}
 use Rattle.scan.specs.declared.Checked.{Checked}
 use Rattle.scan.specs.declared.Checked.TheVariants.{Left}
 use Rattle.scan.specs.Checking.{checked, last_of}

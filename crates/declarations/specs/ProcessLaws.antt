@@ -10,8 +10,8 @@ use Rattle.eb3.specs.Measures.{sat, Measure, measure_term, row_of}
 use Rattle.eb3.specs.RuleSpelling.{one_word, counted_words}
 use Rattle.eb3.specs.Reading.{Read, refused, taken, giving, then, counted, number_of}
 use Rattle.eb3.specs.RuleReading.{read_rule_term, read_process, with_process}
-use Rattle.eb3.specs.Laws.Reading.{Sound, number_sound, counted_sound}
-use Rattle.eb3.specs.Laws.Signatures.{Alike, read_alike, measure_alike}
+use Rattle.eb3.proofs.Laws.Reading.{Sound, number_sound, counted_sound}
+use Rattle.eb3.proofs.Laws.Signatures.{Alike, read_alike, measure_alike}
 use Rattle.arguments.specs.Tables.{declared, callee}
 use Rattle.declarations.specs.Declaring.{Declares, entered_process}
 use Rattle.declarations.specs.DeclaringLaws.{entered_length, entered_before, process_entered, declared_alike}

@@ -12,7 +12,7 @@ use Rattle.std.proofs.Math.Dec.{ltb→lt}
 use Rattle.eb3.specs.Generic.AllLists.{All, all_at}
 use Rattle.eb3.specs.RuleSets.{Function, Process, label, no_process}
 use Rattle.eb3.specs.Measures.{sat, nothing}
-use Rattle.eb3.specs.Laws.Reading.{pick_true, pick_false}
+use Rattle.eb3.proofs.Laws.Reading.{pick_true, pick_false}
 use Rattle.arguments.specs.Tables.{row, declared, measure_row, callee}
 use Rattle.arguments.specs.TableLaws.{domains_length, domain_at, labels_length, label_at, processes_length, process_at}
 use Rattle.declarations.specs.Declaring.{Heads, Tables}

@@ -14,7 +14,7 @@ use Rattle.eb3.specs.Reading.{Read, refused, taken, Reader, giving, then, both, 
 use Rattle.eb3.specs.Expressions.{Data}
 use Rattle.eb3.specs.ExpressionReading.{read_data}
 use Rattle.eb3.specs.RuleReading.{read_domains, count_for, at_start_scope, at_label_scope, function_from, read_function}
-use Rattle.eb3.specs.Laws.Reading.{Sound, number_sound, count_sound, repeat_sound, counted_sound}
+use Rattle.eb3.proofs.Laws.Reading.{Sound, number_sound, count_sound, repeat_sound, counted_sound}
 use Rattle.declarations.specs.Entering.{cells_of, all_cells}
 use Rattle.declarations.specs.ScopeFacts.{one_each}
 

@@ -145,21 +145,21 @@ pub record AcceptedAgain (rules term memory next_term next_memory : List ℕ) (k
 
 -- ── what is proved, with all that it asks ──
 
-abbrev pub One_more_holds : Type 0
-One_more_holds = (rules term memory spare_term spare_memory : List ℕ) (S : Sizes) → admit rules ≡ answered S → Roomy S term memory → Roomy S spare_term spare_memory
+abbrev pub OneMoreHolds : Type 0
+OneMoreHolds = (rules term memory spare_term spare_memory : List ℕ) (S : Sizes) → admit rules ≡ answered S → Roomy S term memory → Roomy S spare_term spare_memory
     → OneMore rules term memory spare_term spare_memory S
 
-abbrev pub Run_then_move_holds : Type 0
-Run_then_move_holds = (rules numbers numbers' term memory spare_term spare_memory next_term next_memory : List ℕ) (k : ℕ) (S : Sizes) → admit rules ≡ answered S
+abbrev pub RunThenMoveHolds : Type 0
+RunThenMoveHolds = (rules numbers numbers' term memory spare_term spare_memory next_term next_memory : List ℕ) (k : ℕ) (S : Sizes) → admit rules ≡ answered S
     → words_in numbers' ≡ words_in numbers ++ (k ∷ []) → Roomy S term memory → Roomy S spare_term spare_memory → Roomy S next_term next_memory
     → RunThenMove rules numbers numbers' term memory spare_term spare_memory next_term next_memory k S
 
-abbrev pub Steps_are_the_run_holds : Type 0
-Steps_are_the_run_holds = (rules numbers term memory spare_term spare_memory first_term first_memory second_term second_memory : List ℕ) (S : Sizes) → admit rules ≡ answered S
+abbrev pub StepsAreTheRunHolds : Type 0
+StepsAreTheRunHolds = (rules numbers term memory spare_term spare_memory first_term first_memory second_term second_memory : List ℕ) (S : Sizes) → admit rules ≡ answered S
     → Roomy S term memory → Roomy S spare_term spare_memory → Roomy S first_term first_memory → Roomy S second_term second_memory
     → StepsAreTheRun rules numbers term memory spare_term spare_memory first_term first_memory second_term second_memory S
 
-abbrev pub Accepted_again_holds : Type 0
-Accepted_again_holds = (rules term memory next_term next_memory : List ℕ) (k : ℕ) (R : RuleSet) (E : Term) (m : Moved)
+abbrev pub AcceptedAgainHolds : Type 0
+AcceptedAgainHolds = (rules term memory next_term next_memory : List ℕ) (k : ℕ) (R : RuleSet) (E : Term) (m : Moved)
     → admission rules ≡ answered R → term_in R term ≡ answered E → (move rules term memory k next_term next_memory).answer ≡ answered m
     → AcceptedAgain rules term memory next_term next_memory k R E m

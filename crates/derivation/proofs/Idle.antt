@@ -10,7 +10,7 @@ use lib.ListN.{length}
 use Rattle.eb3.specs.Scopes.{Scope}
 use Rattle.eb3.specs.Terms.{Term}
 use Rattle.eb3.specs.Sizes.{size, breadth}
-use Rattle.eb3.specs.Laws.Sizes.{size_pos}
+use Rattle.eb3.proofs.Laws.Sizes.{size_pos}
 use Rattle.eb3.specs.Spelling.{words}
 use Rattle.scan.specs.Checking.{last_of}
 use Rattle.scan.specs.Laws.{last_len}

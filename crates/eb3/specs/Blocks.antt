@@ -36,6 +36,11 @@ unfoldable pub sums_from : Sums → List ℕ → Sums
 sums_from s [] = s
 sums_from s (byte ∷ bytes) = sums_from (add_byte s byte) bytes
 
+-- The same sums without remainders.
+unfoldable pub plain_sums : Sums → List ℕ → Sums
+plain_sums s [] = s
+plain_sums s (byte ∷ bytes) = plain_sums (record { a = s.a + byte; b = s.b + (s.a + byte) }) bytes
+
 abbrev pub sums : List ℕ → Sums
 sums block = sums_from (record { a = 0; b = 0 }) (summed_bytes block)
 

@@ -149,7 +149,7 @@ abbrev pub cut : ℕ → List ℕ → List ℕ
 cut n buffer = take (2 * n) buffer
 
 -- Start is the run of no numbers, but that it writes no zeros.
-pub record Start_is_run (rules term memory spare_term spare_memory : List ℕ) (S : Sizes) : Type 0 where
+pub record StartIsRun (rules term memory spare_term spare_memory : List ℕ) (S : Sizes) : Type 0 where
   pub same_size : (start rules term memory).answer ≡ answered S.size
   pub same_term : cut S.size (start rules term memory).term ≡ cut S.size (run rules [] term memory spare_term spare_memory).term
   pub same_memory : (start rules term memory).memory ≡ (run rules [] term memory spare_term spare_memory).memory
@@ -159,7 +159,7 @@ module _ (rules numbers term memory spare_term spare_memory : List ℕ) (S : Siz
   abbrev pub after : Written Ran
   after = run rules numbers term memory spare_term spare_memory
 
-  pub record Demand_3 : Type 0 where
+  pub record Demand3 : Type 0 where
     -- The rule set that the bytes are, and where the history machine, fed it and the numbers, ends: by derivations of the trace semantics.
     pub R : RuleSet
     pub admitted : admission rules ≡ answered R
@@ -183,23 +183,23 @@ module _ (rules numbers term memory spare_term spare_memory : List ℕ) (S : Siz
 
 -- ── what is proved, with all that it asks ──
 
-abbrev pub Refusals_hold : Type 0
-Refusals_hold = (rules numbers term memory event next_term next_memory spare_term spare_memory : List ℕ) (k : ℕ)
+abbrev pub RefusalsHold : Type 0
+RefusalsHold = (rules numbers term memory event next_term next_memory spare_term spare_memory : List ℕ) (k : ℕ)
     → Demand1Refusals rules numbers term memory event next_term next_memory spare_term spare_memory k
 
-abbrev pub Order_holds : Type 0
-Order_holds = (rules numbers term memory event next_term next_memory spare_term spare_memory : List ℕ) (k : ℕ)
+abbrev pub OrderHolds : Type 0
+OrderHolds = (rules numbers term memory event next_term next_memory spare_term spare_memory : List ℕ) (k : ℕ)
     → Demand1Order rules numbers term memory event next_term next_memory spare_term spare_memory k
 
-abbrev pub Space_holds : Type 0
-Space_holds = (rules : List ℕ) (S : Sizes) → admit rules ≡ answered S → Demand1Space rules S
+abbrev pub SpaceHolds : Type 0
+SpaceHolds = (rules : List ℕ) (S : Sizes) → admit rules ≡ answered S → Demand1Space rules S
 
 -- Of every term that is given, and every memory that has the cells.
-abbrev pub Demand_2_holds : Type 0
-Demand_2_holds = (rules term memory : List ℕ) (R : RuleSet) (E : Term) → admission rules ≡ answered R → term_in R term ≡ answered E
+abbrev pub Demand2Holds : Type 0
+Demand2Holds = (rules term memory : List ℕ) (R : RuleSet) (E : Term) → admission rules ≡ answered R → term_in R term ≡ answered E
     → cells_needed R ≤ cell_room memory → Demand2 rules term memory R E
 
 -- For all bytes, lists of numbers and buffers, if admit answers sizes and the buffers have them.
-abbrev pub Demand_3_holds : Type 0
-Demand_3_holds = (rules numbers term memory spare_term spare_memory : List ℕ) (S : Sizes) → admit rules ≡ answered S → Roomy S term memory → Roomy S spare_term spare_memory
-    → Demand_3 rules numbers term memory spare_term spare_memory S
+abbrev pub Demand3Holds : Type 0
+Demand3Holds = (rules numbers term memory spare_term spare_memory : List ℕ) (S : Sizes) → admit rules ≡ answered S → Roomy S term memory → Roomy S spare_term spare_memory
+    → Demand3 rules numbers term memory spare_term spare_memory S

@@ -67,7 +67,7 @@ term_buffer = replicate 154 7
 abbrev memory_buffer : List ℕ
 memory_buffer = replicate 5 7
 
-pub record Examples_on_bytes : Type 0 where
+pub record ExamplesOnBytes : Type 0 where
   -- Block 0 begins with its number and its sums.
   pub block_header : take 6 cabinet_file ≡ 0 ∷ 0 ∷ 233 ∷ 33 ∷ 1 ∷ 0 ∷ []
   -- C 2, G 77, W 4, start size 41.
@@ -93,7 +93,7 @@ pub record Examples_on_bytes : Type 0 where
   pub run_answer : (run cabinet_file (1 ∷ 0 ∷ 9 ∷ 0 ∷ 3 ∷ []) term_buffer memory_buffer term_buffer memory_buffer).answer ≡ answered (record { size = 48; visible = 1; internal = 0; refusals = 1 })
   pub run_memory : (run cabinet_file (1 ∷ 0 ∷ 9 ∷ 0 ∷ 3 ∷ []) term_buffer memory_buffer term_buffer memory_buffer).memory ≡ 1 ∷ 0 ∷ 0 ∷ 0 ∷ 7 ∷ []
 
-pub examples_on_bytes : Examples_on_bytes
+pub examples_on_bytes : ExamplesOnBytes
 unfolding admit and_then admission open_blocks edition_in edition_of functions_words blocks_right block_right sums_from contents words_in ended all_zero within_limits file_of blocks_from block_of bytes_of stream_words rules_words function_words process_words rule_words argument_words data_words number_words giving then both number_of by_number count_of repeat counted for_each series number_in constant_of args_of readers read_data read_cond mask_of read_parameter_counts read_function read_functions argument_of arguments_of rule_action_of call_of choice_over_of parallel_over_of rule_terms read_rule_term read_process read_processes read_rules unfold_main unfold_below unfold_term right_nest argument_value instantiate_cond size reach breadth parallel_breadth zero_mask cond_size arguments_size offset cell_count function run written words arguments_words memory_words encode history_run machine_run machine_step moves done? in_mask bit same_action same_list state_after guard_holds value_at attribute_value before_values now_below apply_in_domain evaluate evaluate_data variables equal values_up_to tabulate concat_tabulate
 examples_on_bytes = record {
   block_header = refl;

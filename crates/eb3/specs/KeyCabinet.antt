@@ -20,7 +20,6 @@ use Rattle.eb3.specs.RuleSets.{variable_argument, rule_perform, rule_sequence, r
 use Rattle.eb3.specs.Unfolding.{argument_value, instantiate_cond, right_nest, unfold_term, unfold_below, unfold_main}
 use Rattle.eb3.specs.Measures.{whole, sat, measure_term, table, measure_main}
 use Rattle.eb3.specs.WellFormedness.{DomainsDefined, Allowed, FunctionFits, WellFormed, Running}
-use Rattle.eb3.specs.Laws.MainRunning.{main_running}
 use Rattle.eb3.specs.Examples.{mask_zero, mask_a}
 
 -- Out: 0 at start, v for the key taken or brought, else before.
@@ -151,6 +150,3 @@ cabinet_well_formed = record {
   reach_limit = omega arith;
   breadth_limit = omega arith;
 }
-
-pub cabinet_runs : Running cabinet (unfold_main cabinet)
-cabinet_runs = main_running cabinet cabinet_well_formed

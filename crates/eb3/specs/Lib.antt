@@ -51,6 +51,7 @@ pub mod Answers
 pub mod Blocks
 pub mod Files
 pub mod Admission
+pub mod Judging
 -- "Operations", what is demanded of them, what holds of every admitted rule set, and the examples.
 pub mod Operations
 pub mod Demands
@@ -58,5 +59,3 @@ pub mod Admitted
 pub mod Examples
 pub mod KeyCabinet
 pub mod Executed
--- The proofs.
-pub mod Laws

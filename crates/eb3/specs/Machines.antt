@@ -2,30 +2,30 @@
 use Rattle.std.specs.Prelude.{◌≡◌, List, [], ◌∷◌, map, ℕ, ◌+◌, ◌≤◌, length}
 use Rattle.eb3.specs.Terms.{Term}
 use Rattle.eb3.specs.Moves.{moves}
-use Rattle.eb3.specs.Derivations.{DataState, Derivation}
+use Rattle.eb3.specs.Generic.Positions.{Enumeration}
+use Rattle.eb3.specs.Derivations.{DataState, Derivation, Earlier}
 use Rattle.eb3.specs.Attributes.{Attributes}
 use Rattle.eb3.specs.Cells.{initial_cells, all_values}
 use Rattle.eb3.specs.TransitionSystems.{refused, taken, Configuration, initial, count, run, outcomes, on_target}
-use Rattle.eb3.specs.Semantics.{Sem_T, Sem_M, Situation, situation, system}
-use Rattle.eb3.specs.Laws.Semantics.{demand_2}
+use Rattle.eb3.specs.Semantics.{concluded, Sem_T, Sem_M, Situation, situation, system}
 
 -- A machine fed numbers, told over derivations and without a loop: a number below the count of moves takes the derivation of that number,
 -- any other is refused.
 abbrev pub Machine : DataState → Type 0
 Machine S = Configuration (system S)
 
--- A derivation's number is its place in the list of moves. (The one-to-one correspondence in order is unique, so it matters not that its value is
--- taken from the law that gives it.)
-abbrev pub number_of : (S : DataState) (s : Situation S) → Derivation S s.state s.term → ℕ
-number_of S s d = ((demand_2 S s).numbers.fun d).0
+-- Derivations are numbered by their places in the list of moves: by a one-to-one correspondence, in order, of the derivations with the
+-- transitions. (There is one, Laws/Semantics, and every one gives the same numbers, Laws/Numbering, so it matters not which.)
+abbrev pub Numbered : (S : DataState) → Situation S → Type 0
+Numbered S s = Enumeration (Derivation S s.state s.term) Earlier concluded ((system S).transitions s)
 
 abbrev pub count_of_moves : {S : DataState} → Situation S → ℕ
 count_of_moves {S} s = length (moves (S.satisfies s.state) s.term)
 
 pub data Chain (S : DataState) : Machine S → List ℕ → Machine S → Type 0 where
   ends : {c : Machine S} → Chain S c [] c
-  takes : {c c' : Machine S} {ks : List ℕ} (d : Derivation S c.state.state c.state.term)
-      → Chain S (count (system S) c (taken d.action) (situation d.successor d.state)) ks c' → Chain S c (number_of S c.state d ∷ ks) c'
+  takes : {c c' : Machine S} {ks : List ℕ} (n : Numbered S c.state) (d : Derivation S c.state.state c.state.term)
+      → Chain S (count (system S) c (taken d.action) (situation d.successor d.state)) ks c' → Chain S c ((n.numbers.fun d).0 ∷ ks) c'
   refuses : {c c' : Machine S} {k : ℕ} {ks : List ℕ} → count_of_moves c.state ≤ k
       → Chain S (count (system S) c refused c.state) ks c' → Chain S c (k ∷ ks) c'
 

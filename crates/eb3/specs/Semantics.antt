@@ -1,8 +1,7 @@
 -- The sources' semantics as transition systems: Sem_T over traces (source 000, figure 4), Sem_M over cells (figure 6).
 use mathlib.Core.List.{List, ◌∷◌, map, is_set}
 use Rattle.eb3.specs.Values.{Value, Value_set}
-use Rattle.eb3.specs.Terms.{Term}
-use Rattle.eb3.specs.Laws.Terms.{VisibleAction_set}
+use Rattle.eb3.specs.Terms.{VisibleAction_set, Term}
 use Rattle.eb3.specs.Moves.{Move, moves}
 use Rattle.eb3.specs.Derivations.{DataState, Derivation, state_after}
 use Rattle.eb3.specs.Attributes.{Attributes, Trace, guard_holds, value_at}

@@ -1,5 +1,7 @@
 -- Running terms, actions and masks (document 01, "Unfolding, size and breadth"; source 000, figure 4's E).
 use Rattle.std.specs.Prelude.{Bool, true, false, ◌&&◌, List, ℕ, ◌^◌, ◌/◌, ◌%◌, eqb, get_or}
+use mathlib.Core.List.{is_set}
+use Rattle.std.proofs.Math.Nat.{ℕ_set}
 use Rattle.eb3.specs.Generic.Lists.{same_list}
 use Rattle.eb3.specs.Expressions.{Cond}
 
@@ -7,6 +9,13 @@ use Rattle.eb3.specs.Expressions.{Cond}
 pub record VisibleAction : Type 0 where
   pub label : ℕ
   pub arguments : List ℕ
+
+-- Visible actions are a set: equal in one way at most.
+pub VisibleAction_set : IsSet VisibleAction
+VisibleAction_set x y p q = λ i j. record {
+  label = ℕ_set x.label y.label (λ k. (p k).label) (λ k. (q k).label) i j;
+  arguments = is_set ℕ_set x.arguments y.arguments (λ k. (p k).arguments) (λ k. (q k).arguments) i j;
+}
 
 -- The sources' ρ: λ, or a visible action.
 pub data Action : Type 0 where

@@ -14,11 +14,11 @@ use Rattle.eb3.specs.Bytes.{written}
 use Rattle.eb3.specs.Unfolding.{unfold_main}
 use Rattle.eb3.specs.Admission.{ended, within_limits, admission}
 use Rattle.eb3.specs.Answers.{refused, and_then}
-use Rattle.eb3.specs.Laws.Sizes.{size_below_reach}
-use Rattle.eb3.specs.Laws.Spelling.{words_length}
-use Rattle.eb3.specs.Laws.MainRunning.{main_running}
+use Rattle.eb3.proofs.Laws.Sizes.{size_below_reach}
+use Rattle.eb3.proofs.Laws.Spelling.{words_length}
+use Rattle.eb3.proofs.Laws.MainRunning.{main_running}
 use Rattle.eb3.specs.Operations.{main_reach, cells_needed}
-use Rattle.eb3.specs.Laws.Editions.{width_is_1}
+use Rattle.eb3.proofs.Laws.Editions.{width_is_1}
 use Rattle.weights.specs.declared.Limits.{Limits}
 use Rattle.declarations.specs.Directory.{Directory}
 use Rattle.cells.specs.Readying.{few}

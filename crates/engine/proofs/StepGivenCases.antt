@@ -17,7 +17,7 @@ use Rattle.eb3.specs.Bytes.{word_count}
 use Rattle.eb3.specs.Memory.{cell_room}
 use Rattle.eb3.specs.Operations.{cells_needed, event_in, listed, writing, moved}
 use Rattle.eb3.specs.Answers.{or_refused}
-use Rattle.eb3.specs.Laws.Editions.{width_is_1}
+use Rattle.eb3.proofs.Laws.Editions.{width_is_1}
 use Rattle.declarations.specs.Declaring.{Declares}
 use Rattle.given.specs.declared.asking.Asked.{Asked}
 use Rattle.given.specs.declared.asking.Asked.TheVariants.{Wanted, Stranger}

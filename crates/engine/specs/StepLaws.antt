@@ -14,7 +14,7 @@ use Rattle.eb3.specs.RuleSets.{RuleSet}
 use Rattle.eb3.specs.WellFormedness.{Form}
 use Rattle.eb3.specs.Reading.{pick}
 use Rattle.eb3.specs.TermReading.{given_event}
-use Rattle.eb3.specs.Laws.TermReading.{given_event_exact}
+use Rattle.eb3.proofs.Laws.TermReading.{given_event_exact}
 use Rattle.eb3.specs.Admission.{admission}
 use Rattle.eb3.specs.Sizes.{reach}
 use Rattle.eb3.specs.Bytes.{words_in, word_count}
@@ -22,7 +22,7 @@ use Rattle.eb3.specs.Memory.{cell_room}
 use Rattle.eb3.specs.Answers.{Answer, refused, answered, and_then, Moved as Answer_moved, Written, unwritten}
 use Rattle.eb3.specs.Operations.{cells_needed, term_fits, memory_fits, even, term_in, event_in, listed, at_first, writing, moved, chosen, move, present}
 use Rattle.eb3.specs.Answers.{or_refused}
-use Rattle.eb3.specs.Laws.Editions.{width_is_1}
+use Rattle.eb3.proofs.Laws.Editions.{width_is_1}
 use Rattle.actions.specs.Codes.{action_code, Small}
 use Rattle.actions.specs.ActionLaws.{action_small}
 use Rattle.given.specs.declared.asking.Asked.TheVariants.{Wanted, Stranger}

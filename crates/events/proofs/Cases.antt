@@ -10,8 +10,8 @@ use Rattle.eb3.specs.RuleSets.{RuleSet}
 use Rattle.eb3.specs.Spelling.{arguments_words, words}
 use Rattle.eb3.specs.WellFormedness.{Form, Running as RunningTerm}
 use Rattle.eb3.specs.TermReading.{given_term, leaf_of, given_event}
-use Rattle.eb3.specs.Laws.TermReading.{given_term_exact}
-use Rattle.eb3.specs.Laws.Editions.{width_is_1}
+use Rattle.eb3.proofs.Laws.TermReading.{given_term_exact}
+use Rattle.eb3.proofs.Laws.Editions.{width_is_1}
 use Rattle.arguments.specs.Tables.{declared}
 use Rattle.declarations.specs.Declaring.{Declares}
 use Rattle.declarations.specs.DeclaringLaws.{declared_alike}

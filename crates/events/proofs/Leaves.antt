@@ -14,8 +14,8 @@ use Rattle.eb3.specs.Spelling.{words}
 use Rattle.eb3.specs.WellFormedness.{Form}
 use Rattle.eb3.specs.Reading.{Read, refused, taken, pick}
 use Rattle.eb3.specs.TermReading.{read_term, term_alone, given_term, term_of_action, leaf_of, leaf_alone, given_event}
-use Rattle.eb3.specs.Laws.TermReading.{given_term_exact, given_event_exact}
-use Rattle.eb3.specs.Laws.Editions.{width_is_1}
+use Rattle.eb3.proofs.Laws.TermReading.{given_term_exact, given_event_exact}
+use Rattle.eb3.proofs.Laws.Editions.{width_is_1}
 use Rattle.events.proofs.Small.{leaf_running}
 
 -- ── events and given terms ──

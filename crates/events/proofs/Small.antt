@@ -6,11 +6,11 @@ use lib.ListN.{length}
 use Rattle.eb3.specs.Terms.{VisibleAction, Action, Perform, internal, visible}
 use Rattle.eb3.specs.RuleSets.{RuleSet}
 use Rattle.eb3.specs.Sizes.{reach, breadth}
-use Rattle.eb3.specs.Laws.Sizes.{arguments_double}
-use Rattle.eb3.specs.Laws.Elements.{arguments_two}
+use Rattle.eb3.proofs.Laws.Sizes.{arguments_double}
+use Rattle.eb3.proofs.Laws.Elements.{arguments_two}
 use Rattle.eb3.specs.WellFormedness.{WellFormedAction, Running, Form}
 use Rattle.eb3.specs.TermReading.{term_of_action}
-use Rattle.eb3.specs.Laws.Editions.{width_is_1}
+use Rattle.eb3.proofs.Laws.Editions.{width_is_1}
 
 module _ (R : RuleSet) (form : Form R) where
   action_reach : (a : VisibleAction) → WellFormedAction R (visible a) → reach 1 (Perform a) ≤ 8192

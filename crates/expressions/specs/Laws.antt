@@ -4,9 +4,9 @@ use Rattle.std.specs.Prelude.{◌≡◌, Bool, true, false, List, ◌++◌, ℕ,
 use Rattle.std.proofs.Common.{ap, ◌∙◌, arith, lit<}
 use Rattle.std.proofs.Math.Path.{subst}
 use Rattle.eb3.specs.Values.{Value, undefined, number, encode, decode, AtMost}
-use Rattle.eb3.specs.Laws.Values.{bounded_at_most, add_at_most, subtract_at_most, cond_at_most, decode_encode}
+use Rattle.eb3.proofs.Laws.Values.{bounded_at_most, add_at_most, subtract_at_most, cond_at_most, decode_encode}
 use Rattle.eb3.specs.Expressions.{Data, Undefined, Constant, Variable, Add, Subtract, If, Now, Before, Cond, evaluate_data, evaluate_cond}
-use Rattle.eb3.specs.Laws.Attributes.{apply_at_most}
+use Rattle.eb3.proofs.Laws.Attributes.{apply_at_most}
 use Rattle.eb3.specs.Scopes.{Scope, DataInScope}
 use Rattle.eb3.specs.Spelling.{data_words, cond_words}
 use Rattle.scan.specs.Checking.{last_of}

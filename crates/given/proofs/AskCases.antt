@@ -10,21 +10,21 @@ use borrow.Author.Tests.{eq-eqb, ne_eqb}
 use Rattle.eb3.specs.Refusal
 use Rattle.eb3.specs.Terms.{Action, Perform, internal, visible}
 use Rattle.eb3.specs.Sizes.{arguments_size, size}
-use Rattle.eb3.specs.Laws.Sizes.{arguments_double}
-use Rattle.eb3.specs.Laws.Elements.{arguments_two}
+use Rattle.eb3.proofs.Laws.Sizes.{arguments_double}
+use Rattle.eb3.proofs.Laws.Elements.{arguments_two}
 use Rattle.eb3.specs.Spelling.{words}
-use Rattle.eb3.specs.Laws.Spelling.{words_length}
+use Rattle.eb3.proofs.Laws.Spelling.{words_length}
 use Rattle.eb3.specs.Bytes.{words_in, word_count}
-use Rattle.eb3.specs.Laws.Bytes.{words_counted}
+use Rattle.eb3.proofs.Laws.Bytes.{words_counted}
 use Rattle.eb3.specs.Reading.{pick}
 use Rattle.eb3.specs.RuleSets.{RuleSet}
 use Rattle.eb3.specs.WellFormedness.{Form, WellFormedAction}
 use Rattle.eb3.specs.TermReading.{term_of_action, given_event}
-use Rattle.eb3.specs.Laws.TermReading.{given_event_exact}
+use Rattle.eb3.proofs.Laws.TermReading.{given_event_exact}
 use Rattle.eb3.specs.Answers.{refused}
 use Rattle.eb3.specs.Operations.{even, event_in}
 use Rattle.eb3.specs.Answers.{or_refused}
-use Rattle.eb3.specs.Laws.Editions.{width_is_1}
+use Rattle.eb3.proofs.Laws.Editions.{width_is_1}
 use Rattle.declarations.specs.Declaring.{Declares}
 use Rattle.cells.specs.Preparing.{Loaded}
 use Rattle.cells.specs.MemoryLaws.{loaded_words}

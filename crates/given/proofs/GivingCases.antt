@@ -10,21 +10,21 @@ use borrow.Author.Tests.{eq-eqb, ne_eqb}
 use Rattle.eb3.specs.Refusal
 use Rattle.eb3.specs.Terms.{Term}
 use Rattle.eb3.specs.Sizes.{reach}
-use Rattle.eb3.specs.Laws.Sizes.{size_below_reach}
+use Rattle.eb3.proofs.Laws.Sizes.{size_below_reach}
 use Rattle.eb3.specs.Spelling.{words}
-use Rattle.eb3.specs.Laws.Spelling.{words_length}
+use Rattle.eb3.proofs.Laws.Spelling.{words_length}
 use Rattle.eb3.specs.Bytes.{words_in, word_count}
-use Rattle.eb3.specs.Laws.Bytes.{words_counted}
+use Rattle.eb3.proofs.Laws.Bytes.{words_counted}
 use Rattle.eb3.specs.Reading.{pick}
 use Rattle.eb3.specs.RuleSets.{RuleSet}
 use Rattle.eb3.specs.WellFormedness.{Form, Running}
 use Rattle.eb3.specs.TermReading.{given_term}
-use Rattle.eb3.specs.Laws.TermReading.{given_term_exact}
+use Rattle.eb3.proofs.Laws.TermReading.{given_term_exact}
 use Rattle.eb3.specs.Answers.{Answer, refused, answered}
-use Rattle.eb3.specs.Laws.Answers.{not_both, answered_injective}
+use Rattle.eb3.proofs.Laws.Answers.{not_both, answered_injective}
 use Rattle.eb3.specs.Operations.{term_in}
 use Rattle.eb3.specs.Answers.{or_refused}
-use Rattle.eb3.specs.Laws.Editions.{width_is_1}
+use Rattle.eb3.proofs.Laws.Editions.{width_is_1}
 use Rattle.arguments.specs.Tables.{declared}
 use Rattle.declarations.specs.Declaring.{Declares}
 use Rattle.declarations.specs.DeclaringLaws.{declared_alike}

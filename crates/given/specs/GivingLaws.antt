@@ -4,18 +4,18 @@ use Rattle.std.proofs.Math.Path.{refl, ap, sym}
 use Rattle.std.proofs.Common.{◌∙◌, subst, arith}
 use Rattle.eb3.specs.Terms.{Term}
 use Rattle.eb3.specs.Sizes.{size, reach}
-use Rattle.eb3.specs.Laws.Sizes.{size_below_reach}
+use Rattle.eb3.proofs.Laws.Sizes.{size_below_reach}
 use Rattle.eb3.specs.Spelling.{words}
-use Rattle.eb3.specs.Laws.Spelling.{words_length}
+use Rattle.eb3.proofs.Laws.Spelling.{words_length}
 use Rattle.eb3.specs.Bytes.{word_count}
 use Rattle.eb3.specs.Blocks.{stream}
 use Rattle.eb3.specs.Admission.{admission}
 use Rattle.eb3.specs.RuleSets.{RuleSet}
 use Rattle.eb3.specs.WellFormedness.{Form}
 use Rattle.eb3.specs.Answers.{Answer, refused, answered, and_then}
-use Rattle.eb3.specs.Laws.Answers.{and_then_answered, answered_injective, not_both}
+use Rattle.eb3.proofs.Laws.Answers.{and_then_answered, answered_injective, not_both}
 use Rattle.eb3.specs.Operations.{cells_needed, term_in}
-use Rattle.eb3.specs.Laws.Editions.{width_is_1}
+use Rattle.eb3.proofs.Laws.Editions.{width_is_1}
 use Rattle.weights.specs.declared.Limits.{Limits}
 use Rattle.declarations.specs.Declaring.{Declares}
 use Rattle.cells.specs.Readying.{few}

@@ -5,7 +5,7 @@ use Rattle.eb3.specs.Scopes.{Scope}
 use Rattle.eb3.specs.Terms.{Term, Done, Internal, Perform, Sequence, Choice, Star, Parallel, Guard}
 use Rattle.eb3.specs.Sizes.{size}
 use Rattle.eb3.specs.Spelling.{cond_words, words}
-use Rattle.eb3.specs.Laws.Spelling.{cond_length, arguments_length}
+use Rattle.eb3.proofs.Laws.Spelling.{cond_length, arguments_length}
 use Rattle.listing.specs.Listing.{Fits}
 
 pub fits_length : (P : Scope) (E : Term) → Fits P E → length (words 1 E) ≡ size 1 E

@@ -10,7 +10,7 @@ use Rattle.eb3.specs.Expressions.{Cond}
 use Rattle.eb3.specs.Terms.{Term, Done, Internal, Perform, Sequence, Choice, Star, Parallel, Guard, Mask, done?}
 use Rattle.eb3.specs.Moves.{moves}
 use Rattle.eb3.specs.Sizes.{breadth, zero_mask, parallel_breadth}
-use Rattle.eb3.specs.Laws.Sizes.{moves_below_breadth}
+use Rattle.eb3.proofs.Laws.Sizes.{moves_below_breadth}
 use Rattle.listing.specs.Listing.{code_of, codes, room}
 
 abbrev pub two_room : (Cond → Bool) → Term → Term → ℕ

@@ -11,7 +11,7 @@ use lib.Seq.{take_at}
 use Rattle.eb3.specs.Scopes.{Scope, guard_scope}
 use Rattle.eb3.specs.Terms.{Term, Done, Internal, Perform, Sequence, Choice, Star, Parallel, Guard, done?}
 use Rattle.eb3.specs.RuleSets.{RuleSet, attributes}
-use Rattle.eb3.specs.Laws.Sizes.{size_pos}
+use Rattle.eb3.proofs.Laws.Sizes.{size_pos}
 use Rattle.eb3.specs.Unfolding.{unfold_main}
 use Rattle.eb3.specs.Spelling.{words}
 use Rattle.eb3.specs.Bytes.{words_in}

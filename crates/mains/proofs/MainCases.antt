@@ -13,22 +13,22 @@ use Rattle.eb3.specs.Terms.{Term}
 use Rattle.eb3.specs.Cells.{initial_cells, all_values}
 use Rattle.eb3.specs.RuleSets.{RuleSet, attributes}
 use Rattle.eb3.specs.Sizes.{size, reach}
-use Rattle.eb3.specs.Laws.Sizes.{size_below_reach, run_reach}
+use Rattle.eb3.proofs.Laws.Sizes.{size_below_reach, run_reach}
 use Rattle.eb3.specs.Unfolding.{unfold_main}
 use Rattle.eb3.specs.Spelling.{words}
-use Rattle.eb3.specs.Laws.Spelling.{Small, words_length}
-use Rattle.eb3.specs.Laws.Operations.{spelling_small}
-use Rattle.eb3.specs.Laws.MainRunning.{main_running}
+use Rattle.eb3.proofs.Laws.Spelling.{Small, words_length}
+use Rattle.eb3.proofs.Laws.Operations.{spelling_small}
+use Rattle.eb3.proofs.Laws.MainRunning.{main_running}
 use Rattle.eb3.specs.Bytes.{words_in, word_count, written}
 use Rattle.eb3.specs.Memory.{cell_room, memory_words}
 use Rattle.eb3.specs.Semantics.{Sem_M, Sem_T, Situation, situation, system}
 use Rattle.eb3.specs.TransitionSystems.{TransitionSystem, initial}
 use Rattle.eb3.specs.Machines.{Machine, history_run, memory_run, Agreement}
-use Rattle.eb3.specs.Laws.Machines.{machines_agree}
+use Rattle.eb3.proofs.Laws.Machines.{machines_agree}
 use Rattle.eb3.specs.WellFormedness.{WellFormed, Running}
 use Rattle.eb3.specs.Answers.{answered, Ran}
 use Rattle.eb3.specs.Operations.{cells_needed, main_reach}
-use Rattle.eb3.specs.Laws.Editions.{width_is_1}
+use Rattle.eb3.proofs.Laws.Editions.{width_is_1}
 use Rattle.expressions.specs.Stores.{now_place}
 use Rattle.writing.specs.Wrote.{Wrote}
 use Rattle.cells.specs.Preparing.{Loaded, Saved}

@@ -38,7 +38,7 @@ use Rattle.eb3.specs.Operations.{admit, count, run}
 use Rattle.eb3.specs.Demands.{cut}
 use Rattle.eb3.specs.KeyCabinet.{cabinet, key}
 use Rattle.eb3.specs.Examples.{mask_zero}
-use Rattle.eb3.specs.Laws.Machines.{history_chain}
+use Rattle.eb3.proofs.Laws.Machines.{history_chain}
 use Rattle.past.specs.PastInCells.{SameEnd, PastInCells, followed_by, Lent, run_in}
 use Rattle.past.specs.Laws.PastInCells.{past_in_cells_holds}
 
@@ -76,20 +76,20 @@ history numbers = history_run (attributes cabinet) (unfold_main cabinet) (words_
 abbrev out_after : List ℕ → ℕ → Value
 out_after numbers k = attribute_value (attributes cabinet) (history numbers).state.state 0 (k ∷ [])
 
-pub record Both_in (numbers : List ℕ) : Type 0 where
+pub record BothIn (numbers : List ℕ) : Type 0 where
   pub key_0 : out_after numbers 0 ≡ number 0
   pub key_1 : out_after numbers 1 ≡ number 0
   pub term_is : (history numbers).state.term ≡ Parallel mask_zero (Sequence Done (key 0)) (Sequence Done (key 1))
 
-four_in : Both_in four_events
+four_in : BothIn four_events
 unfolding function history_run machine_run machine_step words_in unfold_main unfold_below unfold_term right_nest argument_value instantiate_cond moves done? in_mask bit same_action same_list state_after guard_holds value_at attribute_value before_values now_below apply_in_domain evaluate evaluate_data variables equal
 four_in = record { key_0 = refl; key_1 = refl; term_is = refl }
 
-six_in : Both_in six_events
+six_in : BothIn six_events
 unfolding function history_run machine_run machine_step words_in unfold_main unfold_below unfold_term right_nest argument_value instantiate_cond moves done? in_mask bit same_action same_list state_after guard_holds value_at attribute_value before_values now_below apply_in_domain evaluate evaluate_data variables equal
 six_in = record { key_0 = refl; key_1 = refl; term_is = refl }
 
-module _ (numbers numbers' : List ℕ) (b : Both_in numbers) (b' : Both_in numbers') where
+module _ (numbers numbers' : List ℕ) (b : BothIn numbers) (b' : BothIn numbers') where
   same_out : (f : ℕ) → f < 1 → (xs : List ℕ) → Within (domain (attributes cabinet) f) xs
       → attribute_value (attributes cabinet) (history numbers).state.state f xs ≡ attribute_value (attributes cabinet) (history numbers').state.state f xs
   unfolding function

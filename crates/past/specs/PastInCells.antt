@@ -20,8 +20,8 @@ pub record SameEnd (A : Attributes) (s s' : Situation (Sem_T A)) : Type 0 where
   pub same_values : (f : ℕ) → f < number_of_functions A → (xs : List ℕ) → Within (domain A f) xs → attribute_value A s.state f xs ≡ attribute_value A s'.state f xs
 
 -- The history machine, fed the rule set and the numbers ks, ends with h.
-abbrev pub Ends_with : (R : RuleSet) → List ℕ → Machine (Sem_T (attributes R)) → Type 0
-Ends_with R ks h = Chain (Sem_T (attributes R)) (history_start (attributes R) (unfold_main R)) ks h
+abbrev pub EndsWith : (R : RuleSet) → List ℕ → Machine (Sem_T (attributes R)) → Type 0
+EndsWith R ks h = Chain (Sem_T (attributes R)) (history_start (attributes R) (unfold_main R)) ks h
 
 -- ── the machines ──
 
@@ -30,8 +30,8 @@ Ends_with R ks h = Chain (Sem_T (attributes R)) (history_start (attributes R) (u
 pub record SameAfter (R : RuleSet) (ks ks' more : List ℕ) : Type 0 where
   pub g : Machine (Sem_T (attributes R))
   pub g' : Machine (Sem_T (attributes R))
-  pub goes_on : Ends_with R (ks ++ more) g
-  pub goes_on' : Ends_with R (ks' ++ more) g'
+  pub goes_on : EndsWith R (ks ++ more) g
+  pub goes_on' : EndsWith R (ks' ++ more) g'
   pub same_end : SameEnd (attributes R) g.state g'.state
   pub same_moves : history_moves R g ≡ history_moves R g'
 
@@ -91,15 +91,15 @@ pub record PastInCells (rules numbers numbers' : List ℕ) (S : Sizes) (R : Rule
       → SameRuns rules S (run_in rules b numbers) (run_in rules b (followed_by numbers further)) (run_in rules b' numbers') (run_in rules b' (followed_by numbers' further))
 
 -- Of every rule set that is admitted, and any two lists whose histories end alike.
-abbrev pub K10_holds : Type 0
-K10_holds = (rules numbers numbers' : List ℕ) (S : Sizes) (R : RuleSet) (h h' : Machine (Sem_T (attributes R)))
-    → admit rules ≡ answered S → admission rules ≡ answered R → Ends_with R (words_in numbers) h → Ends_with R (words_in numbers') h'
+abbrev pub K10Holds : Type 0
+K10Holds = (rules numbers numbers' : List ℕ) (S : Sizes) (R : RuleSet) (h h' : Machine (Sem_T (attributes R)))
+    → admit rules ≡ answered S → admission rules ≡ answered R → EndsWith R (words_in numbers) h → EndsWith R (words_in numbers') h'
     → SameEnd (attributes R) h.state h'.state → PastInCells rules numbers numbers' S R h h'
 
 -- The same where a host sees bytes only: two runs left the same words, each term cut to the size answered, and the same cells. So what a host keeps of them
 -- replaces the log.
-abbrev pub K10_on_bytes_holds : Type 0
-K10_on_bytes_holds = (rules numbers numbers' : List ℕ) (S : Sizes) (a a' : Lent S) (r r' : Ran) → admit rules ≡ answered S
+abbrev pub K10OnBytesHolds : Type 0
+K10OnBytesHolds = (rules numbers numbers' : List ℕ) (S : Sizes) (a a' : Lent S) (r r' : Ran) → admit rules ≡ answered S
     → (run_in rules a numbers).answer ≡ answered r → (run_in rules a' numbers').answer ≡ answered r'
     → cut r.size (run_in rules a numbers).term ≡ cut r'.size (run_in rules a' numbers').term
     → take (2 * S.cells) (run_in rules a numbers).memory ≡ take (2 * S.cells) (run_in rules a' numbers').memory

@@ -11,7 +11,7 @@ use Rattle.eb3.specs.Expressions.{Cond}
 use Rattle.eb3.specs.Terms.{Term, Done, Sequence, Choice, Star, Parallel, Guard, internal, Mask, in_mask, same_action, done?}
 use Rattle.eb3.specs.Moves.{Move, move, moves, sequenced, left_move, right_move, synchronised, outside_mask?, synchronise?, parallel_moves}
 use Rattle.eb3.specs.Sizes.{breadth}
-use Rattle.eb3.specs.Laws.Sizes.{moves_below_breadth}
+use Rattle.eb3.proofs.Laws.Sizes.{moves_below_breadth}
 use Rattle.actions.specs.Codes.{action_code, Small}
 use Rattle.actions.specs.CodesLaws.{masked_is}
 use Rattle.actions.specs.Sets.{in_set, mask_set, has_all, in_mask_set, in_empty, in_either, within_set}

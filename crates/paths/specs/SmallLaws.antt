@@ -8,7 +8,7 @@ use Rattle.eb3.specs.Expressions.{Cond}
 use Rattle.eb3.specs.Terms.{Term, Done, Internal, Perform, Sequence, Choice, Star, Parallel, Guard, Action, visible}
 use Rattle.eb3.specs.Moves.{Move, moves}
 use Rattle.eb3.specs.Derivations.{DataState, Step, S_1, S_1', S_2, S_3, S_4_left, S_4_right, S_5, S_6, S_7, S_8, S_9_left, S_9_right, S_10}
-use Rattle.eb3.specs.Laws.Semantics.{move_stepped}
+use Rattle.eb3.proofs.Laws.Semantics.{move_stepped}
 use Rattle.actions.specs.Codes.{Small}
 
 abbrev pub SmallActions : Term → Type 0

@@ -13,10 +13,10 @@ use Rattle.eb3.specs.Measures.{sat, guard_of, guard_size, measure_term}
 use Rattle.eb3.specs.Reading.{Read, refused, taken, Reader, giving, then, both, number_of}
 use Rattle.eb3.specs.ExpressionReading.{read_cond}
 use Rattle.eb3.specs.RuleReading.{rule_mask_of, choice_over_of, parallel_over_of, rule_by, read_rule_term}
-use Rattle.eb3.specs.Laws.Reading.{Sound}
-use Rattle.eb3.specs.Laws.ExpressionReading.{cond_sound}
-use Rattle.eb3.specs.Laws.Spelling.{cond_length}
-use Rattle.eb3.specs.Laws.Measures.{guard_size_one}
+use Rattle.eb3.proofs.Laws.Reading.{Sound}
+use Rattle.eb3.proofs.Laws.ExpressionReading.{cond_sound}
+use Rattle.eb3.proofs.Laws.Spelling.{cond_length}
+use Rattle.eb3.proofs.Laws.Measures.{guard_size_one}
 use Rattle.scan.specs.declared.Checked.{Checked}
 use Rattle.scan.specs.declared.Checked.TheVariants.{Left, Refused as Not}
 use Rattle.scan.specs.Checking.{checked, last_of}

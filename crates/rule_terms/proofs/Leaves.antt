@@ -5,7 +5,7 @@ use mathlib.Core.Path.{◌≡◌, sym, ap, ◌∙◌}
 use mathlib.Core.List.{List}
 use lib.ListN.{length, get_or}
 use borrow.Author.Tests.{lt-ltb, le-ltb}
-use Rattle.eb3.specs.Laws.Sizes.{arguments_double}
+use Rattle.eb3.proofs.Laws.Sizes.{arguments_double}
 use Rattle.eb3.specs.RuleSets.{Argument, RuleTerm, rule_perform, call, label, process}
 use Rattle.eb3.specs.Measures.{sat, Measure, nothing, leaf, measure_term}
 use Rattle.eb3.specs.Reading.{Read, giving, number_of, by_number}

@@ -11,7 +11,7 @@ use Rattle.eb3.specs.RuleSets.{Function, RuleSet}
 use Rattle.eb3.specs.RuleSpelling.{one_word}
 use Rattle.eb3.specs.Reading.{Read, refused, taken, Reader, then, count_of, number_of, repeat, counted}
 use Rattle.eb3.specs.RuleReading.{read_domains, read_labels, read_processes, without_processes, read_rules}
-use Rattle.eb3.specs.Laws.Reading.{Sound, count_sound}
+use Rattle.eb3.proofs.Laws.Reading.{Sound, count_sound}
 use Rattle.scan.specs.declared.Checked.{Checked}
 use Rattle.scan.specs.declared.Checked.TheVariants.{Left, Refused as Checked_refused}
 use Rattle.scan.specs.Checking.{checked, last_of}

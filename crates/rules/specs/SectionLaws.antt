@@ -5,7 +5,7 @@ use Rattle.std.proofs.Math.Path.{ap, sym, subst}
 use Rattle.std.proofs.Common.{◌∙◌, arith, length-append}
 use Rattle.eb3.specs.RuleSets.{Process, RuleSet, main_process, process}
 use Rattle.eb3.specs.Measures.{sat, Measure, measure_term, row_of, measure_main}
-use Rattle.eb3.specs.Laws.Signatures.{own_measure}
+use Rattle.eb3.proofs.Laws.Signatures.{own_measure}
 use Rattle.eb3.specs.Refusal
 use Rattle.eb3.specs.Reading.{Read, refused, taken, then, counted, number_of}
 use Rattle.eb3.specs.RuleSpelling.{rule_words}

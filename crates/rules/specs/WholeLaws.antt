@@ -9,16 +9,17 @@ use Rattle.eb3.specs.Cells.{total_cells}
 use Rattle.eb3.specs.Editions.{edition_1}
 use Rattle.eb3.specs.RuleSets.{RuleSet, attributes}
 use Rattle.eb3.specs.Measures.{sat, measure_main}
-use Rattle.eb3.specs.Laws.CellCounts.{cells_below}
+use Rattle.eb3.proofs.Laws.CellCounts.{cells_below}
 use Rattle.eb3.specs.RuleSpelling.{rules_words}
 use Rattle.eb3.specs.Reading.{Read, refused, taken, pick}
-use Rattle.eb3.specs.Laws.Reading.{Sound, pick_true, pick_false}
+use Rattle.eb3.proofs.Laws.Reading.{Sound, pick_true, pick_false}
 use Rattle.eb3.specs.RuleReading.{read_rules}
-use Rattle.eb3.specs.Laws.RuleReading.{FormOf, rules_sound}
-use Rattle.eb3.specs.Laws.Editions.{edition_1_defined}
+use Rattle.eb3.proofs.Laws.RuleReading.{FormOf, rules_sound}
+use Rattle.eb3.proofs.Laws.Editions.{edition_1_defined}
 use Rattle.eb3.specs.Answers.{Answer}
 use Rattle.eb3.specs.Admission.{all_zero, ends_right}
-use Rattle.eb3.specs.Laws.Judging.{judged, whole_of, whole_refused, whole_taken}
+use Rattle.eb3.specs.Judging.{judged}
+use Rattle.eb3.proofs.Laws.Judging.{whole_of, whole_refused, whole_taken}
 use Rattle.weights.specs.Weighing.{cap, measure}
 use Rattle.weights.specs.declared.Weight.{Weight}
 use Rattle.scan.specs.Checking.{last_of}

@@ -11,15 +11,15 @@ use Rattle.eb3.specs.Moves.{Move, moves}
 use Rattle.eb3.specs.Derivations.{DataState, state_after}
 use Rattle.eb3.specs.RuleSets.{RuleSet, attributes}
 use Rattle.eb3.specs.Sizes.{size, reach}
-use Rattle.eb3.specs.Laws.Sizes.{move_size}
+use Rattle.eb3.proofs.Laws.Sizes.{move_size}
 use Rattle.eb3.specs.Spelling.{words}
-use Rattle.eb3.specs.Laws.Spelling.{words_length}
-use Rattle.eb3.specs.Laws.Running.{move_running, move_action}
+use Rattle.eb3.proofs.Laws.Spelling.{words_length}
+use Rattle.eb3.proofs.Laws.Running.{move_running, move_action}
 use Rattle.eb3.specs.Semantics.{Sem_M, Situation, situation, transition, system}
 use Rattle.eb3.specs.TransitionSystems.{Outcome, took_visible, took_internal, refused, taken, reply, respond}
-use Rattle.eb3.specs.Laws.TransitionSystems.{getElem?_map}
+use Rattle.eb3.proofs.Laws.TransitionSystems.{getElem?_map}
 use Rattle.eb3.specs.WellFormedness.{WellFormedTerm, Running}
-use Rattle.eb3.specs.Laws.Editions.{width_is_1}
+use Rattle.eb3.proofs.Laws.Editions.{width_is_1}
 use Rattle.actions.specs.Codes.{action_code}
 use Rattle.listing.specs.Listing.{holding}
 use Rattle.steps.specs.Storing.{Ruled, StoreRenewed}

@@ -7,9 +7,9 @@ use native.Mathlib.Omega.{arith}
 use lib.ListN.{length, take, get_or}
 use lib.Seq.{take-suc, take_all}
 use Rattle.eb3.specs.RuleSets.{RuleSet, attributes}
-use Rattle.eb3.specs.Laws.Sizes.{run_reach}
+use Rattle.eb3.proofs.Laws.Sizes.{run_reach}
 use Rattle.eb3.specs.Bytes.{words_in, word_count}
-use Rattle.eb3.specs.Laws.Bytes.{words_counted}
+use Rattle.eb3.proofs.Laws.Bytes.{words_counted}
 use Rattle.eb3.specs.Semantics.{Sem_M, Situation, system}
 use Rattle.eb3.specs.Machines.{Machine}
 use Rattle.eb3.specs.TransitionSystems.{TransitionSystem, Configuration, Outcome, took_visible, took_internal, refused, initial, count, reply, step, run}
@@ -106,21 +106,21 @@ module _ (H : Holding) where
 
 -- ── a term in its own words, with the lent bytes that successors are built in ──
 
-abbrev pub Running_to : (numbers t D : List ℕ) (w functions c n : ℕ) (ws M out path : List ℕ) (i : ℕ) (ws' M' out' : List ℕ) (r : Tally) → Type 0
-Running_to numbers t D w functions c n ws M out path i ws' M' out' r =
+abbrev pub RunningTo : (numbers t D : List ℕ) (w functions c n : ℕ) (ws M out path : List ℕ) (i : ℕ) (ws' M' out' : List ℕ) (r : Tally) → Type 0
+RunningTo numbers t D w functions c n ws M out path i ws' M' out' r =
     (bound : ℕ) → Roomy bound ws out path → RunsBy Spelled bound (WordsOnly out out') (take i (words_in numbers)) t D w functions c n ws M ws' M' r
 
 module _ (numbers : List ℕ) {t D : List ℕ} {w functions c n : ℕ} {ws M out path : List ℕ} where
-  pub run_start : Running_to numbers t D w functions c n ws M out path 0 ws M out (record { size = n; visible = 0; internal = 0; refused = 0 })
+  pub run_start : RunningTo numbers t D w functions c n ws M out path 0 ws M out (record { size = n; visible = 0; internal = 0; refused = 0 })
   run_start bound room = by_start Spelled bound numbers (words_kept out out refl)
 
   pub run_next : (i : ℕ) {k : ℕ} {ws₁ M₁ out₁ path₁ ws₂ M₂ out₂ : List ℕ} {r r' : Tally} {d : Done} → i < word_count numbers → length ws₁ ≡ length ws → length out₁ ≡ length out → length path₁ ≡ length path
-      → Running_to numbers t D w functions c n ws M out path i ws₁ M₁ out₁ r → k ≡ get_or (words_in numbers) i 0 → StepsOnce t D w functions c r.size k ws₁ M₁ out₁ path₁ ws₂ M₂ out₂ d
-      → r' ≡ counted r d → Running_to numbers t D w functions c n ws M out path (i + 1) ws₂ M₂ out₂ r'
+      → RunningTo numbers t D w functions c n ws M out path i ws₁ M₁ out₁ r → k ≡ get_or (words_in numbers) i 0 → StepsOnce t D w functions c r.size k ws₁ M₁ out₁ path₁ ws₂ M₂ out₂ d
+      → r' ≡ counted r d → RunningTo numbers t D w functions c n ws M out path (i + 1) ws₂ M₂ out₂ r'
   run_next i {out₁ = out₁} {out₂ = out₂} less same same_out same_path go number once counting bound room =
       by_next Spelled bound numbers i less (words_then out out₁ out₂) (go bound room) number
       (once bound (record { words_room = omega (arith, room.words_room); bytes_room = omega (arith, room.bytes_room); path_room = omega (arith, room.path_room) })) counting
 
-  pub run_end : (i : ℕ) {ws' M' out' : List ℕ} {r : Tally} → word_count numbers ≤ i → Running_to numbers t D w functions c n ws M out path i ws' M' out' r
+  pub run_end : (i : ℕ) {ws' M' out' : List ℕ} {r : Tally} → word_count numbers ≤ i → RunningTo numbers t D w functions c n ws M out path i ws' M' out' r
       → Runs numbers t D w functions c n ws M out path ws' M' out' r
   run_end i h go bound room = by_end Spelled bound numbers i h (go bound room)

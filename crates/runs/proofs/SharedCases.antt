@@ -11,7 +11,7 @@ use Rattle.eb3.specs.Scopes.{Scope, guard_scope}
 use Rattle.eb3.specs.Moves.{Move, moves}
 use Rattle.eb3.specs.RuleSets.{RuleSet, attributes}
 use Rattle.eb3.specs.Sizes.{reach}
-use Rattle.eb3.specs.Laws.Sizes.{move_size}
+use Rattle.eb3.proofs.Laws.Sizes.{move_size}
 use Rattle.eb3.specs.Bytes.{words_in, word_count}
 use Rattle.eb3.specs.Semantics.{Sem_M, Situation}
 use Rattle.eb3.specs.TransitionSystems.{taken}
@@ -93,22 +93,22 @@ module _ {t D : List ℕ} {w functions c : ℕ} {u : List ℕ} {n k : ℕ} {d M 
 
 -- ── the loop: after i numbers of the list ──
 
-abbrev pub Shared_to : (numbers t D : List ℕ) (w functions c : ℕ) (u : List ℕ) (n : ℕ) (d M : List ℕ) (paths acts middle : ℕ) (i : ℕ) (d' M' : List ℕ) (r : Tally) → Type 0
-Shared_to numbers t D w functions c u n d M paths acts middle i d' M' r =
+abbrev pub SharedTo : (numbers t D : List ℕ) (w functions c : ℕ) (u : List ℕ) (n : ℕ) (d M : List ℕ) (paths acts middle : ℕ) (i : ℕ) (d' M' : List ℕ) (r : Tally) → Type 0
+SharedTo numbers t D w functions c u n d M paths acts middle i d' M' r =
     (bound : ℕ) → RoomyOver bound u d paths acts middle → RunsBy (SharedOver u) bound Unit (take i (words_in numbers)) t D w functions c n d M d' M' r
 
 module _ (numbers : List ℕ) {t D : List ℕ} {w functions c : ℕ} {u : List ℕ} {n : ℕ} {d M : List ℕ} {paths acts middle : ℕ} where
-  pub shared_start : Shared_to numbers t D w functions c u n d M paths acts middle 0 d M (record { size = n; visible = 0; internal = 0; refused = 0 })
+  pub shared_start : SharedTo numbers t D w functions c u n d M paths acts middle 0 d M (record { size = n; visible = 0; internal = 0; refused = 0 })
   shared_start bound room = by_start (SharedOver u) bound numbers tt
 
   pub shared_next : (i : ℕ) {k : ℕ} {d₁ M₁ : List ℕ} {paths₁ acts₁ middle₁ : ℕ} {d₂ M₂ : List ℕ} {r r' : Tally} {o : Done} → i < word_count numbers → length d₁ ≡ length d → paths₁ ≡ paths → acts₁ ≡ acts → middle₁ ≡ middle
-      → Shared_to numbers t D w functions c u n d M paths acts middle i d₁ M₁ r → k ≡ get_or (words_in numbers) i 0 → StepsShared t D w functions c u r.size k d₁ M₁ paths₁ acts₁ middle₁ d₂ M₂ o
-      → r' ≡ counted r o → Shared_to numbers t D w functions c u n d M paths acts middle (i + 1) d₂ M₂ r'
+      → SharedTo numbers t D w functions c u n d M paths acts middle i d₁ M₁ r → k ≡ get_or (words_in numbers) i 0 → StepsShared t D w functions c u r.size k d₁ M₁ paths₁ acts₁ middle₁ d₂ M₂ o
+      → r' ≡ counted r o → SharedTo numbers t D w functions c u n d M paths acts middle (i + 1) d₂ M₂ r'
   shared_next i less same same_path same_acts same_middle go number once counting bound room =
       by_next (SharedOver u) bound numbers i less (λ x y. tt) (go bound room) number
       (once bound (record { words_room = omega (arith, room.words_room); middle_room = omega (arith, room.middle_room); path_room = omega (arith, room.path_room); numbers_room = omega (arith, room.numbers_room) }))
       counting
 
-  pub shared_end : (i : ℕ) {d' M' : List ℕ} {r : Tally} → word_count numbers ≤ i → Shared_to numbers t D w functions c u n d M paths acts middle i d' M' r
+  pub shared_end : (i : ℕ) {d' M' : List ℕ} {r : Tally} → word_count numbers ≤ i → SharedTo numbers t D w functions c u n d M paths acts middle i d' M' r
       → RunsShared numbers t D w functions c u n d M paths acts middle d' M' r
   shared_end i h go bound room = by_end (SharedOver u) bound numbers i h (go bound room)

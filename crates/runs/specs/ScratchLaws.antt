@@ -4,7 +4,7 @@ use Rattle.std.specs.Prelude.{◌≡◌, List, ◌++◌, ℕ, ◌+◌, ◌-◌, 
 use Rattle.std.proofs.Common.{sym, ap, ◌∙◌, arith, drop-drop}
 use Rattle.std.proofs.Math.Seq.{drop-append-add}
 use Rattle.eb3.specs.Bytes.{bytes_of, word_count, written}
-use Rattle.eb3.specs.Laws.Bytes.{bytes_length, written_length}
+use Rattle.eb3.proofs.Laws.Bytes.{bytes_length, written_length}
 use Rattle.runs.specs.Scratch.{word_bytes, WordsOnly}
 
 pub words_kept : (B B' : List ℕ) → B' ≡ B → WordsOnly B B'

@@ -13,7 +13,7 @@ use Rattle.eb3.specs.Expressions.{Cond}
 use Rattle.eb3.specs.Terms.{Term, Done, Sequence, Parallel, Action, internal, visible, bit, in_mask, same_action, done?}
 use Rattle.eb3.specs.Moves.{Move, move, moves, sequenced, left_move, right_move, synchronised, outside_mask?, synchronise?, parallel_moves}
 use Rattle.eb3.specs.Sizes.{zero_mask}
-use Rattle.eb3.specs.Laws.TransitionSystems.{getElem?_map}
+use Rattle.eb3.proofs.Laws.TransitionSystems.{getElem?_map}
 use Rattle.listing.specs.CodeLaws.{zero_word}
 use Rattle.paths.specs.FilterLaws.{filter_all, filter_none, rows_none}
 use Rattle.paths.specs.SeekLaws.{entry_first, entry_behind}

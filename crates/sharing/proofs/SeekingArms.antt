@@ -8,7 +8,7 @@ use lib.ListN.{length, drop, get_or}
 use Rattle.eb3.specs.Scopes.{Scope}
 use Rattle.eb3.specs.Terms.{Term, Done, Guard, done?}
 use Rattle.eb3.specs.Sizes.{size}
-use Rattle.eb3.specs.Laws.Sizes.{size_pos}
+use Rattle.eb3.proofs.Laws.Sizes.{size_pos}
 use Rattle.eb3.specs.Spelling.{words}
 use Rattle.scan.specs.Checking.{last_of}
 use Rattle.expressions.specs.Answering.{answer, Judged}

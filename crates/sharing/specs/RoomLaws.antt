@@ -8,7 +8,7 @@ use Rattle.eb3.specs.Expressions.{Cond}
 use Rattle.eb3.specs.Terms.{Term, Done, Internal, Perform, Sequence, Choice, Star, Parallel, Guard, done?}
 use Rattle.eb3.specs.Moves.{moves}
 use Rattle.eb3.specs.Sizes.{size, breadth, zero_mask, parallel_breadth}
-use Rattle.eb3.specs.Laws.Sizes.{moves_below_breadth}
+use Rattle.eb3.proofs.Laws.Sizes.{moves_below_breadth}
 use Rattle.listing.specs.Listing.{codes, code_of, room}
 use Rattle.listing.specs.RoomLaws.{either_below}
 use Rattle.sharing.specs.Shared.{Unmasked}

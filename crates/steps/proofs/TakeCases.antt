@@ -14,7 +14,7 @@ use Rattle.eb3.specs.Moves.{Move, moves}
 use Rattle.eb3.specs.Sizes.{size}
 use Rattle.eb3.specs.Spelling.{words}
 use Rattle.eb3.specs.Bytes.{written}
-use Rattle.eb3.specs.Laws.Sizes.{moves_below_breadth}
+use Rattle.eb3.proofs.Laws.Sizes.{moves_below_breadth}
 use Rattle.actions.specs.Codes.{action_code}
 use Rattle.listing.specs.FitLaws.{fits_length}
 use Rattle.listing.specs.Listing.{holding}

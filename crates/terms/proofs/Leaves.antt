@@ -12,14 +12,14 @@ use Rattle.eb3.specs.Generic.Lists.{Within}
 use Rattle.eb3.specs.Terms.{Term}
 use Rattle.eb3.specs.Sizes.{arguments_size}
 use Rattle.eb3.specs.Spelling.{arguments_words}
-use Rattle.eb3.specs.Laws.Sizes.{arguments_double}
-use Rattle.eb3.specs.Laws.Elements.{within_length}
+use Rattle.eb3.proofs.Laws.Sizes.{arguments_double}
+use Rattle.eb3.proofs.Laws.Elements.{within_length}
 use Rattle.eb3.specs.RuleSets.{domain_size, sizes_of, label}
 use Rattle.eb3.specs.Measures.{sat, leaf, measure_running}
 use Rattle.eb3.specs.Reading.{refused, taken, Reader, pick, giving, then, number_of, by_number}
 use Rattle.eb3.specs.TermReading.{elements_of, perform, action_of}
-use Rattle.eb3.specs.Laws.Reading.{Sound}
-use Rattle.eb3.specs.Laws.TermReading.{elements_sound}
+use Rattle.eb3.proofs.Laws.Reading.{Sound}
+use Rattle.eb3.proofs.Laws.TermReading.{elements_sound}
 use Rattle.scan.specs.Laws.{Fine, nil_form, cons_form}
 use Rattle.scan.specs.ReadingLaws.{Taken, giving_refused, giving_taken}
 use Rattle.weights.specs.declared.Weight.{Weight}

@@ -11,7 +11,7 @@ use Rattle.eb3.specs.Sizes.{reach, breadth}
 use Rattle.eb3.specs.Measures.{sat, Measure}
 use Rattle.eb3.specs.Reading.{Read, refused, taken}
 use Rattle.eb3.specs.TermReading.{read_term, term_alone, given_term}
-use Rattle.eb3.specs.Laws.Sizes.{size_below_reach}
+use Rattle.eb3.proofs.Laws.Sizes.{size_below_reach}
 use Rattle.scan.specs.Laws.{nil_form}
 use Rattle.weights.specs.Weighing.{cap}
 use Rattle.arguments.specs.Tables.{declared}

@@ -17,9 +17,9 @@ use Rattle.eb3.specs.Measures.{sat, Measure, parallel_of, guard_of, measure_runn
 use Rattle.eb3.specs.Reading.{Read, refused, taken, Reader, giving, both}
 use Rattle.eb3.specs.ExpressionReading.{read_cond}
 use Rattle.eb3.specs.TermReading.{mask_of, TermKind, term_by, read_term}
-use Rattle.eb3.specs.Laws.Reading.{Sound}
-use Rattle.eb3.specs.Laws.ExpressionReading.{cond_sound}
-use Rattle.eb3.specs.Laws.Spelling.{cond_length}
+use Rattle.eb3.proofs.Laws.Reading.{Sound}
+use Rattle.eb3.proofs.Laws.ExpressionReading.{cond_sound}
+use Rattle.eb3.proofs.Laws.Spelling.{cond_length}
 use Rattle.scan.specs.declared.Checked.{Checked}
 use Rattle.scan.specs.declared.Checked.TheVariants.{Left, Refused}
 use Rattle.scan.specs.Checking.{checked, last_of}

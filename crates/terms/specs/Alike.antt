@@ -13,7 +13,7 @@ use Rattle.eb3.specs.RuleSets.{RuleSet}
 use Rattle.eb3.specs.Reading.{Reader, giving, both, by_number}
 use Rattle.eb3.specs.ExpressionReading.{read_cond}
 use Rattle.eb3.specs.TermReading.{mask_of, elements_of, perform, TermKind, term_kind, action_of, term_by, terms, read_term, term_alone, given_term, leaf_alone, given_event}
-use Rattle.eb3.specs.Laws.Signatures.{Alike}
+use Rattle.eb3.proofs.Laws.Signatures.{Alike}
 
 module _ (R Q : RuleSet) (a : Alike R Q) where
   action_alike : (t : List ℕ) → action_of R t ≡ action_of Q t

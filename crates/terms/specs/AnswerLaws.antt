@@ -12,10 +12,10 @@ use Rattle.eb3.specs.WellFormedness.{WellFormedTerm}
 use Rattle.eb3.specs.Measures.{sat, Measure, measure_running}
 use Rattle.eb3.specs.Reading.{Read, refused, taken}
 use Rattle.eb3.specs.TermReading.{read_term}
-use Rattle.eb3.specs.Laws.Reading.{Sound}
-use Rattle.eb3.specs.Laws.TermReading.{term_sound}
-use Rattle.eb3.specs.Laws.Spelling.{words_length}
-use Rattle.eb3.specs.Laws.Saturation.{measure_running_sat}
+use Rattle.eb3.proofs.Laws.Reading.{Sound}
+use Rattle.eb3.proofs.Laws.TermReading.{term_sound}
+use Rattle.eb3.proofs.Laws.Spelling.{words_length}
+use Rattle.eb3.proofs.Laws.Saturation.{measure_running_sat}
 use Rattle.scan.specs.Checking.{last_of}
 use Rattle.scan.specs.Laws.{Fine, tail_short, tail_at}
 use Rattle.scan.specs.ReadingLaws.{Taken}

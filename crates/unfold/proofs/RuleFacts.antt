@@ -9,7 +9,7 @@ use Rattle.eb3.specs.Scopes.{Scope, DataInScope, ArgsInScope, CondInScope, guard
 use Rattle.eb3.specs.RuleSets.{Argument, Process, RuleSet, domain_size, label, no_process, process, attributes}
 use Rattle.eb3.specs.RuleSpelling.{rule_words}
 use Rattle.eb3.specs.WellFormedness.{Form, ArgumentsFit}
-use Rattle.eb3.specs.Laws.CellCounts.{one_arity}
+use Rattle.eb3.proofs.Laws.CellCounts.{one_arity}
 use Rattle.arguments.specs.Tables.{row, declared, process_place}
 use Rattle.arguments.specs.TableLaws.{labels_length, label_at, processes_length, process_at}
 use Rattle.declarations.specs.Directory.{Stands, ProcessRows}

@@ -17,8 +17,8 @@ use Rattle.eb3.specs.RuleSets.{Argument, constant_argument, variable_argument, R
 use Rattle.eb3.specs.Spelling.{number_words, data_words, cond_words, arguments_words, words}
 use Rattle.eb3.specs.RuleSpelling.{argument_words, rule_words}
 use Rattle.eb3.specs.Unfolding.{argument_value, instantiate_data, instantiate_cond, right_nest, unfold_term, unfold_in}
-use Rattle.eb3.specs.Laws.Unfolding.{call_unfolds}
-use Rattle.eb3.specs.Laws.Elements.{within_counted, within_more, arguments_within}
+use Rattle.eb3.proofs.Laws.Unfolding.{call_unfolds}
+use Rattle.eb3.proofs.Laws.Elements.{within_counted, within_more, arguments_within}
 use Rattle.eb3.specs.WellFormedness.{ArgumentsFit, Allowed}
 use Rattle.scan.specs.Checking.{last_of}
 use Rattle.arguments.specs.Tables.{from, row, declared}

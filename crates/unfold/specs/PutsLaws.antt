@@ -5,7 +5,7 @@ use Rattle.std.proofs.Common.{sym, ap, ◌∙◌, subst, append_assoc, append-ni
 use Rattle.std.proofs.lemmas.List.{take-set-le, drop-set-add}
 use Rattle.std.proofs.lemmas.Bool.{lt-leb}
 use Rattle.eb3.specs.Bytes.{bytes_of, written}
-use Rattle.eb3.specs.Laws.Bytes.{bytes_length, bytes_append, written_length}
+use Rattle.eb3.proofs.Laws.Bytes.{bytes_length, bytes_append, written_length}
 use Rattle.writing.specs.WroteLaws.{wrote_word}
 use Rattle.unfold.specs.Unfolded.{written_from, room_to}
 use Rattle.unfold.specs.Puts.{Puts, Exactly, Then, Putting}

@@ -4,7 +4,7 @@ use Prim.Native.Nat.{ℕ, zero, suc, ◌+◌, ◌≤◌, ◌<◌}
 use native.Mathlib.Omega.{arith}
 use native.Mathlib.Numerals.{add-one}
 use Rattle.eb3.specs.Unfolding.{right_nest}
-use Rattle.eb3.specs.Laws.Unfolding.{nest_one, nest_more}
+use Rattle.eb3.proofs.Laws.Unfolding.{nest_one, nest_more}
 
 -- w is i of the n copies.
 pub record Copied {A : Type 0} (z : A) (join : A → A → A) (m : A) (n i : ℕ) (w : A) : Type 0 where

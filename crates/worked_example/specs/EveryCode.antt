@@ -183,7 +183,7 @@ event_18 = 21 ∷ 0 ∷ 18 ∷ 0 ∷ 1 ∷ 0 ∷ 2 ∷ 0 ∷ 1 ∷ 0 ∷ 1 ∷ 0
 abbrev last_memory : List ℕ
 last_memory = 255 ∷ 255 ∷ 4 ∷ 0 ∷ 255 ∷ 255 ∷ 5 ∷ 0 ∷ 3 ∷ 0 ∷ []
 
-pub record Every_code_on_bytes : Type 0 where
+pub record EveryCodeOnBytes : Type 0 where
   -- The words are the rule set's spelling, and the bytes its file.
   pub spelled : stream_words 2 rule_set ≡ stream_of_words
   pub file_is : file_of rule_set ≡ file
@@ -217,7 +217,7 @@ pub record Every_code_on_bytes : Type 0 where
   pub enough : (move file last_term last_memory 2 (replicate 140 7) memory_buffer).answer ≡ answered (record { action = visible (record { label = 18; arguments = 2 ∷ 1 ∷ [] }); size = 54 })
   pub no_space : move file last_term last_memory 2 (replicate 139 7) memory_buffer ≡ record { answer = refused 9; term = replicate 139 7; memory = memory_buffer }
 
-pub every_code_on_bytes : Every_code_on_bytes
+pub every_code_on_bytes : EveryCodeOnBytes
 unfolding admit and_then admission open_blocks edition_in edition_of functions_words blocks_right block_right sums_from contents words_in ended all_zero within_limits file_of blocks_from block_of bytes_of stream_words rules_words function_words process_words rule_words argument_words data_words number_words giving then both number_of by_number count_of repeat counted for_each series number_in constant_of args_of readers read_data read_cond mask_of read_parameter_counts read_function read_functions argument_of arguments_of rule_action_of call_of choice_over_of parallel_over_of rule_terms read_rule_term read_process read_processes read_rules unfold_main unfold_below unfold_term right_nest argument_value instantiate_cond size reach breadth parallel_breadth zero_mask cond_size arguments_size offset cell_count function run written words arguments_words memory_words encode history_run machine_run machine_step moves done? in_mask bit same_action same_list state_after guard_holds value_at attribute_value before_values now_below apply_in_domain evaluate evaluate_data variables equal values_up_to tabulate concat_tabulate start less add subtract bounded initial_cells cells_up_to cell_at cell_index count move present decode cells_in given_term given_event read_term terms action_of elements_of element_of first_with renew
 every_code_on_bytes = record {
   spelled = refl;

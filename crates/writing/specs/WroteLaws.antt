@@ -8,7 +8,7 @@ use native.Mathlib.Omega.{arith}
 use Rattle.std.proofs.Math.ListN.{length, drop, set, length-append}
 use Rattle.std.proofs.lemmas.Bool.{lt-leb}
 use Rattle.eb3.specs.Bytes.{bytes_of, written}
-use Rattle.eb3.specs.Laws.Bytes.{bytes_length, bytes_append, written_length}
+use Rattle.eb3.proofs.Laws.Bytes.{bytes_length, bytes_append, written_length}
 use Rattle.writing.specs.Wrote.{Wrote}
 
 -- ── one word more ──

@@ -3,7 +3,7 @@
 use mathlib.Core.Path.{◌≡◌}
 use Prim.Native.Nat.{◌+◌, ◌*◌, ◌-◌, ◌≤◌}
 use lib.ListN.{length, drop}
-use Rattle.eb3.specs.Laws.Blocks.{plain_sums}
+use Rattle.eb3.specs.Blocks.{plain_sums}
 use Rattle.blocks.proofs.add_bytes.Given as goal
 
 -- The bytes still to come, added to the sums so far, give the whole sums; each byte adds at most 255 to a and at most 131,070 to b.

@@ -7,27 +7,27 @@ use Rattle.eb3.specs.Refusal
 use Rattle.eb3.specs.Terms.{Term}
 use Rattle.eb3.specs.Moves.{Move}
 use Rattle.eb3.specs.Semantics.{Sem_M}
-use Rattle.eb3.specs.Laws.Semantics.{move_stepped}
+use Rattle.eb3.proofs.Laws.Semantics.{move_stepped}
 use Rattle.eb3.specs.Sizes.{size, reach}
-use Rattle.eb3.specs.Laws.Sizes.{reach_nonincreasing, breadth_nonincreasing}
-use Rattle.eb3.specs.Laws.Editions.{form_proper}
+use Rattle.eb3.proofs.Laws.Sizes.{reach_nonincreasing, breadth_nonincreasing}
+use Rattle.eb3.proofs.Laws.Editions.{form_proper}
 use Rattle.eb3.specs.RuleSets.{RuleSet, attributes}
 use Rattle.eb3.specs.WellFormedness.{Running, WellFormed}
-use Rattle.eb3.specs.Laws.Running.{move_running}
+use Rattle.eb3.proofs.Laws.Running.{move_running}
 use Rattle.eb3.specs.Spelling.{words}
 use Rattle.eb3.specs.Reading.{pick}
 use Rattle.eb3.specs.TermReading.{given_term}
-use Rattle.eb3.specs.Laws.TermReading.{given_term_exact}
+use Rattle.eb3.proofs.Laws.TermReading.{given_term_exact}
 use Rattle.eb3.specs.Bytes.{words_in, written}
 use Rattle.eb3.specs.Answers.{answered, Moved, Written, unwritten}
-use Rattle.eb3.specs.Laws.Answers.{not_both, answered_injective, pick_answered}
-use Rattle.eb3.specs.Laws.Admission.{or_refused_answered, admitted}
+use Rattle.eb3.proofs.Laws.Answers.{not_both, answered_injective, pick_answered}
+use Rattle.eb3.proofs.Laws.Admission.{or_refused_answered, admitted}
 use Rattle.eb3.specs.Operations.{sizes_needed, term_fits, memory_fits, even, term_in, cells_given, listed, writing, moved, chosen, move}
 use Rattle.eb3.specs.Answers.{or_refused}
-use Rattle.eb3.specs.Laws.Operations.{term_back}
+use Rattle.eb3.proofs.Laws.Operations.{term_back}
 use Rattle.eb3.specs.Demands.{cut}
 use Rattle.demanded.specs.Laws.Stepping.{cut_written}
-use Rattle.demanded.specs.Stepping.{Accepted_again_holds}
+use Rattle.demanded.specs.Stepping.{AcceptedAgainHolds}
 
 -- An accepted term is a running term.
 accepted_running : (R : RuleSet) → WellFormed R → (term : List ℕ) (E : Term) → term_in R term ≡ answered E → Running R E
@@ -46,7 +46,7 @@ module _ (R : RuleSet) (memory next_term next_memory : List ℕ) (m : Moved) whe
   chosen_move true none e = absurd (not_both Refusal.not_offered m e)
   chosen_move true (some x) e = (x, refl, refl)
 
-pub accepted_again : Accepted_again_holds
+pub accepted_again : AcceptedAgainHolds
 unfolding move
 accepted_again rules term memory next_term next_memory k R E m a t e =
     let good : WellFormed R = (admitted rules R a).good in

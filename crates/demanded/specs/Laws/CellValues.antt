@@ -11,26 +11,26 @@ use Rattle.eb3.specs.Generic.Lists.{Within}
 use Rattle.eb3.specs.Values.{Value, undefined, encode}
 use Rattle.eb3.specs.Attributes.{domain, Trace, attribute_value}
 use Rattle.eb3.specs.Cells.{cell_count, cell_index, offset, total_cells, all_values}
-use Rattle.eb3.specs.Laws.Cells.{length_values, value_cell, values_at_most}
+use Rattle.eb3.proofs.Laws.Cells.{length_values, value_cell, values_at_most}
 use Rattle.eb3.specs.Semantics.{Sem_T}
 use Rattle.eb3.specs.Machines.{Machine, history_run}
-use Rattle.eb3.specs.Laws.Machines.{chain_run}
-use Rattle.eb3.specs.Laws.Editions.{form_proper}
-use Rattle.eb3.specs.Laws.CellCounts.{one_parameter_count}
+use Rattle.eb3.proofs.Laws.Machines.{chain_run}
+use Rattle.eb3.proofs.Laws.Editions.{form_proper}
+use Rattle.eb3.proofs.Laws.CellCounts.{one_parameter_count}
 use Rattle.eb3.specs.RuleSets.{RuleSet, domain_size, sizes_of, label, function_rule, attributes}
-use Rattle.eb3.specs.Laws.RuleSets.{functions_counted, domain_is}
+use Rattle.eb3.proofs.Laws.RuleSets.{functions_counted, domain_is}
 use Rattle.eb3.specs.Unfolding.{unfold_main}
 use Rattle.eb3.specs.WellFormedness.{Form, WellFormed, WellFormedTrace}
-use Rattle.eb3.specs.Laws.MainRunning.{main_running}
-use Rattle.eb3.specs.Laws.Running.{history_well_formed, expressions_in_scope, parameters_small, trace_small}
+use Rattle.eb3.proofs.Laws.MainRunning.{main_running}
+use Rattle.eb3.proofs.Laws.Running.{history_well_formed, expressions_in_scope, parameters_small, trace_small}
 use Rattle.eb3.specs.Bytes.{words_in}
-use Rattle.eb3.specs.Laws.Bytes.{written_words, words_counted}
-use Rattle.eb3.specs.Laws.Spelling.{Small}
+use Rattle.eb3.proofs.Laws.Bytes.{written_words, words_counted}
+use Rattle.eb3.proofs.Laws.Spelling.{Small}
 use Rattle.eb3.specs.Memory.{memory_words}
-use Rattle.eb3.specs.Laws.Memory.{memory_small, memory_length}
+use Rattle.eb3.proofs.Laws.Memory.{memory_small, memory_length}
 use Rattle.eb3.specs.Answers.{Sizes, Ran, Written}
-use Rattle.eb3.specs.Laws.Admission.{admitted}
-use Rattle.eb3.specs.Demands.{Roomy, last_trace, values_words, after, Demand_3}
+use Rattle.eb3.proofs.Laws.Admission.{admitted}
+use Rattle.eb3.specs.Demands.{Roomy, last_trace, values_words, after, Demand3}
 use Rattle.demanded.specs.CellValues.{elements, cells_before, CellValues}
 
 module _ (R : RuleSet) (good : Form R) where
@@ -93,7 +93,7 @@ in_range [] k d d' l = let z : ⊥ = omega arith in absurd z
 in_range (w ∷ ws) zero d d' l = refl
 in_range (w ∷ ws) (suc k) d d' l = in_range ws k d d' (omega arith)
 
-module _ (rules numbers term memory spare_term spare_memory : List ℕ) (S : Sizes) (D : Demand_3 rules numbers term memory spare_term spare_memory S) (room : Roomy S term memory) where
+module _ (rules numbers term memory spare_term spare_memory : List ℕ) (S : Sizes) (D : Demand3 rules numbers term memory spare_term spare_memory S) (room : Roomy S term memory) where
   good : WellFormed D.R
   good = (admitted rules D.R D.admitted).good
 

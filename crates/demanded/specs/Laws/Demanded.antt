@@ -10,11 +10,11 @@ use Rattle.eb3.specs.Terms.{Term, Action}
 use Rattle.eb3.specs.Moves.{moves, first_with}
 use Rattle.eb3.specs.Derivations.{Earlier}
 use Rattle.eb3.specs.Cells.{all_values}
-use Rattle.eb3.specs.Laws.Cells.{initial_values}
+use Rattle.eb3.proofs.Laws.Cells.{initial_values}
 use Rattle.eb3.specs.Semantics.{Sem_T, Sem_M, situation, system}
-use Rattle.eb3.specs.Laws.Semantics.{demand_2_memory}
+use Rattle.eb3.proofs.Laws.Semantics.{demand_2_memory}
 use Rattle.eb3.specs.Machines.{Machine, history_run}
-use Rattle.eb3.specs.Laws.Machines.{chain_run}
+use Rattle.eb3.proofs.Laws.Machines.{chain_run}
 use Rattle.demanded.specs.Laws.HistoryRuns.{at, history_run_chain, history_run_there}
 use Rattle.eb3.specs.Attributes.{Trace}
 use Rattle.eb3.specs.Sizes.{size}
@@ -22,15 +22,15 @@ use Rattle.eb3.specs.RuleSets.{RuleSet, attributes}
 use Rattle.eb3.specs.Unfolding.{unfold_main}
 use Rattle.eb3.specs.Spelling.{words}
 use Rattle.eb3.specs.Reading.{pick}
-use Rattle.eb3.specs.Laws.Reading.{pick_true}
+use Rattle.eb3.proofs.Laws.Reading.{pick_true}
 use Rattle.eb3.specs.Bytes.{words_in, word_count, written}
 use Rattle.eb3.specs.Memory.{memory_words, cells_in}
 use Rattle.eb3.specs.Answers.{Answer, refused, answered, and_then, Sizes, Moved, Ran, Written, unwritten}
 use Rattle.eb3.specs.Admission.{admission}
 use Rattle.eb3.specs.Operations.{sizes_needed, main_reach, memory_fits, writing, started, ran, admit, start, run, count, move, present, ScratchAfter}
 use Rattle.eb3.specs.Demands.{Demand2}
-use Rattle.eb3.specs.Laws.Order.{order}
-use Rattle.eb3.specs.Laws.DemandTwo.{demand_2_operations}
+use Rattle.eb3.proofs.Laws.Order.{order}
+use Rattle.eb3.proofs.Laws.DemandTwo.{demand_2_operations}
 use Rattle.eb3.specs.Generic.PositionsUnique.{same_number, list_unique}
 use Rattle.demanded.specs.Laws.Verdicts.{at_most_or, Verdict, verdict, admits_answer, refuses_answer}
 use Rattle.demanded.specs.Laws.Numberings.{numbered_there, FirstDerived, first_derived, none_first, some_first}

@@ -7,19 +7,19 @@ use Rattle.eb3.specs.Generic.Booleans.{T_and, T_fst, T_snd}
 use Rattle.eb3.specs.Values.{Value, undefined, number, encode}
 use Rattle.eb3.specs.Terms.{Term, Action}
 use Rattle.eb3.specs.Sizes.{reach}
-use Rattle.eb3.specs.Laws.Editions.{form_proper}
+use Rattle.eb3.proofs.Laws.Editions.{form_proper}
 use Rattle.eb3.specs.RuleSets.{RuleSet}
 use Rattle.eb3.specs.WellFormedness.{Form}
 use Rattle.eb3.specs.TermReading.{given_term, given_event}
-use Rattle.eb3.specs.Laws.TermReading.{given_term_exact, given_event_exact}
+use Rattle.eb3.proofs.Laws.TermReading.{given_term_exact, given_event_exact}
 use Rattle.eb3.specs.Reading.{pick}
-use Rattle.eb3.specs.Laws.Reading.{pick_true}
+use Rattle.eb3.proofs.Laws.Reading.{pick_true}
 use Rattle.eb3.specs.Bytes.{words_in, bytes_of, written}
 use Rattle.eb3.specs.Memory.{memory_words}
 use Rattle.eb3.specs.Answers.{refused, answered}
 use Rattle.eb3.specs.Operations.{even, term_in, event_in, term_fits, memory_fits, main_reach}
 use Rattle.eb3.specs.Answers.{or_refused}
-use Rattle.eb3.specs.Laws.Files.{eq→eqb}
+use Rattle.eb3.proofs.Laws.Files.{eq→eqb}
 use Rattle.demanded.specs.Admitting.{G}
 use Rattle.demanded.specs.Demanded.{overwritten, word_of, C, GivenTerm, GivenEvent, Room, MoveRoom, RunRoom}
 

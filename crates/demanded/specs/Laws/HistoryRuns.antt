@@ -11,8 +11,8 @@ use Rattle.eb3.specs.Derivations.{Step, Derivation, derivation, Earlier}
 use Rattle.eb3.specs.Attributes.{Trace}
 use Rattle.eb3.specs.TransitionSystems.{Transition}
 use Rattle.eb3.specs.Semantics.{Sem_T, Situation, situation, transition, system, concluded}
-use Rattle.eb3.specs.Laws.Semantics.{demand_2}
-use Rattle.eb3.specs.Laws.Meanings.{step_states}
+use Rattle.eb3.proofs.Laws.Semantics.{demand_2}
+use Rattle.eb3.proofs.Laws.Meanings.{step_states}
 use Rattle.eb3.specs.Machines.{Machine, Chain, ends, takes, refuses, count_of_moves}
 use Rattle.eb3.specs.RuleSets.{RuleSet, attributes}
 use Rattle.eb3.specs.Generic.Positions.{Enumeration}
@@ -44,11 +44,11 @@ module _ (R : RuleSet) where
   history_run_chain (HistoryRun.takes_visible {E} {E'} {F} {T} {U} {ns} {v} {i} {r} {a} l n s f) x y z =
       let e : suc x + v ≡ x + suc v = omega arith in
       subst (λ k. Chain (Sem_T (attributes R)) (at E T x y z) (k ∷ ns) (at F U (x + suc v) (y + i) (z + r))) (the_number l n s)
-      (takes (derivation s) (subst (λ m. Chain (Sem_T (attributes R)) (at E' (a ∷ T) (suc x) y z) ns (at F U m (y + i) (z + r))) e (history_run_chain f (suc x) y z)))
+      (takes (demand_2 (Sem_T (attributes R)) (situation E T)) (derivation s) (subst (λ m. Chain (Sem_T (attributes R)) (at E' (a ∷ T) (suc x) y z) ns (at F U m (y + i) (z + r))) e (history_run_chain f (suc x) y z)))
   history_run_chain (HistoryRun.takes_internal {E} {E'} {F} {T} {U} {ns} {v} {i} {r} l n s f) x y z =
       let e : suc y + i ≡ y + suc i = omega arith in
       subst (λ k. Chain (Sem_T (attributes R)) (at E T x y z) (k ∷ ns) (at F U (x + v) (y + suc i) (z + r))) (the_number l n s)
-      (takes (derivation s) (subst (λ m. Chain (Sem_T (attributes R)) (at E' T x (suc y) z) ns (at F U (x + v) m (z + r))) e (history_run_chain f x (suc y) z)))
+      (takes (demand_2 (Sem_T (attributes R)) (situation E T)) (derivation s) (subst (λ m. Chain (Sem_T (attributes R)) (at E' T x (suc y) z) ns (at F U (x + v) m (z + r))) e (history_run_chain f x (suc y) z)))
   history_run_chain (HistoryRun.refuses {E} {F} {T} {U} {ns} {v} {i} {r} {k} l n h f) x y z =
       let e : suc z + r ≡ z + suc r = omega arith in
       let q : count_of_moves {S = Sem_T (attributes R)} (situation {S = Sem_T (attributes R)} E T) ≤ k = omega (arith, h, ap length (list_unique (there E T) l (demand_2 (Sem_T (attributes R)) (situation E T)) n), length-map (moves ((Sem_T (attributes R)).satisfies T) E) (transition (Sem_T (attributes R)) T)) in

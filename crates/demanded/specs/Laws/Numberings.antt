@@ -7,10 +7,10 @@ use Rattle.eb3.specs.Generic.Positions.{Enumeration, Number}
 use Rattle.eb3.specs.Generic.PositionsLaws.{index_below, position_at}
 use Rattle.eb3.specs.Terms.{Term, Action}
 use Rattle.eb3.specs.Moves.{Move, moves, first_with}
-use Rattle.eb3.specs.Laws.Moves.{First, first_exact}
+use Rattle.eb3.proofs.Laws.Moves.{First, first_exact}
 use Rattle.eb3.specs.Derivations.{DataState, Derivation, Earlier}
 use Rattle.eb3.specs.TransitionSystems.{Transition}
-use Rattle.eb3.specs.Laws.TransitionSystems.{getElem?_map, getElem?_unmap}
+use Rattle.eb3.proofs.Laws.TransitionSystems.{getElem?_map, getElem?_unmap}
 use Rattle.eb3.specs.Semantics.{Situation, situation, transition, system, concluded}
 use Rattle.demanded.specs.Laws.Verdicts.{at_most_or}
 

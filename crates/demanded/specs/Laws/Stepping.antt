@@ -14,36 +14,36 @@ use Rattle.eb3.specs.Moves.{Move}
 use Rattle.eb3.specs.Derivations.{state_after}
 use Rattle.eb3.specs.Attributes.{Attributes, Trace}
 use Rattle.eb3.specs.Cells.{all_values}
-use Rattle.eb3.specs.Laws.Cells.{length_values, initial_values}
+use Rattle.eb3.proofs.Laws.Cells.{length_values, initial_values}
 use Rattle.eb3.specs.TransitionSystems.{TransitionSystem, Configuration, respond, step, run as machine_run}
 use Rattle.eb3.specs.TransitionSystems as Systems
-use Rattle.eb3.specs.Laws.TransitionSystems.{getElem?_map}
+use Rattle.eb3.proofs.Laws.TransitionSystems.{getElem?_map}
 use Rattle.eb3.specs.Semantics.{Sem_T, Sem_M, Situation, situation, transition, system}
 use Rattle.eb3.specs.Machines.{Machine, history_start, history_run}
 use Rattle.eb3.specs.Sizes.{size, reach}
-use Rattle.eb3.specs.Laws.Sizes.{size_below_reach, run_reach}
+use Rattle.eb3.proofs.Laws.Sizes.{size_below_reach, run_reach}
 use Rattle.eb3.specs.RuleSets.{RuleSet, attributes}
 use Rattle.eb3.specs.Unfolding.{unfold_main}
 use Rattle.eb3.specs.WellFormedness.{Running, WellFormed, WellFormedTrace}
-use Rattle.eb3.specs.Laws.MainRunning.{main_running}
-use Rattle.eb3.specs.Laws.Running.{run_running, history_well_formed}
+use Rattle.eb3.proofs.Laws.MainRunning.{main_running}
+use Rattle.eb3.proofs.Laws.Running.{run_running, history_well_formed}
 use Rattle.eb3.specs.Spelling.{words}
-use Rattle.eb3.specs.Laws.Spelling.{words_length}
+use Rattle.eb3.proofs.Laws.Spelling.{words_length}
 use Rattle.eb3.specs.Bytes.{words_in, bytes_of, word_count, written}
-use Rattle.eb3.specs.Laws.Bytes.{bytes_length, written_length, written_cut}
+use Rattle.eb3.proofs.Laws.Bytes.{bytes_length, written_length, written_cut}
 use Rattle.eb3.specs.Memory.{memory_words}
-use Rattle.eb3.specs.Laws.Memory.{memory_length}
+use Rattle.eb3.proofs.Laws.Memory.{memory_length}
 use Rattle.eb3.specs.Answers.{refused, answered, and_then, Sizes, Moved, Ran, Written}
-use Rattle.eb3.specs.Laws.Answers.{not_both, answered_injective, refused_injective}
+use Rattle.eb3.proofs.Laws.Answers.{not_both, answered_injective, refused_injective}
 use Rattle.eb3.specs.Admission.{admission}
-use Rattle.eb3.specs.Laws.Admission.{admitted}
+use Rattle.eb3.proofs.Laws.Admission.{admitted}
 use Rattle.eb3.specs.Operations.{main_reach, sizes_needed, term_in, cells_given, writing, moved, count, run}
 use Rattle.eb3.specs.Answers.{or_refused}
-use Rattle.eb3.specs.Laws.Operations.{term_back, values_back}
+use Rattle.eb3.proofs.Laws.Operations.{term_back, values_back}
 use Rattle.eb3.specs.Demands.{Roomy, last_term, last_trace, history_moves, values_words, run_result, cut}
-use Rattle.eb3.specs.Laws.DemandThree.{admit_reports, there, count_there, move_there, renewed_there, run_is, h}
-use Rattle.eb3.specs.Laws.DemandOne.{start_writes}
-use Rattle.demanded.specs.Stepping.{Host, host_after_start, host_start, host_of, more_visible, more_internal, taken, not_taken, stepped, host_move, host_step, host_run, SameAsRun, RoomyHost, One_more_holds, Run_then_move_holds, Steps_are_the_run_holds}
+use Rattle.eb3.proofs.Laws.DemandThree.{admit_reports, there, count_there, move_there, renewed_there, run_is, h}
+use Rattle.eb3.proofs.Laws.DemandOne.{start_writes}
+use Rattle.demanded.specs.Stepping.{Host, host_after_start, host_start, host_of, more_visible, more_internal, taken, not_taken, stepped, host_move, host_step, host_run, SameAsRun, RoomyHost, OneMoreHolds, RunThenMoveHolds, StepsAreTheRunHolds}
 
 -- ── one step of a machine more ──
 
@@ -359,7 +359,7 @@ module _ (rules : List ℕ) (S : Sizes) (R : RuleSet) (a : admission rules ≡ a
           room = o;
         }
 
-pub one_more : One_more_holds
+pub one_more : OneMoreHolds
 one_more rules term memory spare_term spare_memory S e room spare = record {
   one_more = λ numbers numbers' k f g o same.
       let p = admit_reports rules S e in
@@ -373,7 +373,7 @@ one_more rules term memory spare_term spare_memory S e room spare = record {
       );
 }
 
-pub run_then_move : Run_then_move_holds
+pub run_then_move : RunThenMoveHolds
 run_then_move rules numbers numbers' term memory spare_term spare_memory next_term next_memory k S e f room spare next =
     let p = admit_reports rules S e in
     let r = ran_answer rules S p.0 p.1 p.2 numbers term memory spare_term spare_memory room spare in
@@ -382,7 +382,7 @@ run_then_move rules numbers numbers' term memory spare_term spare_memory next_te
     (record { current = ran_roomy rules S p.0 p.1 p.2 numbers term memory spare_term spare_memory room spare; other = next }) (record { same_answer = q; same_term = refl; same_cells = refl }) in
     record { ran = r; ran_is = q; host = n.0; moved_to = n.1; same_as_run = n.3 }
 
-pub steps_are_the_run : Steps_are_the_run_holds
+pub steps_are_the_run : StepsAreTheRunHolds
 unfolding and_then
 steps_are_the_run rules numbers term memory spare_term spare_memory first_term first_memory second_term second_memory S e room spare room₁ room₂ =
     let p = admit_reports rules S e in

@@ -4,7 +4,7 @@ use Rattle.std.proofs.Common.{ap, sym, ◌∙◌, arith, length-append, length-d
 use Rattle.std.proofs.Math.Decide.{dec_lt}
 use Rattle.std.proofs.Math.ListN.{get_or-append}
 use Rattle.eb3.specs.Bytes.{words_in}
-use Rattle.eb3.specs.Laws.Bytes.{words_counted}
+use Rattle.eb3.proofs.Laws.Bytes.{words_counted}
 use Rattle.eb3.specs.Blocks.{contents, stream}
 use Rattle.demanded.specs.StreamWords.{word_at, BufferWords, StreamWords}
 

@@ -12,19 +12,19 @@ use Rattle.std.proofs.Math.ListN.{get_or, drop}
 use Rattle.eb3.specs.Generic.Booleans.{T_and, T_fst, T_snd, T_or}
 use Rattle.eb3.specs.Generic.Lists.{one_of}
 use Rattle.eb3.specs.Editions.{edition_1, edition_of}
-use Rattle.eb3.specs.Laws.Editions.{edition_1_defined}
+use Rattle.eb3.proofs.Laws.Editions.{edition_1_defined}
 use Rattle.eb3.specs.RuleSets.{RuleSet}
 use Rattle.eb3.specs.Reading.{Read, pick}
-use Rattle.eb3.specs.Laws.Reading.{pick_true, pick_false}
+use Rattle.eb3.proofs.Laws.Reading.{pick_true, pick_false}
 use Rattle.eb3.specs.RuleReading.{read_rules}
-use Rattle.eb3.specs.Laws.RuleReadingComplete.{rules_takes}
-use Rattle.eb3.specs.Laws.Refusals.{rules_refuse}
+use Rattle.eb3.proofs.Laws.RuleReadingComplete.{rules_takes}
+use Rattle.eb3.proofs.Laws.Refusals.{rules_refuse}
 use Rattle.eb3.specs.Answers.{Answer, refused, answered, and_then, or_refused}
-use Rattle.eb3.specs.Laws.Answers.{answered_injective, refused_injective, not_both}
+use Rattle.eb3.proofs.Laws.Answers.{answered_injective, refused_injective, not_both}
 use Rattle.eb3.specs.Blocks.{Sums, sums, sums_from, block_right, blocks_right, block_count, stream, whole_blocks, edition_in, Opened, open_blocks}
 use Rattle.eb3.specs.Admission.{ends_right, ended, within_limits, admission}
-use Rattle.eb3.specs.Laws.Admission.{two_words, read_whole}
-use Rattle.eb3.specs.Laws.Files.{eq→eqb, ends_good}
+use Rattle.eb3.proofs.Laws.Admission.{two_words, read_whole}
+use Rattle.eb3.proofs.Laws.Files.{eq→eqb, ends_good}
 use Rattle.first_word.specs.Laws.StreamRefusals.{refused_by_first}
 use Rattle.demanded.specs.Admitting.{Whole, sums_over, block, BlockRight, BlocksRight, EditionRight, Holds, G, W, Admits, Refuses, by_length, by_block, by_edition, by_word, by_size, by_breadth, AdmissionExact}
 
@@ -270,7 +270,7 @@ module _ (rules : List ℕ) where
       ends true R e = absurd (not_both k R (sym e))
       ends false R e = let z : 4 ≡ k = refused_injective {X = RuleSet} 4 k e in (omega arith, omega arith)
 
-      go : (r : Read RuleSet) → Rattle.eb3.specs.Laws.Refusals.Refuses r → ended r ≡ refused k → (4 ≤ k) × (k ≤ 6)
+      go : (r : Read RuleSet) → Rattle.eb3.proofs.Laws.Refusals.Refuses r → ended r ≡ refused k → (4 ≤ k) × (k ≤ 6)
       go (Read.refused j) s e = subst (λ n. (4 ≤ n) × (n ≤ 6)) (refused_injective {X = RuleSet} j k e) (of_three j s)
       go (Read.taken R rest) s e = ends (ends_right rest) R e
 

@@ -22,10 +22,10 @@ use Rattle.eb3.specs.Generic.AllLists.{AllFrom}
 use Rattle.eb3.specs.Reading.{Read, refused, taken, Reader, pick, giving, then, both, number_of, count_of, repeat, counted, for_each, series}
 use Rattle.eb3.specs.ExpressionReading.{read_data}
 use Rattle.eb3.specs.RuleReading.{read_domains, read_labels, read_parameter_counts, count_for, at_start_scope, at_label_scope, function_from, read_function, read_functions, read_rule_term, parameter_limit, read_process, read_processes, without_processes, read_rules}
-use Rattle.eb3.specs.Laws.Reading.{Sound, series_sound}
-use Rattle.eb3.specs.Laws.RuleSets.{functions_counted}
-use Rattle.eb3.specs.Laws.ParameterCounts.{CountsRead, counts_sound}
-use Rattle.eb3.specs.Laws.RuleReading.{FunctionRead, function_sound, arities_are}
+use Rattle.eb3.proofs.Laws.Reading.{Sound, series_sound}
+use Rattle.eb3.proofs.Laws.RuleSets.{functions_counted}
+use Rattle.eb3.proofs.Laws.ParameterCounts.{CountsRead, counts_sound}
+use Rattle.eb3.proofs.Laws.RuleReading.{FunctionRead, function_sound, arities_are}
 use Rattle.first_word.specs.FirstOffendingWord.{Declared, nothing_declared, Owner, of_label, of_process, Due, domain_count, domain_size, label_count, function_count, process_count, parameter_count, parameter, function_parameter_count, function_parameter, data_code, guard_scope, label_scope, empty_trace_scope, parameters_of, by_form, by_reference, from_to, judge, Next, follow, declare, parameters, declare_functions, parameter_counts, expressions, functions_from, processes_due, padding, verdict, first_offending}
 use Rattle.first_word.specs.Laws.FirstOffendingWord.{followed, followed_giving, followed_then, followed_pick, nothing_due, Follows, giving_follows, both_follows, number_follows, data_follows}
 use Rattle.first_word.specs.Laws.FirstOffendingTerms.{rules, declared, rule_term_follows}

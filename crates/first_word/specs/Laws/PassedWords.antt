@@ -7,7 +7,7 @@ use Rattle.eb3.specs.Limits
 use Rattle.eb3.specs.Editions.{Edition}
 use Rattle.eb3.specs.Scopes.{Scope}
 use Rattle.eb3.specs.Generic.Booleans.{T_fst}
-use Rattle.eb3.specs.Laws.Refusals.{picked}
+use Rattle.eb3.proofs.Laws.Refusals.{picked}
 use Rattle.eb3.specs.Generic.AllLists.{All, all_at, all_map}
 use Rattle.first_word.specs.FirstOffendingWord.{Declared, Owner, of_label, of_process, Due, domain_count, domain_size, label_count, function_count, process_count, parameter_count, parameter, function_parameter_count, function_parameter, data_code, condition_code, constant, variable_number, function_number, term_code, label_number, process_number, choice_domain, parallel_domain, mask_word, argument_code, argument_constant, argument_variable, running_code, running_label, element_code, element_constant, Tests, passed, tests, judge, Next, follow, declare, parameters, declare_functions, parameter_counts, parameters_of, label_scope, expressions, functions_from, processes_due, arguments, data_operands, condition_operands, term_operands, argument_operands, operands, mask_words, mask}
 

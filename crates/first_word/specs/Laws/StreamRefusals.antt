@@ -20,11 +20,11 @@ use Rattle.eb3.specs.Blocks.{whole_blocks, block_count, stream, blocks_right, ed
 use Rattle.eb3.specs.Admission.{all_zero, ends_right, ended, within_limits, admission}
 use Rattle.first_word.specs.FirstOffendingWord.{Declared, nothing_declared, Due, Tests, passed, tests, judge, follow, padding, padding_place, with_last, verdict, place, sections, first_offending}
 use Rattle.first_word.specs.StreamRefusals.{StreamRefusals, AdmissionRefusals}
-use Rattle.eb3.specs.Laws.Reading.{picked, pick_false}
+use Rattle.eb3.proofs.Laws.Reading.{picked, pick_false}
 use Rattle.eb3.specs.Generic.Booleans.{T_or}
-use Rattle.eb3.specs.Laws.Refusals.{Within, and_then_within, or_refused_within, refused_within}
-use Rattle.eb3.specs.Laws.Admission.{opened}
-use Rattle.eb3.specs.Laws.Editions.{edition_proper}
+use Rattle.eb3.proofs.Laws.Refusals.{Within, and_then_within, or_refused_within, refused_within}
+use Rattle.eb3.proofs.Laws.Admission.{opened}
+use Rattle.eb3.proofs.Laws.Editions.{edition_proper}
 use Rattle.eb3.specs.Generic.Lists.{one_of}
 use Rattle.first_word.specs.Laws.FirstOffendingWord.{Offends, followed}
 use Rattle.first_word.specs.Laws.FirstOffendingRules.{rules_follow}

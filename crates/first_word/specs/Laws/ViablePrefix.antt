@@ -14,7 +14,7 @@ use Rattle.eb3.specs.Limits
 use Rattle.eb3.specs.Editions.{Edition, edition_1, Defined}
 use Rattle.eb3.specs.Reading.{pick}
 use Rattle.eb3.specs.Generic.Booleans.{T_and, T_fst}
-use Rattle.eb3.specs.Laws.Refusals.{picked}
+use Rattle.eb3.proofs.Laws.Refusals.{picked}
 use Rattle.eb3.specs.Generic.AllLists.{all_at}
 use Rattle.first_word.specs.FirstOffendingWord.{Declared, nothing_declared, Owner, of_label, of_process, Due, domain_count, domain_size, label_count, function_count, process_count, parameter_count, parameter, function_parameter_count, function_parameter, data_code, condition_code, constant, variable_number, function_number, term_code, label_number, process_number, choice_domain, parallel_domain, mask_word, argument_code, argument_constant, argument_variable, running_code, running_label, element_code, element_constant, passed, by_form, tests, Next, follow, declare, parameters, declare_functions, parameter_counts, functions_from, mask, padding, padding_place, verdict, place, first_offending, first_place, with_last}
 use Rattle.eb3.specs.RuleSets.{RuleSet}
@@ -23,9 +23,9 @@ use Rattle.eb3.specs.WellFormedness.{Form}
 use Rattle.eb3.specs.Reading.{Read, refused, taken}
 use Rattle.eb3.specs.RuleReading.{read_rules}
 use Rattle.eb3.specs.Admission.{ended}
-use Rattle.eb3.specs.Laws.Reading.{Sound}
-use Rattle.eb3.specs.Laws.RuleReading.{FormOf, rules_sound}
-use Rattle.eb3.specs.Laws.Editions.{edition_proper}
+use Rattle.eb3.proofs.Laws.Reading.{Sound}
+use Rattle.eb3.proofs.Laws.RuleReading.{FormOf, rules_sound}
+use Rattle.eb3.proofs.Laws.Editions.{edition_proper}
 use Rattle.first_word.specs.Laws.FirstOffendingWord.{Offends}
 use Rattle.first_word.specs.Laws.StreamRefusals.{refusal, first_offending_word}
 use Rattle.first_word.specs.Laws.PassedWords.{judge_passed, facts, Element, Elements, Sane, Fine, Tail, Dues, Opened, Grows, tail_grows, dues_of_tail, tail_append, dues_append, all_append, tail_replicate, tail_arguments, Stepped, Started, has_domain, tail_mask, declared_stepped, step, functions_stepped, tail_functions}

@@ -9,15 +9,15 @@ use Rattle.eb3.specs.Generic.Lists.{Within}
 use Rattle.eb3.specs.Values.{Value, undefined}
 use Rattle.eb3.specs.Attributes.{Attributes, number_of_functions, domain, attribute_value, Trace}
 use Rattle.eb3.specs.Cells.{cell_index, offset, concat_tabulate, tabulate, values_up_to}
-use Rattle.eb3.specs.Laws.Cells.{value_cell}
+use Rattle.eb3.proofs.Laws.Cells.{value_cell}
 use Rattle.eb3.specs.TransitionSystems.{TransitionSystem, Configuration, initial, reply, step, run as machine_run, tally, visible?, internal?, refused?}
-use Rattle.eb3.specs.Laws.TransitionSystems.{step_state, run_tallied}
+use Rattle.eb3.proofs.Laws.TransitionSystems.{step_state, run_tallied}
 use Rattle.eb3.specs.Semantics.{Sem_T, Sem_M, Situation, situation, system}
 use Rattle.eb3.specs.Machines.{Machine, history_start, cells_of}
-use Rattle.eb3.specs.Laws.Machines.{memory_of_trace, run_chain, chain_run, past_in_cells, past_outcomes, past_moves}
+use Rattle.eb3.proofs.Laws.Machines.{memory_of_trace, run_chain, chain_run, past_in_cells, past_outcomes, past_moves}
 use Rattle.eb3.specs.RuleSets.{RuleSet, attributes}
 use Rattle.eb3.specs.Unfolding.{unfold_main}
-use Rattle.past.specs.PastInCells.{SameEnd, Ends_with, SameAfter, SameFuture}
+use Rattle.past.specs.PastInCells.{SameEnd, EndsWith, SameAfter, SameFuture}
 
 -- ── equal values of all functions are equal cells, and the reverse ──
 
@@ -78,11 +78,11 @@ module _ (R : RuleSet) where
   on h further = machine_run (system (Sem_T A)) h further
 
   -- On from where a first list ended.
-  pub goes_on : (ks further : List ℕ) (h : Machine (Sem_T A)) → Ends_with R ks h → Ends_with R (ks ++ further) (on h further)
-  goes_on ks further h c = subst (λ g. Ends_with R (ks ++ further) g)
+  pub goes_on : (ks further : List ℕ) (h : Machine (Sem_T A)) → EndsWith R ks h → EndsWith R (ks ++ further) (on h further)
+  goes_on ks further h c = subst (λ g. EndsWith R (ks ++ further) g)
       (run_append (system (Sem_T A)) start ks further ∙ ap (λ g. on g further) (sym (chain_run (Sem_T A) c))) (run_chain (Sem_T A) start (ks ++ further))
 
-  module _ (ks ks' : List ℕ) (h h' : Machine (Sem_T A)) (c : Ends_with R ks h) (c' : Ends_with R ks' h') (same : SameEnd A h.state h'.state) where
+  module _ (ks ks' : List ℕ) (h h' : Machine (Sem_T A)) (c : EndsWith R ks h) (c' : EndsWith R ks' h') (same : SameEnd A h.state h'.state) where
     pub further_cells : (further : List ℕ) → cells_of A (on h further).state ≡ cells_of A (on h' further).state
     unfolding memory_of_trace
     further_cells further =

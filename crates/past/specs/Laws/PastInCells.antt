@@ -14,33 +14,33 @@ use Rattle.eb3.specs.Moves.{moves}
 use Rattle.eb3.specs.Derivations.{state_after}
 use Rattle.eb3.specs.Attributes.{Trace}
 use Rattle.eb3.specs.Cells.{all_values}
-use Rattle.eb3.specs.Laws.Cells.{length_values}
+use Rattle.eb3.proofs.Laws.Cells.{length_values}
 use Rattle.eb3.specs.Semantics.{Sem_T, Sem_M, Situation, situation}
 use Rattle.eb3.specs.Machines.{Machine, history_start, history_run, cells_of}
-use Rattle.eb3.specs.Laws.Machines.{history_chain, chain_run}
+use Rattle.eb3.proofs.Laws.Machines.{history_chain, chain_run}
 use Rattle.eb3.specs.Sizes.{size, reach}
-use Rattle.eb3.specs.Laws.Sizes.{size_below_reach, run_reach}
+use Rattle.eb3.proofs.Laws.Sizes.{size_below_reach, run_reach}
 use Rattle.eb3.specs.RuleSets.{RuleSet, attributes}
 use Rattle.eb3.specs.Unfolding.{unfold_main}
 use Rattle.eb3.specs.WellFormedness.{Running, WellFormed, WellFormedTrace}
-use Rattle.eb3.specs.Laws.MainRunning.{main_running}
-use Rattle.eb3.specs.Laws.Running.{run_running, history_well_formed}
+use Rattle.eb3.proofs.Laws.MainRunning.{main_running}
+use Rattle.eb3.proofs.Laws.Running.{run_running, history_well_formed}
 use Rattle.eb3.specs.Spelling.{words}
-use Rattle.eb3.specs.Laws.Spelling.{words_length}
+use Rattle.eb3.proofs.Laws.Spelling.{words_length}
 use Rattle.eb3.specs.Reading.{pick}
 use Rattle.eb3.specs.Bytes.{words_in, bytes_of, written}
-use Rattle.eb3.specs.Laws.Bytes.{written_length, written_cut}
+use Rattle.eb3.proofs.Laws.Bytes.{written_length, written_cut}
 use Rattle.eb3.specs.Memory.{cell_room, memory_words}
-use Rattle.eb3.specs.Laws.Memory.{memory_length}
+use Rattle.eb3.proofs.Laws.Memory.{memory_length}
 use Rattle.eb3.specs.Answers.{Answer, refused, answered, and_then, or_refused, Sizes, Moved, Ran, Written, unwritten}
-use Rattle.eb3.specs.Laws.Answers.{answered_injective}
+use Rattle.eb3.proofs.Laws.Answers.{answered_injective}
 use Rattle.eb3.specs.Admission.{admission}
-use Rattle.eb3.specs.Laws.Admission.{admitted}
+use Rattle.eb3.proofs.Laws.Admission.{admitted}
 use Rattle.eb3.specs.Operations.{cells_needed, sizes_needed, main_reach, term_fits, memory_fits, term_in, cells_given, listed, writing, chosen, count, move}
-use Rattle.eb3.specs.Laws.Operations.{term_back, values_back}
+use Rattle.eb3.proofs.Laws.Operations.{term_back, values_back}
 use Rattle.eb3.specs.Demands.{last_term, last_trace, values_words, run_result, cut}
-use Rattle.eb3.specs.Laws.DemandThree.{admit_reports, run_is, h as machine_of}
-use Rattle.past.specs.PastInCells.{SameEnd, Ends_with, followed_by, Lent, run_in, SameOffers, SameRuns, K10_holds, K10_on_bytes_holds}
+use Rattle.eb3.proofs.Laws.DemandThree.{admit_reports, run_is, h as machine_of}
+use Rattle.past.specs.PastInCells.{SameEnd, EndsWith, followed_by, Lent, run_in, SameOffers, SameRuns, K10Holds, K10OnBytesHolds}
 use Rattle.past.specs.Laws.Futures.{same_end, on, goes_on, further_cells, future, visible_added, internal_added, refusals_added}
 
 -- A list in bytes with a further one after it is the words of both.
@@ -94,7 +94,7 @@ module _ (rules : List ℕ) (S : Sizes) (R : RuleSet) (a : admission rules ≡ a
   }
 
   -- What the machine ends with is a running term and a trace of this rule set.
-  module _ (ks : List ℕ) (h : Machine (Sem_T (attributes R))) (c : Ends_with R ks h) where
+  module _ (ks : List ℕ) (h : Machine (Sem_T (attributes R))) (c : EndsWith R ks h) where
     is_run : h ≡ history_run (attributes R) (unfold_main R) ks
     unfolding history_run
     is_run = chain_run (Sem_T (attributes R)) c
@@ -124,7 +124,7 @@ module _ (rules : List ℕ) (S : Sizes) (R : RuleSet) (a : admission rules ≡ a
   unfolding written
   written_alone ws = let l : length {A = ℕ} [] ≤ 2 * length ws = omega arith in ap (λ rest. bytes_of ws ++ rest) (drop_of_length-le [] l) ∙ append-nil (bytes_of ws)
 
-  module _ (numbers : List ℕ) (h : Machine (Sem_T (attributes R))) (c : Ends_with R (words_in numbers) h) (b : Lent S) where
+  module _ (numbers : List ℕ) (h : Machine (Sem_T (attributes R))) (c : EndsWith R (words_in numbers) h) (b : Lent S) where
     abbrev E : Term
     E = last_term R h
 
@@ -179,7 +179,7 @@ module _ (rules : List ℕ) (S : Sizes) (R : RuleSet) (a : admission rules ≡ a
   ran_of m = record { size = size R.edition.width (last_term R m); visible = m.visible_count; internal = m.internal_count; refusals = m.refused_count }
 
   -- Two lists whose histories end alike, in words of bytes.
-  module _ (numbers numbers' : List ℕ) (h h' : Machine (Sem_T (attributes R))) (c : Ends_with R (words_in numbers) h) (c' : Ends_with R (words_in numbers') h')
+  module _ (numbers numbers' : List ℕ) (h h' : Machine (Sem_T (attributes R))) (c : EndsWith R (words_in numbers) h) (c' : EndsWith R (words_in numbers') h')
       (same : SameEnd (attributes R) h.state h'.state) (further : List ℕ) (b b' : Lent S) where
     g : Machine (Sem_T (attributes R))
     g = on R h (words_in further)
@@ -187,13 +187,13 @@ module _ (rules : List ℕ) (S : Sizes) (R : RuleSet) (a : admission rules ≡ a
     g' : Machine (Sem_T (attributes R))
     g' = on R h' (words_in further)
 
-    whole_chain : Ends_with R (words_in (followed_by numbers further)) g
+    whole_chain : EndsWith R (words_in (followed_by numbers further)) g
     unfolding g
-    whole_chain = subst (λ ks. Ends_with R ks g) (sym (words_followed numbers further)) (goes_on R (words_in numbers) (words_in further) h c)
+    whole_chain = subst (λ ks. EndsWith R ks g) (sym (words_followed numbers further)) (goes_on R (words_in numbers) (words_in further) h c)
 
-    whole_chain' : Ends_with R (words_in (followed_by numbers' further)) g'
+    whole_chain' : EndsWith R (words_in (followed_by numbers' further)) g'
     unfolding g'
-    whole_chain' = subst (λ ks. Ends_with R ks g') (sym (words_followed numbers' further)) (goes_on R (words_in numbers') (words_in further) h' c')
+    whole_chain' = subst (λ ks. EndsWith R ks g') (sym (words_followed numbers' further)) (goes_on R (words_in numbers') (words_in further) h' c')
 
     alike : cells_of (attributes R) g.state ≡ cells_of (attributes R) g'.state
     unfolding g g'
@@ -234,7 +234,7 @@ module _ (rules : List ℕ) (S : Sizes) (R : RuleSet) (a : admission rules ≡ a
     abbrev history : List ℕ → Machine (Sem_T (attributes R))
     history ns = history_run (attributes R) (unfold_main R) (words_in ns)
 
-    ended : (ns : List ℕ) → Ends_with R (words_in ns) (history ns)
+    ended : (ns : List ℕ) → EndsWith R (words_in ns) (history ns)
     ended ns = history_chain (attributes R) (unfold_main R) (words_in ns)
 
     size_is : (ns : List ℕ) (d : Lent S) (r : Ran) → (run_in rules d ns).answer ≡ answered r → r.size ≡ size R.edition.width (last_term R (history ns))
@@ -260,7 +260,7 @@ module _ (rules : List ℕ) (S : Sizes) (R : RuleSet) (a : admission rules ≡ a
         sym (values_read numbers) ∙ (ap (cells_given R) (sym (memory_written numbers (history numbers) (ended numbers) b) ∙ (m ∙ memory_written numbers' (history numbers') (ended numbers') b')) ∙ values_read numbers') in
         same_end (attributes R) (history numbers).state (history numbers').state (λ i. situation (p i) (q i))
 
-pub past_in_cells_holds : K10_holds
+pub past_in_cells_holds : K10Holds
 past_in_cells_holds rules numbers numbers' S R h h' e a c c' same =
     let p = admit_reports rules S e in
     let s : sizes_needed R ≡ S = ap sizes_needed (answered_injective R p.0 (sym a ∙ p.1)) ∙ p.2 in
@@ -269,7 +269,7 @@ past_in_cells_holds rules numbers numbers' S R h h' e a c c' same =
       same_runs = runs rules S R a s numbers numbers' h h' c c' same;
     }
 
-pub past_in_bytes_holds : K10_on_bytes_holds
+pub past_in_bytes_holds : K10OnBytesHolds
 past_in_bytes_holds rules numbers numbers' S a a' r r' e answer answer' term memory further b b' =
     let p = admit_reports rules S e in
     let R : RuleSet = p.0 in
