@@ -22,7 +22,7 @@ use Rattle.arguments.specs.Tables.{from, row}
 use Rattle.declarations.specs.Entering.{labels_of}
 use Rattle.declarations.specs.ScopeFacts.{at_label, label_scope}
 use Rattle.declarations.specs.Directory.{Stands, Standing}
-use Rattle.declarations.specs.DirectoryLaws.{stands_noted, standing_kept, standing_more}
+use Rattle.declarations.proofs.DirectoryLaws.{stands_noted, standing_kept, standing_more}
 use Rattle.declarations.specs.Noting.{for_label, label_expressions, LabelsNoted}
 
 -- The rest of the labels, from l on.

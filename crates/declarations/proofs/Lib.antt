@@ -3,3 +3,4 @@ mod Cases
 mod FunctionCases
 mod LaterCases
 mod NotingCases
+pub mod DirectoryLaws

@@ -28,7 +28,7 @@ use Rattle.declarations.specs.Entering.{labels_of, cells_of, function_cells, fun
 use Rattle.declarations.specs.ScopeFacts.{at_start, start_scope}
 use Rattle.declarations.specs.FunctionLaws.{function_ends}
 use Rattle.declarations.specs.Directory.{Standing, FunctionRow, FunctionRows, row_width}
-use Rattle.declarations.specs.DirectoryLaws.{giving_taken, both_taken, for_each_count, left_is, stands_noted, row_stays}
+use Rattle.declarations.proofs.DirectoryLaws.{giving_taken, both_taken, for_each_count, left_is, stands_noted, row_stays}
 use Rattle.declarations.specs.Noting.{start_of, for_label, label_expressions, expressions_of, function_of, LabelsNoted, ExpressionsNoted, FunctionNoted, FunctionsNoted}
 use Rattle.declarations.proofs.FunctionCases.{sizes_in, expressions_out, expressions_in, function_on, function_out, function_stops, function_in, functions_next, functions_none, functions_out, functions_stop, functions_in}
 

@@ -11,4 +11,3 @@ pub mod ProcessLaws
 pub mod SectionFacts
 pub mod Directory
 pub mod Noting
-pub mod DirectoryLaws

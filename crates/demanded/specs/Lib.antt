@@ -10,4 +10,3 @@ pub mod Demanded
 pub mod Ours
 pub mod Stepping
 pub mod CellValues
-pub mod Laws

@@ -13,7 +13,7 @@ use Rattle.eb3.specs.Sizes.{size}
 use Rattle.expressions.specs.Answering.{answer}
 use Rattle.listing.specs.Listing.{TermAt, holding, room}
 use Rattle.paths.specs.Paths.{path}
-use Rattle.paths.specs.PathLaws.{path_length}
+use Rattle.paths.proofs.PathLaws.{path_length}
 use Rattle.derivation.specs.Derived.{passed, full, shown_count, DerivedShown}
 use Rattle.derivation.specs.Arms.{Sound, Outcome, Decided}
 use Rattle.derivation.specs.AnswerLaws.{by_order, never_full, place_room}

@@ -23,7 +23,7 @@ use Rattle.listing.specs.CodeLaws.{codes_done, codes_internal, codes_perform, co
 use Rattle.listing.specs.OutsideLaws.{outside_append, pairs_none, pairs_none_right}
 use Rattle.listing.specs.RoomLaws.{two_room, room_zero, room_masked}
 use Rattle.paths.specs.Paths.{shown?, shown, path, path_in_turn, paired, idle}
-use Rattle.paths.specs.ShownLaws.{shown_all, idle_none}
+use Rattle.paths.proofs.ShownLaws.{shown_all, idle_none}
 use Rattle.derivation.specs.Derived.{move_count, shown_count}
 use Rattle.derivation.specs.Searching.{shown_combined}
 use Rattle.derivation.specs.Arms.{masked_path}

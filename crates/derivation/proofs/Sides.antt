@@ -11,7 +11,7 @@ use Rattle.eb3.specs.Terms.{Term}
 use Rattle.eb3.specs.Sizes.{size}
 use Rattle.listing.specs.Listing.{TermAt, holding}
 use Rattle.paths.specs.Paths.{path}
-use Rattle.paths.specs.PathLaws.{path_length}
+use Rattle.paths.proofs.PathLaws.{path_length}
 use Rattle.derivation.specs.Derived.{passed, full, shown_count, DerivedShown}
 use Rattle.derivation.specs.Searching.{sides_of, Within}
 use Rattle.derivation.specs.Arms.{Decided, sides_path, SidesDerived, BothDerived}

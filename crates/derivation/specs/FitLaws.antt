@@ -8,7 +8,7 @@ use Rattle.eb3.specs.Spelling.{words}
 use Rattle.listing.specs.FitLaws.{fits_length}
 use Rattle.listing.specs.Listing.{Fits, TermAt}
 use Rattle.listing.specs.Positions.{TwoAt}
-use Rattle.paths.specs.SmallLaws.{SmallActions}
+use Rattle.paths.proofs.SmallLaws.{SmallActions}
 
 pub size_before : {t : List ℕ} {P : Scope} {E : Term} {u : List ℕ} → TermAt t P E u → length t - length u ≡ size 1 E
 size_before {t} {P} {E} {u} h = omega (arith, ap length h.spelled, length-append (words 1 E) u, fits_length P E h.fits)

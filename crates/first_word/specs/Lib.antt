@@ -4,4 +4,3 @@
 pub mod FirstOffendingWord
 pub mod StreamRefusals
 pub mod GivenWords
-pub mod Laws

@@ -3,5 +3,3 @@
 -- PastInCells: the statement, of the machines and of the operations on bytes. Executed: histories of different lengths and events that end alike, and
 -- two that end with equal terms and one value apart, after which the moves differ. Laws: the proof.
 pub mod PastInCells
-pub mod Laws
-pub mod Executed

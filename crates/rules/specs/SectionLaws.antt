@@ -23,7 +23,7 @@ use Rattle.arguments.specs.TableLaws.{width_declared}
 use Rattle.declarations.specs.Declaring.{Declares, entered_process}
 use Rattle.declarations.specs.DeclaringLaws.{entered_before, entered_left}
 use Rattle.declarations.specs.Directory.{Stands, ProcessRows}
-use Rattle.declarations.specs.DirectoryLaws.{rows_kept, rows_more, term_stands}
+use Rattle.declarations.proofs.DirectoryLaws.{rows_kept, rows_more, term_stands}
 use Rattle.declarations.specs.Regions.{count_of_same}
 use Rattle.declarations.specs.ProcessLaws.{process_alike, term_alike, Front, process_front, Bounded, Narrow, narrow_next, next_declares}
 use Rattle.rules.specs.Filling.{Placed}

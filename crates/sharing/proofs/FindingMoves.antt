@@ -15,8 +15,8 @@ use Rattle.eb3.specs.Moves.{Move, move, moves, sequenced, left_move, right_move,
 use Rattle.eb3.specs.Sizes.{zero_mask}
 use Rattle.eb3.proofs.Laws.TransitionSystems.{getElem?_map}
 use Rattle.listing.specs.CodeLaws.{zero_word}
-use Rattle.paths.specs.FilterLaws.{filter_all, filter_none, rows_none}
-use Rattle.paths.specs.SeekLaws.{entry_first, entry_behind}
+use Rattle.paths.proofs.FilterLaws.{filter_all, filter_none, rows_none}
+use Rattle.paths.proofs.SeekLaws.{entry_first, entry_behind}
 use Rattle.sharing.specs.Shared.{no_mask}
 
 -- ── no label is in the mask ──

@@ -11,7 +11,7 @@ use Rattle.eb3.specs.Terms.{Term}
 use Rattle.eb3.specs.Sizes.{size}
 use Rattle.listing.specs.Listing.{TermAt, holding, room}
 use Rattle.paths.specs.Paths.{path}
-use Rattle.paths.specs.PathLaws.{path_length}
+use Rattle.paths.proofs.PathLaws.{path_length}
 use Rattle.derivation.specs.Derived.{passed, full, move_count, Derived}
 use Rattle.derivation.specs.Arms.{Decided}
 use Rattle.derivation.specs.AnswerLaws.{by_order, never_full, place_room}

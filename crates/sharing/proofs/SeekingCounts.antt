@@ -18,7 +18,7 @@ use Rattle.listing.specs.Listing.{Fits, code_of, codes, holding}
 use Rattle.listing.specs.CodeLaws.{codes_parallel, combined_zero}
 use Rattle.listing.specs.ShownLaws.{zero_within}
 use Rattle.paths.specs.Paths.{shown, path, path_in_turn, path_by, idle, alone, paired, numbers, locate}
-use Rattle.paths.specs.ShownLaws.{shown_all}
+use Rattle.paths.proofs.ShownLaws.{shown_all}
 use Rattle.derivation.specs.Derived.{move_count}
 
 module _ (M : List ℕ) where

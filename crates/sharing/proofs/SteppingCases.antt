@@ -13,7 +13,7 @@ use Rattle.eb3.specs.Moves.{Move, moves}
 use Rattle.eb3.specs.Sizes.{size}
 use Rattle.listing.specs.Listing.{holding}
 use Rattle.listing.specs.Operands.{answer_is, answered_left, answered_count}
-use Rattle.paths.specs.SeekLaws.{some_within}
+use Rattle.paths.proofs.SeekLaws.{some_within}
 use Rattle.derivation.specs.Derived.{passed}
 use Rattle.sharing.specs.Shared.{Shared, term_of, shared_words, Stands}
 use Rattle.sharing.specs.Finding.{Place, FoundRight, Found}

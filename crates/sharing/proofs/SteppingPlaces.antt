@@ -13,7 +13,7 @@ use Rattle.eb3.specs.Sizes.{size}
 use Rattle.actions.specs.Codes.{action_code}
 use Rattle.listing.specs.Listing.{holding}
 use Rattle.paths.specs.Paths.{path, follow, followed, marked}
-use Rattle.paths.specs.PathLaws.{follow_path}
+use Rattle.paths.proofs.PathLaws.{follow_path}
 use Rattle.derivation.specs.FitLaws.{small_actions}
 use Rattle.sharing.specs.Shared.{Shared, Ended, Part, Then, Beside, term_of, shared_words, PartAt}
 use Rattle.sharing.specs.SharedLaws.{shared_short}

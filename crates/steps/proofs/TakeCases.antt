@@ -20,8 +20,8 @@ use Rattle.listing.specs.FitLaws.{fits_length}
 use Rattle.listing.specs.Listing.{holding}
 use Rattle.listing.specs.RoomLaws.{room_below_breadth}
 use Rattle.paths.specs.Paths.{path, Followed, follow, followed, marked}
-use Rattle.paths.specs.SeekLaws.{some_within}
-use Rattle.paths.specs.PathLaws.{follow_path}
+use Rattle.paths.proofs.SeekLaws.{some_within}
+use Rattle.paths.proofs.PathLaws.{follow_path}
 use Rattle.derivation.specs.Derived.{passed, full, move_count, Derived}
 use Rattle.successors.specs.declared.Built.{Built}
 use Rattle.successors.specs.Building.{built_words, Building, BuiltRight}

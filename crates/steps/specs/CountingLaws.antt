@@ -10,7 +10,7 @@ use Rattle.eb3.specs.Moves.{Move, moves, later, first_with}
 use Rattle.actions.specs.Codes.{action_code, Small}
 use Rattle.actions.specs.CodesLaws.{same_code}
 use Rattle.listing.specs.Listing.{Fits, code_of, codes}
-use Rattle.paths.specs.SmallLaws.{move_action_small}
+use Rattle.paths.proofs.SmallLaws.{move_action_small}
 use Rattle.derivation.specs.FitLaws.{small_actions}
 use Rattle.steps.specs.Counting.{first_number}
 

@@ -15,7 +15,7 @@ use Rattle.eb3.specs.Semantics.{Sem_T, Sem_M, situation, system}
 use Rattle.eb3.proofs.Laws.Semantics.{demand_2_memory}
 use Rattle.eb3.specs.Machines.{Machine, history_run}
 use Rattle.eb3.proofs.Laws.Machines.{chain_run}
-use Rattle.demanded.specs.Laws.HistoryRuns.{at, history_run_chain, history_run_there}
+use Rattle.demanded.proofs.Laws.HistoryRuns.{at, history_run_chain, history_run_there}
 use Rattle.eb3.specs.Attributes.{Trace}
 use Rattle.eb3.specs.Sizes.{size}
 use Rattle.eb3.specs.RuleSets.{RuleSet, attributes}
@@ -32,9 +32,9 @@ use Rattle.eb3.specs.Demands.{Demand2}
 use Rattle.eb3.proofs.Laws.Order.{order}
 use Rattle.eb3.proofs.Laws.DemandTwo.{demand_2_operations}
 use Rattle.eb3.specs.Generic.PositionsUnique.{same_number, list_unique}
-use Rattle.demanded.specs.Laws.Verdicts.{at_most_or, Verdict, verdict, admits_answer, refuses_answer}
-use Rattle.demanded.specs.Laws.Numberings.{numbered_there, FirstDerived, first_derived, none_first, some_first}
-use Rattle.demanded.specs.Laws.Given.{written_is, cells_written, not_true, room?, start_in_room, start_room, move_in_room, move_room?, run_in_room, run_room, run_room?, term?, event?, term_given, event_given, no_term_given, no_event_given}
+use Rattle.demanded.proofs.Laws.Verdicts.{at_most_or, Verdict, verdict, admits_answer, refuses_answer}
+use Rattle.demanded.proofs.Laws.Numberings.{numbered_there, FirstDerived, first_derived, none_first, some_first}
+use Rattle.demanded.proofs.Laws.Given.{written_is, cells_written, not_true, room?, start_in_room, start_room, move_in_room, move_room?, run_in_room, run_room, run_room?, term?, event?, term_given, event_given, no_term_given, no_event_given}
 use Rattle.demanded.specs.Admitting.{G, Admits}
 use Rattle.demanded.specs.Ours.{our_operations, Ours}
 use Rattle.demanded.specs.Demanded.{only_refused, C, cells_of, GivenTerm, GivenEvent, Room, MoveRoom, RunRoom, Derived, Outcomes, Numbering, derived_outcome, HistoryRun, run_outcome, ScratchDemands, AdmitDemands, StartDemands, CountDemands, MoveDemands, PresentDemands, RunDemands, Operations, Demanded, Same}

@@ -25,7 +25,7 @@ use Rattle.eb3.specs.Blocks.{Sums, sums, sums_from, block_right, blocks_right, b
 use Rattle.eb3.specs.Admission.{ends_right, ended, within_limits, admission}
 use Rattle.eb3.proofs.Laws.Admission.{two_words, read_whole}
 use Rattle.eb3.proofs.Laws.Files.{eq→eqb, ends_good}
-use Rattle.first_word.specs.Laws.StreamRefusals.{refused_by_first}
+use Rattle.first_word.proofs.Laws.StreamRefusals.{refused_by_first}
 use Rattle.demanded.specs.Admitting.{Whole, sums_over, block, BlockRight, BlocksRight, EditionRight, Holds, G, W, Admits, Refuses, by_length, by_block, by_edition, by_word, by_size, by_breadth, AdmissionExact}
 
 pub at_most_or : (m n : ℕ) → (m ≤ n) ⊎ (n < m)

@@ -21,9 +21,9 @@ use Rattle.eb3.proofs.Laws.TransitionSystems.{getElem?_unmap}
 use Rattle.actions.specs.CodesLaws.{same_code}
 use Rattle.actions.specs.Sets.{mask_set, has_all}
 use Rattle.paths.specs.Paths.{Sought, at, beyond, seek, Sides, left_alone, right_alone, together, nowhere, or_left, or_right, seek_pair, locate, alone, paired, shown?, shown, numbers, idle, path_by, path_in_turn, path, Followed, followed, within, follow, marked}
-use Rattle.paths.specs.SeekLaws.{Seen, seek_seen, Paired, pair_seen, entry_first, entry_made, entry_behind}
-use Rattle.paths.specs.SmallLaws.{SmallActions, move_action_small}
-use Rattle.paths.specs.ShownLaws.{code, SmallMoves, beside, shown_all, shown_after_done, shown_sequence, shown_choice, shown_star, shown_both_done, shown_guard, shown_shut, shown_parallel, shown_covered, shown_idle_left, shown_idle_right}
+use Rattle.paths.proofs.SeekLaws.{Seen, seek_seen, Paired, pair_seen, entry_first, entry_made, entry_behind}
+use Rattle.paths.proofs.SmallLaws.{SmallActions, move_action_small}
+use Rattle.paths.proofs.ShownLaws.{code, SmallMoves, beside, shown_all, shown_after_done, shown_sequence, shown_choice, shown_star, shown_both_done, shown_guard, shown_shut, shown_parallel, shown_covered, shown_idle_left, shown_idle_right}
 
 -- ── the sides of the k-th of a parallel's moves ──
 

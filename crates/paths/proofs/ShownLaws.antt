@@ -16,7 +16,7 @@ use Rattle.actions.specs.Codes.{action_code, Small}
 use Rattle.actions.specs.CodesLaws.{masked_is}
 use Rattle.actions.specs.Sets.{in_set, mask_set, has_all, in_mask_set, in_empty, in_either, within_set}
 use Rattle.paths.specs.Paths.{shown?, shown, idle, alone, paired}
-use Rattle.paths.specs.FilterLaws.{filter_append, filter_all, filter_none, filter_rows, filter_map, filter_twice, filter_same, rows_same, rows_none, neither, middle_last}
+use Rattle.paths.proofs.FilterLaws.{filter_append, filter_all, filter_none, filter_rows, filter_map, filter_twice, filter_same, rows_same, rows_none, neither, middle_last}
 
 abbrev pub code : Move → ℕ
 code x = action_code x.action

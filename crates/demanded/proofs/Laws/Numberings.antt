@@ -12,7 +12,7 @@ use Rattle.eb3.specs.Derivations.{DataState, Derivation, Earlier}
 use Rattle.eb3.specs.TransitionSystems.{Transition}
 use Rattle.eb3.proofs.Laws.TransitionSystems.{getElem?_map, getElem?_unmap}
 use Rattle.eb3.specs.Semantics.{Situation, situation, transition, system, concluded}
-use Rattle.demanded.specs.Laws.Verdicts.{at_most_or}
+use Rattle.demanded.proofs.Laws.Verdicts.{at_most_or}
 
 -- What has a number below the length.
 pub numbered_there : {X D : Type 0} {≺ : D → D → Type 0} {shown : D → X} (l : List X) (n : Enumeration D ≺ shown l) (k : ℕ) → k < length l → (d : D) × ((n.numbers.fun d).0 ≡ k)

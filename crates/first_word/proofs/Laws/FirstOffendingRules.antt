@@ -27,8 +27,8 @@ use Rattle.eb3.proofs.Laws.RuleSets.{functions_counted}
 use Rattle.eb3.proofs.Laws.ParameterCounts.{CountsRead, counts_sound}
 use Rattle.eb3.proofs.Laws.RuleReading.{FunctionRead, function_sound, arities_are}
 use Rattle.first_word.specs.FirstOffendingWord.{Declared, nothing_declared, Owner, of_label, of_process, Due, domain_count, domain_size, label_count, function_count, process_count, parameter_count, parameter, function_parameter_count, function_parameter, data_code, guard_scope, label_scope, empty_trace_scope, parameters_of, by_form, by_reference, from_to, judge, Next, follow, declare, parameters, declare_functions, parameter_counts, expressions, functions_from, processes_due, padding, verdict, first_offending}
-use Rattle.first_word.specs.Laws.FirstOffendingWord.{followed, followed_giving, followed_then, followed_pick, nothing_due, Follows, giving_follows, both_follows, number_follows, data_follows}
-use Rattle.first_word.specs.Laws.FirstOffendingTerms.{rules, declared, rule_term_follows}
+use Rattle.first_word.proofs.Laws.FirstOffendingWord.{followed, followed_giving, followed_then, followed_pick, nothing_due, Follows, giving_follows, both_follows, number_follows, data_follows}
+use Rattle.first_word.proofs.Laws.FirstOffendingTerms.{rules, declared, rule_term_follows}
 
 pub followed_alike : {A : Type 0} (r : Read A) (g g' : A → List ℕ → Option ℕ) → ((a : A) (u : List ℕ) → g a u ≡ g' a u) → followed r g ≡ followed r g'
 unfolding followed

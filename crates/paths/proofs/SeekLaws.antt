@@ -12,7 +12,7 @@ use Rattle.std.proofs.lemmas.List.{length-map}
 use Rattle.eb3.specs.Generic.Lists.{filter, concat_map}
 use Rattle.eb3.specs.Reading.{pick}
 use Rattle.eb3.proofs.Laws.TransitionSystems.{getElem?_unmap}
-use Rattle.paths.specs.FilterLaws.{filter_none}
+use Rattle.paths.proofs.FilterLaws.{filter_none}
 use Rattle.paths.specs.Paths.{Sought, at, beyond, one_on, seek, Sides, left_alone, right_alone, together, nowhere, pair_from, seek_pair}
 
 -- ── entries of lists, also of lists put together ──

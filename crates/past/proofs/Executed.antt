@@ -40,7 +40,7 @@ use Rattle.eb3.specs.KeyCabinet.{cabinet, key}
 use Rattle.eb3.specs.Examples.{mask_zero}
 use Rattle.eb3.proofs.Laws.Machines.{history_chain}
 use Rattle.past.specs.PastInCells.{SameEnd, PastInCells, followed_by, Lent, run_in}
-use Rattle.past.specs.Laws.PastInCells.{past_in_cells_holds}
+use Rattle.past.proofs.Laws.PastInCells.{past_in_cells_holds}
 
 -- ── two histories of the key cabinet that end alike ──
 

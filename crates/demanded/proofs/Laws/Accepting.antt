@@ -26,7 +26,7 @@ use Rattle.eb3.specs.Operations.{sizes_needed, term_fits, memory_fits, even, ter
 use Rattle.eb3.specs.Answers.{or_refused}
 use Rattle.eb3.proofs.Laws.Operations.{term_back}
 use Rattle.eb3.specs.Demands.{cut}
-use Rattle.demanded.specs.Laws.Stepping.{cut_written}
+use Rattle.demanded.proofs.Laws.Stepping.{cut_written}
 use Rattle.demanded.specs.Stepping.{AcceptedAgainHolds}
 
 -- An accepted term is a running term.

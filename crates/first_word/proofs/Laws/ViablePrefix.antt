@@ -26,9 +26,9 @@ use Rattle.eb3.specs.Admission.{ended}
 use Rattle.eb3.proofs.Laws.Reading.{Sound}
 use Rattle.eb3.proofs.Laws.RuleReading.{FormOf, rules_sound}
 use Rattle.eb3.proofs.Laws.Editions.{edition_proper}
-use Rattle.first_word.specs.Laws.FirstOffendingWord.{Offends}
-use Rattle.first_word.specs.Laws.StreamRefusals.{refusal, first_offending_word}
-use Rattle.first_word.specs.Laws.PassedWords.{judge_passed, facts, Element, Elements, Sane, Fine, Tail, Dues, Opened, Grows, tail_grows, dues_of_tail, tail_append, dues_append, all_append, tail_replicate, tail_arguments, Stepped, Started, has_domain, tail_mask, declared_stepped, step, functions_stepped, tail_functions}
+use Rattle.first_word.proofs.Laws.FirstOffendingWord.{Offends}
+use Rattle.first_word.proofs.Laws.StreamRefusals.{refusal, first_offending_word}
+use Rattle.first_word.proofs.Laws.PassedWords.{judge_passed, facts, Element, Elements, Sane, Fine, Tail, Dues, Opened, Grows, tail_grows, dues_of_tail, tail_append, dues_append, all_append, tail_replicate, tail_arguments, Stepped, Started, has_domain, tail_mask, declared_stepped, step, functions_stepped, tail_functions}
 
 -- An accepted stream spells a rule set of the required form.
 pub spelled : (L : Edition) → Defined L → (words : List ℕ) → first_offending L words ≡ none → (R : RuleSet) × (rest : List ℕ) × (words ≡ rules_words R ++ rest) × Form R

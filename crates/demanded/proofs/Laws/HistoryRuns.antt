@@ -16,8 +16,8 @@ use Rattle.eb3.proofs.Laws.Meanings.{step_states}
 use Rattle.eb3.specs.Machines.{Machine, Chain, ends, takes, refuses, count_of_moves}
 use Rattle.eb3.specs.RuleSets.{RuleSet, attributes}
 use Rattle.eb3.specs.Generic.Positions.{Enumeration}
-use Rattle.demanded.specs.Laws.Verdicts.{at_most_or}
-use Rattle.demanded.specs.Laws.Numberings.{numbered_there}
+use Rattle.demanded.proofs.Laws.Verdicts.{at_most_or}
+use Rattle.demanded.proofs.Laws.Numberings.{numbered_there}
 use Rattle.eb3.specs.Generic.PositionsUnique.{same_number, list_unique}
 use Rattle.demanded.specs.Demanded.{HistoryRun}
 

@@ -24,8 +24,8 @@ use Rattle.eb3.proofs.Laws.Reading.{Sound}
 use Rattle.eb3.proofs.Laws.TermReading.{term_sound, alone_taken, leaf_form}
 use Rattle.first_word.specs.FirstOffendingWord.{Declared, Due, condition_code, running_code, running_label, element_code, element_constant, parameters_of, guard_scope, mask, running_operands, judge, padding, verdict}
 use Rattle.first_word.specs.GivenWords.{declared_by, first_stray, GivenWords}
-use Rattle.first_word.specs.Laws.FirstOffendingWord.{Offends, followed, followed_pick, alike, nothing_due, Follows, giving_follows, both_follows, by_number_follows, coded, code_judged, no_words, number_follows_in, condition_follows}
-use Rattle.first_word.specs.Laws.FirstOffendingTerms.{mask_follows}
+use Rattle.first_word.proofs.Laws.FirstOffendingWord.{Offends, followed, followed_pick, alike, nothing_due, Follows, giving_follows, both_follows, by_number_follows, coded, code_judged, no_words, number_follows_in, condition_follows}
+use Rattle.first_word.proofs.Laws.FirstOffendingTerms.{mask_follows}
 
 -- ── the guards' scope ──
 

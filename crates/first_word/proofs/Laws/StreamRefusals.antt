@@ -26,8 +26,8 @@ use Rattle.eb3.proofs.Laws.Refusals.{Within, and_then_within, or_refused_within,
 use Rattle.eb3.proofs.Laws.Admission.{opened}
 use Rattle.eb3.proofs.Laws.Editions.{edition_proper}
 use Rattle.eb3.specs.Generic.Lists.{one_of}
-use Rattle.first_word.specs.Laws.FirstOffendingWord.{Offends, followed}
-use Rattle.first_word.specs.Laws.FirstOffendingRules.{rules_follow}
+use Rattle.first_word.proofs.Laws.FirstOffendingWord.{Offends, followed}
+use Rattle.first_word.proofs.Laws.FirstOffendingRules.{rules_follow}
 
 -- ── the end of the stream ──
 

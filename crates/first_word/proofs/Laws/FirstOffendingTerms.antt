@@ -16,7 +16,7 @@ use Rattle.eb3.specs.ExpressionReading.{read_cond}
 use Rattle.eb3.specs.TermReading.{mask_of}
 use Rattle.eb3.specs.RuleReading.{argument_of, arguments_of, rule_action_of, call_of, rule_mask_of, choice_over_of, parallel_over_of, RuleKind, rule_kind, rule_by, rule_terms, read_rule_term}
 use Rattle.first_word.specs.FirstOffendingWord.{Declared, Due, condition_code, term_code, label_number, process_number, choice_domain, parallel_domain, mask_word, argument_code, argument_constant, argument_variable, guard_scope, mask_words, mask, term_operands, argument_operands, arguments, judge, verdict}
-use Rattle.first_word.specs.Laws.FirstOffendingWord.{followed, alike, Follows, giving_follows, both_follows, by_number_follows, number_follows, coded, code_judged, no_words, number_follows_in, condition_follows}
+use Rattle.first_word.proofs.Laws.FirstOffendingWord.{followed, alike, Follows, giving_follows, both_follows, by_number_follows, number_follows, coded, code_judged, no_words, number_follows_in, condition_follows}
 
 pub mask_follows : (L : Edition) (D : Declared) (n k labels : ℕ) → Follows L D n (mask_of k labels) (λ gs. mask_words k labels ++ gs)
 unfolding mask_of verdict judge followed

@@ -41,7 +41,7 @@ use Rattle.eb3.proofs.Laws.Operations.{term_back, values_back}
 use Rattle.eb3.specs.Demands.{last_term, last_trace, values_words, run_result, cut}
 use Rattle.eb3.proofs.Laws.DemandThree.{admit_reports, run_is, h as machine_of}
 use Rattle.past.specs.PastInCells.{SameEnd, EndsWith, followed_by, Lent, run_in, SameOffers, SameRuns, K10Holds, K10OnBytesHolds}
-use Rattle.past.specs.Laws.Futures.{same_end, on, goes_on, further_cells, future, visible_added, internal_added, refusals_added}
+use Rattle.past.proofs.Laws.Futures.{same_end, on, goes_on, further_cells, future, visible_added, internal_added, refusals_added}
 
 -- A list in bytes with a further one after it is the words of both.
 words_followed : (s t : List ℕ) → words_in (followed_by s t) ≡ words_in s ++ words_in t
