@@ -33,7 +33,7 @@ fn answer(rules: &[u8]) -> String {
 
 #[cfg(not(cabinet))]
 fn answer(_rules: &[u8]) -> String {
-    "the engine is not built: run `rt staticlib cabinet` first".to_string()
+    "the engine is not built: run `host/engine` first".to_string()
 }
 
 fn main() -> ExitCode {
