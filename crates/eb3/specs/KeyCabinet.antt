@@ -19,7 +19,7 @@ use Rattle.eb3.specs.Editions.{edition_1, edition_of}
 use Rattle.eb3.specs.RuleSets.{variable_argument, rule_perform, rule_sequence, rule_choice, rule_star, rule_guard, parallel_over, Process, RuleSet, domain_size, label, process, attributes}
 use Rattle.eb3.specs.Unfolding.{argument_value, instantiate_cond, right_nest, unfold_term, unfold_below, unfold_main}
 use Rattle.eb3.specs.Measures.{whole, sat, measure_term, table, measure_main}
-use Rattle.eb3.specs.WellFormedness.{DomainsDefined, Allowed, FunctionFits, WellFormed, Running}
+use Rattle.eb3.specs.WellFormedness.{DomainsDefined, Allowed, FunctionFits, WellFormed}
 use Rattle.eb3.specs.Examples.{mask_zero, mask_a}
 
 -- Out: 0 at start, v for the key taken or brought, else before.

@@ -1,8 +1,8 @@
 -- EB3 terms, attribute memory and moves: the specification of document 01, and of source 000's semantics Sem_T and Sem_M.
 --
--- A file in this folder defines; a file of Laws proves about the definitions of its name; Generic has what knows nothing of EB3. To believe the
+-- A file in this folder defines; a file of proofs/Laws proves about the definitions of its name; Generic has what knows nothing of EB3. To believe the
 -- specification read this folder, in the order below, and no proof. What it all comes to are the records in Demands, Admitted, Examples and Executed;
--- Laws says that they hold. `must-fail` holds document 01's wrong readings and sham engines as edits that the proofs refuse.
+-- proofs/Laws says that they hold. `must-fail` holds document 01's wrong readings and sham engines as edits that the proofs refuse.
 
 -- Generic: tests, lists, positions, enumerations.
 pub mod Generic

@@ -1,12 +1,10 @@
 -- Equality of actions is decided by the test, and actions form a set.
 use Rattle.std.specs.Prelude.{◌≡◌, refl, T, eqb}
-use mathlib.Core.List.{is_set}
-use Rattle.std.proofs.Math.Nat.{ℕ_set}
 use Rattle.std.proofs.Common.{eqb→eq}
 use Rattle.std.proofs.Math.Dec.{eqb_refl}
 use Rattle.eb3.specs.Generic.Booleans.{T_and, T_fst, T_snd}
 use Rattle.eb3.specs.Generic.Lists.{same_list, same_list→eq, same_list_refl}
-use Rattle.eb3.specs.Terms.{VisibleAction_set, VisibleAction, Action, internal, visible, Action_set_over, same_action}
+use Rattle.eb3.specs.Terms.{VisibleAction_set, Action, internal, visible, Action_set_over, same_action}
 
 pub same_action→eq : (a b : Action) → T (same_action a b) → a ≡ b
 unfolding same_action
