@@ -309,12 +309,12 @@ padding n [] = none
 padding zero (w ∷ t) = some Refusal.form
 padding (suc n) (w ∷ t) = pick (eqb w 0) (padding n t) (some Refusal.form)
 
--- With nothing due: at most `zeros` words more, each 0. With something due and no word left: cut short.
-unfoldable pub verdict : (zeros : ℕ) → Edition → List ℕ → Declared → List Due → Option ℕ
-verdict zeros L [] D [] = none
-verdict zeros L [] D (d ∷ ds) = some Refusal.form
-verdict zeros L (w ∷ t) D [] = padding zeros (w ∷ t)
-verdict zeros L (w ∷ t) D (d ∷ ds) = judge (tests L D d w) (verdict zeros L t (follow L D d w).declared ((follow L D d w).due ++ ds))
+-- With nothing due: at most `allowed_zeros` words more, each 0. With something due and no word left: cut short.
+unfoldable pub verdict : (allowed_zeros : ℕ) → Edition → List ℕ → Declared → List Due → Option ℕ
+verdict allowed_zeros L [] D [] = none
+verdict allowed_zeros L [] D (d ∷ ds) = some Refusal.form
+verdict allowed_zeros L (w ∷ t) D [] = padding allowed_zeros (w ∷ t)
+verdict allowed_zeros L (w ∷ t) D (d ∷ ds) = judge (tests L D d w) (verdict allowed_zeros L t (follow L D d w).declared ((follow L D d w).due ++ ds))
 
 -- The stream's items 2 to 5, after its first two words.
 abbrev pub sections : List Due

@@ -140,12 +140,12 @@ module _ (L : Edition) (one : 1 ≤ L.function_parameters) where
 
       repeat_follows : {A : Type 0} (f : Reader A) (d : Due) → Follows L D n f (λ gs. d ∷ gs) → (k : ℕ) → Follows L D n (repeat k f) (λ gs. replicate k d ++ gs)
       unfolding repeat followed
-      repeat_follows f d p zero = λ zeros gs g s l h. h [] s l
+      repeat_follows f d p zero = λ allowed_zeros gs g s l h. h [] s l
       repeat_follows f d p (suc k) = giving_follows L D n (λ p. p.0 ∷ p.1) (both f (repeat k f)) (λ gs. replicate (suc k) d ++ gs) (both_follows L D n f (repeat k f) (λ gs. d ∷ gs) (λ gs. replicate k d ++ gs) p (repeat_follows f d p k))
 
       for_each_follows : {A B : Type 0} (f : B → Reader A) (d : B → Due) → ((b : B) → Follows L D n (f b) (λ gs. d b ∷ gs)) → (bs : List B) → Follows L D n (for_each bs f) (λ gs. map d bs ++ gs)
       unfolding for_each followed
-      for_each_follows f d p [] = λ zeros gs g s l h. h [] s l
+      for_each_follows f d p [] = λ allowed_zeros gs g s l h. h [] s l
       for_each_follows f d p (b ∷ bs) = giving_follows L D n (λ p. p.0 ∷ p.1) (both (f b) (for_each bs f)) (λ gs. map d (b ∷ bs) ++ gs)
           (both_follows L D n (f b) (for_each bs f) (λ gs. d b ∷ gs) (λ gs. map d bs ++ gs) (p b) (for_each_follows f d p bs))
 
@@ -157,7 +157,7 @@ module _ (L : Edition) (one : 1 ≤ L.function_parameters) where
       function_follows i =
           giving_follows L D n function_from (both number (both start each)) (function_due i)
           (both_follows L D n number (both start each) (λ gs. replicate (parameters_of D i) function_parameter ++ gs) (λ gs. expressions L D i ++ gs)
-          (repeat_follows (number_of Refusal.reference (length domains)) function_parameter (number_follows L D n (length domains) function_parameter (λ zeros w t gs. refl)) (count_for counts i))
+          (repeat_follows (number_of Refusal.reference (length domains)) function_parameter (number_follows L D n (length domains) function_parameter (λ allowed_zeros w t gs. refl)) (count_for counts i))
           (both_follows L D n start each (λ gs. data_code (empty_trace_scope L D i) ∷ gs) (λ gs. map (λ ds. data_code (label_scope L D i (length ds))) labels ++ gs)
           (data_follows L D (empty_trace_scope L D i) n)
           (for_each_follows (λ ds. read_data L.width (at_label_scope L counts i (length ds))) (λ ds. data_code (label_scope L D i (length ds))) (λ ds. data_follows L D (label_scope L D i (length ds)) n) labels)))
@@ -173,12 +173,12 @@ module _ (L : Edition) (one : 1 ≤ L.function_parameters) where
 
       series_follows : (k i : ℕ) → Follows L D n (series k i (read_function L (length domains) labels counts)) (λ gs. functions_from L D k i ++ gs)
       unfolding series followed
-      series_follows zero i = λ zeros gs g s l h. h [] s l
-      series_follows (suc k) i = λ zeros gs g s l h.
-          ap (verdict zeros L s D) (append_assoc (replicate (parameters_of D i) function_parameter) (expressions L D i ++ functions_from L D k (i + 1)) gs
+      series_follows zero i = λ allowed_zeros gs g s l h. h [] s l
+      series_follows (suc k) i = λ allowed_zeros gs g s l h.
+          ap (verdict allowed_zeros L s D) (append_assoc (replicate (parameters_of D i) function_parameter) (expressions L D i ++ functions_from L D k (i + 1)) gs
           ∙ ap (λ x. replicate (parameters_of D i) function_parameter ++ x) (append_assoc (expressions L D i) (functions_from L D k (i + 1)) gs))
           ∙ giving_follows L D n (λ p. p.0 ∷ p.1) (both (F i) (series k (i + 1) F)) (λ gs. function_due i (functions_from L D k (i + 1) ++ gs))
-          (both_follows L D n (F i) (series k (i + 1) F) (function_due i) (λ gs. functions_from L D k (i + 1) ++ gs) (function_follows i) (series_follows k (i + 1))) zeros gs g s l h
+          (both_follows L D n (F i) (series k (i + 1) F) (function_due i) (λ gs. functions_from L D k (i + 1) ++ gs) (function_follows i) (series_follows k (i + 1))) allowed_zeros gs g s l h
         where
           F : ℕ → Reader Function
           F = read_function L (length domains) labels counts

@@ -61,18 +61,18 @@ module _ (R : RuleSet) where
     constant_follows : Follows L D n (λ s. then (number_in L.width s) element_reader) (λ gs. element_constant d L.width [] ∷ gs)
     unfolding verdict judge followed
     constant_follows = number_follows_in L D (element_constant d) (λ v x. pick (ltb v (domain_size R d)) x (some Refusal.kind)) element_reader
-        (λ zeros vs w t gs. refl) (λ zeros vs w t gs. refl) (λ zeros m vs w t gs. refl)
+        (λ allowed_zeros vs w t gs. refl) (λ allowed_zeros vs w t gs. refl) (λ allowed_zeros m vs w t gs. refl)
         (λ v u g x h. ap (λ y. pick (ltb v (domain_size R d)) y (some Refusal.kind)) (h v) ∙ sym (followed_pick (ltb v (domain_size R d)) (taken v u) (refused Refusal.kind) g)) L.width n
 
     element_follows : Follows L D n (element_of L.width (domain_size R d)) (λ gs. element_code d ∷ gs)
     unfolding verdict judge followed element_of
-    element_follows zeros gs g [] l h = refl
-    element_follows zeros gs g (w ∷ t) l h =
-        ap (λ x. pick (eqb w 1) x (some Refusal.form)) (constant_follows zeros gs g t (omega arith) h) ∙ sym (followed_pick (eqb w 1) (then (number_in L.width t) element_reader) (refused Refusal.form) g)
+    element_follows allowed_zeros gs g [] l h = refl
+    element_follows allowed_zeros gs g (w ∷ t) l h =
+        ap (λ x. pick (eqb w 1) x (some Refusal.form)) (constant_follows allowed_zeros gs g t (omega arith) h) ∙ sym (followed_pick (eqb w 1) (then (number_in L.width t) element_reader) (refused Refusal.form) g)
 
   elements_follow : (n : ℕ) (ds : List ℕ) → Follows L D n (elements_of L.width (sizes_of R ds)) (λ gs. map element_code ds ++ gs)
   unfolding elements_of followed
-  elements_follow n [] = λ zeros gs g s l h. h [] s l
+  elements_follow n [] = λ allowed_zeros gs g s l h. h [] s l
   elements_follow n (d ∷ ds) =
       giving_follows L D n (λ p. p.0 ∷ p.1) (both (element_of L.width (domain_size R d)) (elements_of L.width (sizes_of R ds))) (λ gs. map element_code (d ∷ ds) ++ gs)
       (both_follows L D n (element_of L.width (domain_size R d)) (elements_of L.width (sizes_of R ds)) (λ gs. element_code d ∷ gs) (λ gs. map element_code ds ++ gs) (element_follows n d) (elements_follow n ds))
@@ -82,7 +82,7 @@ module _ (R : RuleSet) where
   action_follows : (n : ℕ) → Follows L D n (action_of R) (λ gs. running_label ∷ gs)
   unfolding action_of verdict judge
   action_follows n = by_number_follows L D n (length R.labels) running_label (λ l gs. map element_code (label R l) ++ gs) (λ l u. giving (perform l) (elements_of L.width (sizes_of R (label R l)) u))
-      (λ zeros w t gs. refl) (λ l b. giving_follows L D n (perform l) (elements_of L.width (sizes_of R (label R l))) (λ gs. map element_code (label R l) ++ gs) (elements_follow n (label R l)))
+      (λ allowed_zeros w t gs. refl) (λ l b. giving_follows L D n (perform l) (elements_of L.width (sizes_of R (label R l))) (λ gs. map element_code (label R l) ++ gs) (elements_follow n (label R l)))
 
   module _ (n : ℕ) (e : Reader Term) (operand : Follows L D n e (λ gs. running_code ∷ gs)) where
     abbrev term : List Due → List Due
@@ -111,33 +111,33 @@ module _ (R : RuleSet) where
     guard_follows = giving_follows L D n (λ p. Guard p.0 p.1) (both (read_cond L.width (Scopes.guard_scope (attributes R) 0)) e) (λ gs. guard_due (term gs))
         (both_follows L D n (read_cond L.width (Scopes.guard_scope (attributes R) 0)) e guard_due term condition_in_guard operand)
 
-    term_at : (zeros : ℕ) (gs : List Due) (t : List ℕ) → length t ≤ n → (g : Term → List ℕ → Option ℕ) → ((a : Term) (u : List ℕ) → length u ≤ n → verdict zeros L u D gs ≡ g a u)
-        → (w : ℕ) → coded L D zeros (running_operands L D w) t gs ≡ followed (term_by R e (term_kind w) t) g
+    term_at : (allowed_zeros : ℕ) (gs : List Due) (t : List ℕ) → length t ≤ n → (g : Term → List ℕ → Option ℕ) → ((a : Term) (u : List ℕ) → length u ≤ n → verdict allowed_zeros L u D gs ≡ g a u)
+        → (w : ℕ) → coded L D allowed_zeros (running_operands L D w) t gs ≡ followed (term_by R e (term_kind w) t) g
     unfolding coded followed
-    term_at zeros gs t l g h w =
+    term_at allowed_zeros gs t l g h w =
         alike Q (eqb w 20) _ _ _ _ (h Internal t l)
-        (alike Q (eqb w 21) _ _ _ _ (action_follows n zeros gs g t l h)
-        (alike Q (eqb w 22) _ _ _ _ (pair_follows Sequence zeros gs g t l h)
-        (alike Q (eqb w 23) _ _ _ _ (pair_follows Choice zeros gs g t l h)
-        (alike Q (eqb w 24) _ _ _ _ (giving_follows L D n Star e term operand zeros gs g t l h)
-        (alike Q (eqb w 25) _ _ _ _ (parallel_follows zeros gs g t l h)
-        (alike Q (eqb w 26) _ _ _ _ (guard_follows zeros gs g t l h)
+        (alike Q (eqb w 21) _ _ _ _ (action_follows n allowed_zeros gs g t l h)
+        (alike Q (eqb w 22) _ _ _ _ (pair_follows Sequence allowed_zeros gs g t l h)
+        (alike Q (eqb w 23) _ _ _ _ (pair_follows Choice allowed_zeros gs g t l h)
+        (alike Q (eqb w 24) _ _ _ _ (giving_follows L D n Star e term operand allowed_zeros gs g t l h)
+        (alike Q (eqb w 25) _ _ _ _ (parallel_follows allowed_zeros gs g t l h)
+        (alike Q (eqb w 26) _ _ _ _ (guard_follows allowed_zeros gs g t l h)
         (alike Q (eqb w 30) _ _ _ _ (h Done t l)
         refl)))))))
       where
         Q : Option (List Due) → TermKind → Type 0
-        Q o k = coded L D zeros o t gs ≡ followed (term_by R e k t) g
+        Q o k = coded L D allowed_zeros o t gs ≡ followed (term_by R e k t) g
 
   terms_follow : (n : ℕ) → Follows L D n (terms R n) (λ gs. running_code ∷ gs)
   unfolding terms verdict followed
-  terms_follow zero zeros gs g s l h = no_words L D running_code zeros gs g s l h
-  terms_follow (suc n) zeros gs g [] l h = refl
-  terms_follow (suc n) zeros gs g (w ∷ t) l h = code_judged L D zeros (running_operands L D w) t gs
-      ∙ term_at n (terms R n) (terms_follow n) zeros gs t (omega arith) g (λ a u m. h a u (omega arith)) w
+  terms_follow zero allowed_zeros gs g s l h = no_words L D running_code allowed_zeros gs g s l h
+  terms_follow (suc n) allowed_zeros gs g [] l h = refl
+  terms_follow (suc n) allowed_zeros gs g (w ∷ t) l h = code_judged L D allowed_zeros (running_operands L D w) t gs
+      ∙ term_at n (terms R n) (terms_follow n) allowed_zeros gs t (omega arith) g (λ a u m. h a u (omega arith)) w
 
   pub running_follows : (n : ℕ) → Follows L D n (read_term R) (λ gs. running_code ∷ gs)
   unfolding read_term
-  running_follows n zeros gs g s l h = terms_follow (length s) zeros gs g s (omega arith) (λ a u m. h a u (omega arith))
+  running_follows n allowed_zeros gs g s l h = terms_follow (length s) allowed_zeros gs g s (omega arith) (λ a u m. h a u (omega arith))
 
   -- ── exactly one term ──
 
