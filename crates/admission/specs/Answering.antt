@@ -3,7 +3,7 @@ use Rattle.std.specs.Prelude.{List, ℕ}
 use Rattle.eb3.specs.Editions.{edition_1}
 use Rattle.eb3.specs.RuleReading.{read_rules}
 use Rattle.eb3.specs.Answers.{Answer, refused, answered, Sizes}
-use Rattle.eb3.proofs.Laws.Judging.{whole_of}
+use Rattle.eb3.specs.Judging.{whole_of}
 use Rattle.weights.specs.declared.Limits.{Limits}
 use Rattle.admission.specs.declared.Admitted.{Admitted}
 use Rattle.admission.specs.declared.Admitted.TheVariants.{Sizes as Admitted_sizes, Refused as Admitted_refused}

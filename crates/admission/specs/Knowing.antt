@@ -10,7 +10,8 @@ use Rattle.eb3.specs.Admission.{admission}
 use Rattle.eb3.specs.WellFormedness.{WellFormed}
 use Rattle.eb3.specs.Answers.{refused, answered, and_then}
 use Rattle.eb3.specs.Operations.{admit, sizes_needed}
-use Rattle.eb3.proofs.Laws.Judging.{whole_of, admit_by_parts}
+use Rattle.eb3.proofs.Laws.Judging.{admit_by_parts}
+use Rattle.eb3.specs.Judging.{whole_of}
 use Rattle.eb3.proofs.Laws.Admission.{admitted as admitted_form, opened_1}
 use Rattle.weights.specs.declared.Limits.{Limits}
 use Rattle.declarations.specs.Directory.{Directory}

@@ -10,7 +10,8 @@ use Rattle.eb3.proofs.Laws.Admission.{stream_length, opened as opened_as, opened
 use Rattle.eb3.specs.Answers.{Answer, refused, answered, and_then}
 use Rattle.eb3.specs.RuleReading.{read_rules}
 use Rattle.eb3.specs.Operations.{admit}
-use Rattle.eb3.proofs.Laws.Judging.{whole_of, admit_by_parts}
+use Rattle.eb3.proofs.Laws.Judging.{admit_by_parts}
+use Rattle.eb3.specs.Judging.{whole_of}
 use Rattle.blocks.specs.declared.Opened.{Opened}
 use Rattle.blocks.specs.declared.Opened.TheVariants.{Blocks, Refused as Opened_refused}
 use Rattle.blocks.specs.Opening.{opening}

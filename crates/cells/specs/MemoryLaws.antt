@@ -5,7 +5,7 @@ use Rattle.std.proofs.Common.{sym, ap, subst, ◌∙◌, arith, lit<, length-dro
 use Rattle.std.proofs.lemmas.List.{length-map}
 use Rattle.eb3.specs.Values.{Value, undefined, encode, decode}
 use Rattle.eb3.proofs.Laws.Values.{bounded_at_most}
-use Rattle.eb3.proofs.Laws.Cells.{ValuesAtMost}
+use Rattle.eb3.specs.Values.{ValuesAtMost}
 use Rattle.eb3.proofs.Laws.RuleSets.{get_d_map}
 use Rattle.eb3.specs.Bytes.{words_in, word_count, written}
 use Rattle.eb3.proofs.Laws.Bytes.{words_counted, written_words}

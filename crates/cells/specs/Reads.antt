@@ -12,7 +12,7 @@ use Rattle.eb3.specs.Attributes.{Attributes, domain, number_of_functions, apply_
 use Rattle.eb3.proofs.Laws.Attributes.{apply_cong, guard_evaluated}
 use Rattle.eb3.specs.Scopes.{CondInScope, guard_scope}
 use Rattle.eb3.specs.Cells.{cell_count, cell_index, offset, total_cells, cell_at}
-use Rattle.eb3.proofs.Laws.Cells.{ValuesAtMost}
+use Rattle.eb3.specs.Values.{ValuesAtMost}
 use Rattle.expressions.specs.Stores.{stored, row_place, now_place, cell_in, reading_in, environment_in}
 use Rattle.expressions.specs.Answering.{Plain}
 use Rattle.cells.specs.Layout.{RowLaid, Laid, Holds}

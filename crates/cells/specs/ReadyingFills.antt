@@ -13,7 +13,7 @@ use Rattle.eb3.specs.Terms.{VisibleAction, visible}
 use Rattle.eb3.specs.Attributes.{Attributes, AttributeFunction}
 use Rattle.eb3.specs.Scopes.{DataInScope, start_scope, label_scope}
 use Rattle.eb3.specs.Cells.{total_cells, cell_at}
-use Rattle.eb3.proofs.Laws.Cells.{ValuesAtMost}
+use Rattle.eb3.specs.Values.{ValuesAtMost}
 use Rattle.eb3.proofs.Laws.CellCounts.{one_arity}
 use Rattle.eb3.specs.RuleSets.{RuleSet, label, function_rule, attributes}
 use Rattle.eb3.proofs.Laws.RuleSets.{get_d_map, functions_counted, function_is}

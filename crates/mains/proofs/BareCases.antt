@@ -59,7 +59,7 @@ module _ (u : List ℕ) (P : Scope) where
 
 -- Any running term without masks is held in one word over its own words.
 held_alone : (R : RuleSet) → Form R → (E : Term) → Running R E → Unmasked E → (u d : List ℕ) → u ≡ words 1 E → (word : ℕ) → word ≡ whole_word u → take 1 d ≡ word ∷ [] → SharedOver u R E 1 d
-held_alone R form E running unmasked u d e word is_IsWord first =
+held_alone R form E running unmasked u d e word is_word first =
     let P = guard_scope (attributes R) 0 in
     let all = last_all (length u) u (omega arith) in
     let q = alone u P E e (record { rest = []; within = omega arith; there = (whole R form E running _ (all ∙ e)).there; unmasked = unmasked }) in
@@ -68,7 +68,7 @@ held_alone R form E running unmasked u d e word is_IsWord first =
       stands = q.1;
       is_term = q.2;
       size_is = sym (ap length q.3);
-      words_are = first ∙ ap (λ x. x ∷ []) is_IsWord ∙ sym q.3;
+      words_are = first ∙ ap (λ x. x ∷ []) is_word ∙ sym q.3;
     }
 
 -- A front of an array that is not long.
@@ -104,13 +104,13 @@ module _ {numbers t D : List ℕ} {w functions c reach : ℕ} {u d M : List ℕ}
       → Finished mid₂ (q / 65536) reach M₂ c term memory term' memory' → low ≡ q / 65536 % 4294967296
       → RunsBare numbers t D w functions c reach u d M paths acts middle term memory (record { size = low; visible = tally.visible; internal = tally.internal; refused = tally.refused }) term' memory'
   unfolding memory_run
-  bare_run {d₁} {d₂} {M₂} {f} {mid₁} {mid₂} {word} {q} {low} {tally} is_IsWord first same runs ef expanded same_middle done el R T at room eu unmasked spare =
+  bare_run {d₁} {d₂} {M₂} {f} {mid₁} {mid₂} {word} {q} {low} {tally} is_word first same runs ef expanded same_middle done el R T at room eu unmasked spare =
       let well = at.well in
       let er = at.reach_is in
       let ec = at.ruled.cells_are in
       let e : Ended (SharedOver u) R (memory_run (attributes R) (unfold_main R) (words_in numbers)) d₂ M₂ tally × Unit =
       runs reach (record { words_room = omega (arith, room.words_room); middle_room = room.middle_room; path_room = room.path_room; numbers_room = room.numbers_room }) R T at.ruled (start R well)
-      (record { running = main_there R well; held = held_alone R well.form (unfold_main R) (main_there R well) unmasked u d₁ eu word is_IsWord first; stored = at.stored })
+      (record { running = main_there R well; held = held_alone R well.form (unfold_main R) (main_there R well) unmasked u d₁ eu word is_word first; stored = at.stored })
       (omega (arith, er, main_reaches R well)) in
       let last_term : Term = (memory_run (attributes R) (unfold_main R) (words_in numbers)).state.term in
       let spelled : Spelled R last_term (q / 65536) mid₂ =

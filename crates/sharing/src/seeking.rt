@@ -1,5 +1,5 @@
 // The path of move k of a part of the unfolding (document 01, "Moves, in order"). Where the part ends nobody asks, so that the right operand of a sequence, or
-// what stands under a guard that does not hold, is not passed over; only a left operand's end is looked for, by the walk of `deriving`.
+// what stands under a guard that does not hold, is not passed over; only a left operand's end is looked for, by the walk of `derivation`.
 ghost use Rattle.std.specs.Prelude.{◌≡◌, ◌+◌, ◌-◌, ◌≤◌, ◌<◌, [], ◌∷◌, length};
 ghost use Rattle.derivation.specs.Derived.{passed};
 ghost use Rattle.sharing.specs.Seeking.{Sought, TwoSought};

@@ -12,7 +12,7 @@ use Rattle.eb3.specs.Attributes.{Attributes, number_of_functions}
 use Rattle.eb3.specs.Cells.{total_cells, cell_at, initial_cells, renew}
 use Rattle.eb3.specs.Derivations.{state_after}
 use Rattle.eb3.specs.Memory.{cell_room, cells_in}
-use Rattle.eb3.proofs.Laws.Cells.{ValuesAtMost}
+use Rattle.eb3.specs.Values.{ValuesAtMost}
 use Rattle.eb3.proofs.Laws.Editions.{top_is_65534}
 use Rattle.eb3.specs.RuleSets.{RuleSet, attributes}
 use Rattle.eb3.proofs.Laws.RuleSets.{functions_counted}

@@ -3,7 +3,7 @@ use Rattle.std.specs.Prelude.{◌≡◌, List, ℕ, ◌+◌, ◌*◌, ◌≤◌,
 use Rattle.eb3.specs.Values.{Value}
 use Rattle.eb3.specs.Terms.{Action}
 use Rattle.eb3.specs.Cells.{total_cells, initial_cells}
-use Rattle.eb3.proofs.Laws.Cells.{ValuesAtMost}
+use Rattle.eb3.specs.Values.{ValuesAtMost}
 use Rattle.eb3.specs.RuleSets.{RuleSet, attributes}
 use Rattle.eb3.specs.WellFormedness.{WellFormedAction, Form}
 use Rattle.eb3.specs.Derivations.{state_after}

@@ -7,7 +7,8 @@ use Rattle.eb3.specs.Expressions.{no_reading}
 use Rattle.eb3.specs.Terms.{VisibleAction, visible}
 use Rattle.eb3.specs.Attributes.{Attributes, number_of_functions}
 use Rattle.eb3.specs.Cells.{total_cells, cell_at, initial_cells, renew}
-use Rattle.eb3.proofs.Laws.Cells.{ValuesAtMost, initial_values, values_at_most, renew_at_most}
+use Rattle.eb3.proofs.Laws.Cells.{initial_values, values_at_most, renew_at_most}
+use Rattle.eb3.specs.Values.{ValuesAtMost}
 use Rattle.eb3.specs.RuleSets.{RuleSet, label, attributes}
 use Rattle.eb3.proofs.Laws.RuleSets.{functions_counted}
 use Rattle.eb3.proofs.Laws.Running.{expressions_in_scope, elements_small, parameters_small}

@@ -237,7 +237,7 @@ module _ (t T : List ℕ) (n m i : ℕ) (σ : List ℕ) (R : RuleSet) (ready : R
         same_words = refl;
       }
 
-      module _ (head : List ℕ) (join : Term → Term → Term) (Joined_words : (A B : Term) → words 1 (join A B) ≡ head ++ (words 1 A ++ words 1 B)) where
+      module _ (head : List ℕ) (join : Term → Term → Term) (joined_words : (A B : Term) → words 1 (join A B) ≡ head ++ (words 1 A ++ words 1 B)) where
         -- the copies for x and the N elements behind it
         nest : (N x : ℕ) (copy : ℕ → Term) → ((y : ℕ) → y ≤ N → Unfolds t T (length w) i (σ ++ ((x + y) ∷ [])) (words 1 (copy y)) rest) → Copies t T (length w) i σ head x N (words 1 (right_nest Done join (suc N) copy)) rest
         unfolding Copies right_nest
@@ -255,7 +255,7 @@ module _ (t T : List ℕ) (n m i : ℕ) (σ : List ℕ) (R : RuleSet) (ready : R
             joined = refl;
           };
           two = nest N (suc x) (λ y. copy (suc y)) (λ y k. subst (λ z. Unfolds t T (length w) i (σ ++ (z ∷ [])) (words 1 (copy (suc y))) rest) (let z : x + suc y ≡ suc x + y = omega arith in z) (h (suc y) (omega arith)));
-          joined = Joined_words (copy 0) (right_nest Done join (suc N) (λ y. copy (suc y))) ∙ sym (append_assoc head (words 1 (copy 0)) (words 1 (right_nest Done join (suc N) (λ y. copy (suc y)))));
+          joined = joined_words (copy 0) (right_nest Done join (suc N) (λ y. copy (suc y))) ∙ sym (append_assoc head (words 1 (copy 0)) (words 1 (right_nest Done join (suc N) (λ y. copy (suc y)))));
         }
 
         all_copies : (S : ℕ) → S ≡ domain_size R d → 1 ≤ S → Copies t T (length w) i σ head 0 (S - 1) (words 1 (right_nest Done join S (λ x. unfold_in R i E (σ ++ (x ∷ []))))) rest

@@ -13,7 +13,7 @@ use Rattle.std.proofs.Math.Dec.{eqb_refl}
 use Rattle.std.proofs.Math.ListN.{get_or, length-append, get_or-append, get_or-eq_default}
 use Rattle.eb3.specs.Generic.Booleans.{cond_true, cond_false}
 use Rattle.eb3.specs.Generic.Lists.{Within}
-use Rattle.eb3.specs.Values.{Value, undefined, number, AtMost}
+use Rattle.eb3.specs.Values.{ValuesAtMost, Value, undefined, number, AtMost}
 use Rattle.eb3.specs.Expressions.{Undefined, Reading, no_reading, environment, evaluate_data}
 use Rattle.eb3.specs.Terms.{VisibleAction}
 use Rattle.eb3.specs.Attributes.{Attributes, function, domain, number_of_functions, Trace, last_action, apply_in_domain, expression, variables_in_scope, evaluate, now_below, before_values, attribute_value, value_at}
@@ -204,10 +204,6 @@ value_cell A H f h xs w = ap (λ c. get_or c (offset A f + cell_index (domain A 
     ∙ cell_value A (last_action H) (before_values A H) (number_of_functions A) f xs h w
 
 -- Every cell is at most the largest number, if constants and arguments are.
-abbrev pub ValuesAtMost : ℕ → List Value → Type 0
-ValuesAtMost top [] = Unit
-ValuesAtMost top (v ∷ vs) = AtMost top v × ValuesAtMost top vs
-
 values_append : (top : ℕ) (us vs : List Value) → ValuesAtMost top us → ValuesAtMost top vs → ValuesAtMost top (us ++ vs)
 values_append top [] vs h k = k
 values_append top (u ∷ us) vs h k = (h.0, values_append top us vs h.1 k)

@@ -18,7 +18,7 @@ use Rattle.eb3.proofs.Laws.Reading.{pick_true, pick_false}
 use Rattle.eb3.specs.Answers.{Answer, refused, answered, and_then, Sizes}
 use Rattle.eb3.specs.Admission.{ends_right, ended, within_limits, admission}
 use Rattle.eb3.specs.Operations.{sizes_needed, admit}
-use Rattle.eb3.specs.Judging.{judged}
+use Rattle.eb3.specs.Judging.{sizes_of_measure, judged, whole_of}
 
 module _ (R : RuleSet) where
   m : Measure
@@ -52,10 +52,6 @@ module _ (R : RuleSet) where
           ap lefts (pick_true _ _ (leb (reach R.edition.width (unfold_main R)) 8192) (le→leb (reach R.edition.width (unfold_main R)) 8192 h) ∙ pick_true _ _ (leb (breadth (unfold_main R)) 65535) (le→leb (breadth (unfold_main R)) 65535 k))
           ∙ (sym (pick_true _ _ (leb (reach R.edition.width (unfold_main R)) 8192) (le→leb (reach R.edition.width (unfold_main R)) 8192 h) ∙ pick_true _ _ (leb (breadth (unfold_main R)) 65535) (le→leb (breadth (unfold_main R)) 65535 k))
           ∙ ap (judged (total_cells (attributes R))) (sym e))
-
--- Admit by its parts: blocks, then the words behind the first two.
-unfoldable pub whole_of : Read RuleSet → Answer Sizes
-whole_of r = and_then (and_then (ended r) within_limits) (λ R. answered (sizes_needed R))
 
 pub whole_refused : (k : ℕ) → whole_of (Read.refused k) ≡ refused k
 unfolding whole_of ended and_then

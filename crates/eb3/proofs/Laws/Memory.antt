@@ -7,7 +7,7 @@ use native.Mathlib.Omega.{arith}
 use Rattle.std.proofs.lemmas.List.{length-map}
 use Rattle.eb3.specs.Values.{Value, undefined, number, encode, decode}
 use Rattle.eb3.proofs.Laws.Values.{decode_encode}
-use Rattle.eb3.proofs.Laws.Cells.{ValuesAtMost}
+use Rattle.eb3.specs.Values.{ValuesAtMost}
 use Rattle.eb3.specs.Bytes.{written}
 use Rattle.eb3.proofs.Laws.Bytes.{written_words}
 use Rattle.eb3.proofs.Laws.Spelling.{Small}

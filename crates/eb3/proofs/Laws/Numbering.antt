@@ -1,11 +1,12 @@
 -- A derivation's number does not rest on which proof of demand 2 is given, and the list of moves is the only one that enumerates the derivations
 -- (document 01, "Moves, in order").
-use Rattle.std.specs.Prelude.{◌≡◌, List, ℕ}
+use Rattle.std.specs.Prelude.{◌≡◌, List, ◌∷◌, ℕ}
 use Rattle.eb3.specs.Generic.Positions.{Enumeration}
 use Rattle.eb3.specs.Generic.PositionsUnique.{same_number, list_unique}
 use Rattle.eb3.specs.Terms.{Term}
 use Rattle.eb3.specs.Derivations.{DataState, Derivation, Earlier}
-use Rattle.eb3.specs.TransitionSystems.{Transition}
+use Rattle.eb3.specs.TransitionSystems.{Transition, count, taken}
+use Rattle.eb3.specs.Machines.{Machine, Chain, takes}
 use Rattle.eb3.specs.Semantics.{Sem_M, Situation, situation, system, concluded}
 use Rattle.eb3.proofs.Laws.Semantics.{demand_2, number_of}
 use Rattle.eb3.specs.RuleSets.{RuleSet, attributes}
@@ -27,3 +28,8 @@ module _ (S : DataState) (s : Situation S) (l : List (Transition (Situation S)))
 
   pub listing_unique : l ≡ (system S).transitions s
   listing_unique = list_unique l ((system S).transitions s) e (demand_2 S s)
+
+-- A chain may take these numbers: a step by derivation d takes d's.
+pub takes_numbered : (S : DataState) {c c' : Machine S} {ks : List ℕ} (d : Derivation S c.state.state c.state.term)
+    → Chain S (count (system S) c (taken d.action) (situation d.successor d.state)) ks c' → Chain S c (number_of S c.state d ∷ ks) c'
+takes_numbered S {c = c} d h = takes (demand_2 S c.state) d h

@@ -13,7 +13,8 @@ use Rattle.eb3.specs.Derivations.{DataState, Step, S_1, S_1', S_2, S_3, S_4_left
 use Rattle.eb3.proofs.Laws.Derivations.{state_is}
 use Rattle.eb3.specs.Attributes.{AttributeFunction, Trace, function, domain, number_of_functions}
 use Rattle.eb3.proofs.Laws.Attributes.{AllAtMost, TraceAtMost, no_domain_beyond}
-use Rattle.eb3.proofs.Laws.Cells.{ValuesAtMost, values_at_most}
+use Rattle.eb3.proofs.Laws.Cells.{values_at_most}
+use Rattle.eb3.specs.Values.{ValuesAtMost}
 use Rattle.eb3.specs.Scopes.{DataInScope, start_scope, label_scope, ExpressionsInScope}
 use Rattle.eb3.specs.TransitionSystems.{Transition, run}
 use Rattle.eb3.proofs.Laws.TransitionSystems.{run_keeps}
