@@ -1,0 +1,5 @@
+pub mod Sorts
+pub mod Table
+pub mod Shapes
+pub mod Pieces
+pub mod Skipping

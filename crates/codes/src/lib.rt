@@ -1,0 +1,237 @@
+// The one table of codes (document 01, "Codes stand before their operands"; document 02, K2 and K6): which codes may be where data, a condition
+// or a term is due, how many words and how many operands follow a code, and so where an expression or a term ends.
+// What an edition and the functions' parameter counts change is one number, `shape`: bit f says that function f has two parameters, bit 16 that a
+// constant has two words. Edition 1's is 0.
+#![tactic(auto)]
+
+ghost use Rattle.std.specs.Prelude.{◌≡◌, ℕ, ◌+◌, ◌*◌, ◌-◌, ◌≤◌, ◌<◌, List, [], ◌∷◌, eqb, length, get_or};
+ghost use Rattle.eb3.specs.Scopes.{Scope};
+ghost use Rattle.eb3.specs.Sizes.{breadth};
+ghost use Rattle.eb3.specs.Terms.{Term};
+ghost use Rattle.codes.specs.Sorts.{refusal_of};
+ghost use Rattle.codes.specs.Table.{operands_after, moving_code};
+ghost use Rattle.codes.specs.Shapes.{width_of, two_parameters, arity_of, more_words, argument_count, more_operands, operand_count};
+ghost use Rattle.codes.specs.Rows.{Piece, of_term, RowAt};
+
+use scan::wide;
+
+// What the words before a place leave to come there. A rule term is a process's; a running term has no variables, quantifiers or calls, but may be done.
+#[derive(Clone, Copy)]
+pub enum Due {
+    Data,
+    Condition,
+    RuleTerm,
+    RunningTerm,
+}
+
+// The refusal of a code where something is due; 0 where it may be there.
+pub fn refusal(w: u16, due: Due) -> u8
+    ensures { result ≡ refusal_of due w }
+{
+    match w {
+        0..=7 => match due {
+            Due::Data => 0,
+            Due::Condition => 4,
+            Due::RuleTerm => 4,
+            Due::RunningTerm => 4,
+        },
+        8..=13 => match due {
+            Due::Data => 4,
+            Due::Condition => 0,
+            Due::RuleTerm => 4,
+            Due::RunningTerm => 4,
+        },
+        20..=26 => match due {
+            Due::Data => 4,
+            Due::Condition => 4,
+            Due::RuleTerm => 0,
+            Due::RunningTerm => 0,
+        },
+        27..=29 => match due {
+            Due::Data => 4,
+            Due::Condition => 4,
+            Due::RuleTerm => 0,
+            Due::RunningTerm => 4,
+        },
+        30 => match due {
+            Due::Data => 4,
+            Due::Condition => 4,
+            Due::RuleTerm => 4,
+            Due::RunningTerm => 0,
+        },
+        _ => 4,
+    }
+}
+
+// ── what a shape says ──
+
+// Constants of one word, functions of one parameter.
+pub const EDITION_1: usize = 0;
+
+// The words of a constant.
+pub fn width(shape: usize) -> usize
+    ensures { (result ≡ width_of shape) × (result ≤ 2) }
+{
+    1 + shape / 65536 % 2
+}
+
+// 1 where function f has two parameters, else 0.
+fn second_parameter(shape: usize, f: usize) -> usize
+    ensures { (result ≡ two_parameters shape f) × (result ≤ 1) }
+{
+    (shape >> (f % 16)) % 2
+}
+
+pub fn arity(shape: usize, f: usize) -> usize
+    ensures { (result ≡ arity_of shape f) × (result ≤ 2) }
+{
+    1 + second_parameter(shape, f)
+}
+
+// ── what follows a code ──
+
+// The table in three numbers, since shifts cost less than a match by cases, which would be a jump that no machine foresees: two bits for each code's
+// operands, a bit for each code that one word follows, and a bit for the code that a mask's four words follow.
+const OPERANDS: usize = 11716395933523584;
+
+const ONE_WORD: usize = 2097350;
+
+const FOUR_WORDS: usize = 33554432;
+
+// The words between a code and its operands. A constant's second word is bit 16 of the shape, moved to the constant's code.
+pub fn words_after(w: usize, shape: usize) -> usize
+    requires { w ≤ 30 }
+    ensures { (result ≡ more_words shape w) × (result < 7) }
+{
+    (ONE_WORD >> w) % 2 + 4 * ((FOUR_WORDS >> w) % 2) + ((2 * (shape / 65536 % 2)) >> w) % 2
+}
+
+// The word at a place, or 0 where there is none.
+fn word(t: &[u16], i: usize) -> usize
+    ensures { (result ≡ get_or t.now i 0) × (result < 65536) }
+{
+    if i < t.len() {
+        return wide(t[i]);
+    }
+    0
+}
+
+// How many arguments follow a label: they are constants, and no term begins with a constant's code.
+fn arguments(t: &[u16], shape: usize) -> usize
+    ensures { (result ≡ argument_count shape t.now) × (result ≤ 2) }
+{
+    if word(t, 1) != 1 {
+        return 0;
+    }
+    let second = 2 + width(shape);
+    if word(t, second) != 1 {
+        return 1;
+    }
+    2
+}
+
+// The operands that the table does not say.
+fn more_operands(w: usize, t: &[u16], shape: usize) -> usize
+    ensures { (result ≡ more_operands shape w t.now) × (result ≤ 2) }
+{
+    if w == 6 {
+        return second_parameter(shape, word(t, 0));
+    }
+    if w == 7 {
+        return second_parameter(shape, word(t, 0));
+    }
+    if w == 21 {
+        return arguments(t, shape);
+    }
+    0
+}
+
+// The operands that the table says.
+pub fn operands_after(w: usize) -> usize
+    requires { w ≤ 30 }
+    ensures { (result ≡ operands_after w) × (result ≤ 3) }
+{
+    (OPERANDS >> (2 * w)) % 4
+}
+
+// How many operands a code has, t being the words after it.
+pub fn operands(w: usize, t: &[u16], shape: usize) -> usize
+    requires { w ≤ 30 }
+    ensures { (result ≡ operand_count shape w t.now) × (result ≤ 5) }
+{
+    operands_after(w) + more_operands(w, t, shape)
+}
+
+// ── skipping ──
+
+// The words left after n expressions and terms in a row. One loop over codes: `due` counts those that are still to come, of whatever sort.
+pub fn skip_row(s: &[u16], n: usize, shape: usize) -> usize
+    requires { (length s.now ≤ 65535) × (n ≤ 65535) }
+    ensures { (result ≤ length s.now) × ((P : Scope) (xs : List Piece) (rest : List ℕ) → RowAt shape s.now P xs rest → n ≡ length xs → result ≡ length rest) }
+{
+    let mut at: usize = 0;
+    let mut due = n;
+    while 0 < due {
+        if s.len() <= at {
+            return 0;
+        }
+        let w = wide(s[at]);
+        if 30 < w {
+            return 0;
+        }
+        let next = at + 1;
+        let more = operands(w, &s[next..], shape);
+        at = next + words_after(w, shape);
+        due = due - 1 + more;
+    }
+    if at <= s.len() {
+        return s.len() - at;
+    }
+    0
+}
+
+// The words left after one expression or term.
+pub fn skip(s: &[u16], shape: usize) -> usize
+    requires { length s.now ≤ 65535 }
+    ensures { (result ≤ length s.now) × ((P : Scope) (x : Piece) (rest : List ℕ) → RowAt shape s.now P (x ∷ []) rest → result ≡ length rest) }
+{
+    skip_row(s, 1, shape)
+}
+
+// ── terms that can never move ──
+
+// A bit for each code with which a term begins that has a move whatever its operands are.
+const MOVING: usize = 53477376;
+
+fn moving(w: usize) -> bool
+    requires { w ≤ 30 }
+    ensures { result ≡ moving_code w }
+{
+    (MOVING >> w) % 2 == 1
+}
+
+// Whether a term can never move: no such code is in it. Where one is, the loop ends at the first.
+pub fn idle(s: &[u16], shape: usize) -> bool
+    requires { length s.now ≤ 65535 }
+    ensures { (P : Scope) (E : Term) (rest : List ℕ) → RowAt shape s.now P (of_term E ∷ []) rest → result ≡ eqb (breadth E) 0 }
+{
+    let mut at: usize = 0;
+    let mut due: usize = 1;
+    while 0 < due {
+        if s.len() <= at {
+            return false;
+        }
+        let w = wide(s[at]);
+        if 30 < w {
+            return false;
+        }
+        if moving(w) {
+            return false;
+        }
+        let next = at + 1;
+        let more = operands(w, &s[next..], shape);
+        at = next + words_after(w, shape);
+        due = due - 1 + more;
+    }
+    true
+}

@@ -1,0 +1,68 @@
+-- Numbers of 32 bits in a table's bytes (document 02, K1): read from four bytes (`number_there`), and put one after another (`number_written`).
+use Rattle.std.specs.Prelude.{◌≡◌, ℕ, zero, suc, ◌+◌, ◌*◌, ◌/◌, ◌%◌, ◌<◌, ◌≤◌, List, [], ◌∷◌, ◌++◌, length, set, slice_index, slice_index_or, slice_set, refl}
+use Rattle.std.proofs.Common.{arith, sym, ap, subst, ◌∙◌, append_assoc, length-append}
+use Rattle.eb3.specs.Bytes.{words_in, written}
+use Rattle.readers.specs.Readers.{doubles_in, double_words}
+use Rattle.readers.specs.Laws.Readers.{double_length}
+use Rattle.writing.specs.WroteLaws.{written_next}
+use Rattle.readers.specs.Placing.{put_word, put_number}
+
+pub number_there : (b : List ℕ) (i : ℕ) → 4 * i + 4 ≤ length b
+    → slice_index (doubles_in (words_in b)) i ≡ slice_index b (4 * i) + 256 * slice_index b (4 * i + 1) + 65536 * slice_index b (4 * i + 2) + 16777216 * slice_index b (4 * i + 3)
+unfolding words_in doubles_in
+number_there [] i l = let z : ⊥ = omega (arith, l) in absurd z
+number_there (a ∷ []) i l = let z : ⊥ = omega (arith, l) in absurd z
+number_there (a ∷ b ∷ []) i l = let z : ⊥ = omega (arith, l) in absurd z
+number_there (a ∷ b ∷ c ∷ []) i l = let z : ⊥ = omega (arith, l) in absurd z
+number_there (a ∷ b ∷ c ∷ d ∷ s) zero l = omega arith
+number_there (a ∷ b ∷ c ∷ d ∷ s) (suc i) l =
+    let room : 4 * i + 4 ≤ length s = omega (arith, l) in
+    let p₀ : suc (suc (suc (suc (4 * i)))) ≡ 4 * suc i = omega arith in
+    let p₁ : suc (suc (suc (suc (4 * i + 1)))) ≡ 4 * suc i + 1 = omega arith in
+    let p₂ : suc (suc (suc (suc (4 * i + 2)))) ≡ 4 * suc i + 2 = omega arith in
+    let p₃ : suc (suc (suc (suc (4 * i + 3)))) ≡ 4 * suc i + 3 = omega arith in
+    let q : ℕ → ℕ = λ n. slice_index_or (a ∷ b ∷ c ∷ d ∷ s) n 0 in
+    number_there s i room ∙ (λ j. q (p₀ j) + 256 * q (p₁ j) + 65536 * q (p₂ j) + 16777216 * q (p₃ j))
+
+pub number_read : (b : List ℕ) (i w x y z : ℕ) → 4 * i + 4 ≤ length b → w ≡ slice_index b (4 * i) → x ≡ slice_index b (4 * i + 1) → y ≡ slice_index b (4 * i + 2) → z ≡ slice_index b (4 * i + 3)
+    → w + 256 * x + 65536 * y + 16777216 * z ≡ slice_index (doubles_in (words_in b)) i
+number_read b i w x y z l e f g h = (λ j. e j + 256 * f j + 65536 * g j + 16777216 * h j) ∙ sym (number_there b i l)
+
+-- Numbers of bytes have 32 bits.
+pub numbers_fit : (b : List ℕ) → ((i : ℕ) → slice_index b i < 256) → (i : ℕ) → slice_index (doubles_in (words_in b)) i < 4294967296
+unfolding words_in doubles_in
+numbers_fit [] h i = omega arith
+numbers_fit (a ∷ []) h i = omega arith
+numbers_fit (a ∷ b ∷ []) h i = omega arith
+numbers_fit (a ∷ b ∷ c ∷ []) h i = omega arith
+numbers_fit (a ∷ b ∷ c ∷ d ∷ s) h zero = let p : a < 256 = h 0 in let q : b < 256 = h 1 in let r : c < 256 = h 2 in let t : d < 256 = h 3 in omega (arith, p, q, r, t)
+numbers_fit (a ∷ b ∷ c ∷ d ∷ s) h (suc i) = numbers_fit s (λ j. h (suc (suc (suc (suc j))))) i
+
+-- ── written ──
+
+pub two_puts : (b b₁ b₂ : List ℕ) (i n : ℕ) → b₁ ≡ put_word b (2 * i) (n % 65536) → b₂ ≡ put_word b₁ (2 * i + 1) (n / 65536) → b₂ ≡ put_number b i n
+unfolding put_number
+two_puts b b₁ b₂ i n e f = f ∙ ap (λ (x : List ℕ). put_word x (2 * i + 1) (n / 65536)) e
+
+double_append : (ms ns : List ℕ) → double_words (ms ++ ns) ≡ double_words ms ++ double_words ns
+unfolding double_words
+double_append [] ns = refl
+double_append (m ∷ ms) ns = ap (λ (ws : List ℕ). m % 65536 ∷ m / 65536 ∷ ws) (double_append ms ns)
+
+word_written : (ws b : List ℕ) (i w : ℕ) → i ≡ length ws → 2 * i + 2 ≤ length b → put_word (written ws b) i w ≡ written (ws ++ (w ∷ [])) b
+unfolding put_word
+word_written ws b i w e room =
+    ap (λ (k : ℕ). set (slice_set (written ws b) (2 * k) (w % 256)) (2 * k + 1) (w / 256 % 256)) e ∙ written_next ws b (subst (λ (k : ℕ). 2 * k + 2 ≤ length b) e room) w
+
+-- One number more at a table's front.
+pub number_written : (ns b : List ℕ) (i n : ℕ) → i ≡ length ns → 4 * i + 4 ≤ length b → put_number (written (double_words ns) b) i n ≡ written (double_words (ns ++ (n ∷ []))) b
+unfolding put_number double_words
+number_written ns b i n e room =
+    let ws = double_words ns in
+    let at : 2 * i ≡ length ws = omega (arith, e, double_length ns) in
+    let next : 2 * i + 1 ≡ length (ws ++ (n % 65536 ∷ [])) = omega (arith, e, double_length ns, length-append ws (n % 65536 ∷ [])) in
+    let room₀ : 2 * (2 * i) + 2 ≤ length b = omega (arith, room) in
+    let room₁ : 2 * (2 * i + 1) + 2 ≤ length b = omega (arith, room) in
+    ap (λ (x : List ℕ). put_word x (2 * i + 1) (n / 65536)) (word_written ws b (2 * i) (n % 65536) at room₀)
+    ∙ (word_written (ws ++ (n % 65536 ∷ [])) b (2 * i + 1) (n / 65536) next room₁
+    ∙ ap (λ (us : List ℕ). written us b) (append_assoc ws (n % 65536 ∷ []) (n / 65536 ∷ []) ∙ sym (double_append ns (n ∷ []))))

@@ -1,0 +1,220 @@
+// Counts by card reader (document 02, K1): one number more is counted at its reader, and what a run has counted is added to the table that
+// a host lends, a record for each reader.
+#![tactic(auto)]
+
+ghost use Rattle.std.specs.Prelude.{◌≡◌, ℕ, ◌+◌, ◌*◌, ◌%◌, ◌<◌, ◌≤◌, true, length, slice_index, slice_index_or};
+ghost use Rattle.eb3.specs.Bytes.{words_in};
+ghost use Rattle.readers.specs.Readers.{doubles_in};
+ghost use Rattle.readers.specs.Readers.{increased};
+ghost use Rattle.readers.specs.Table.{none, Of32Bits, plus as sums, added_to, counts_at, added_first, records, one_more};
+ghost use Rattle.readers.specs.Placing.{put_word, put_number, put_record, put_first};
+
+pub mod list;
+
+#[repr(C)]
+#[derive(Clone, Copy)]
+pub struct Counts {
+    pub visible: u32,
+    pub internal: u32,
+    pub refused: u32,
+}
+
+// The sums of two records, each number modulo 4,294,967,296.
+pub fn plus(c: Counts, d: Counts) -> Counts
+    ensures { result ≡ sums c d }
+{
+    let visible = std::num::wrapping_add_u32(c.visible, d.visible);
+    let internal = std::num::wrapping_add_u32(c.internal, d.internal);
+    let refused = std::num::wrapping_add_u32(c.refused, d.refused);
+    Counts {
+        visible,
+        internal,
+        refused,
+    }
+}
+
+// Adds to one record of a lent table; the others are kept.
+pub fn add_to(table: &mut [Counts], reader: usize, more: Counts)
+    requires { reader < length table.old }
+    ensures { table.new ≡ added_to table.old reader more }
+{
+    let c = table[reader];
+    table[reader] = plus(c, more);
+}
+
+// The same of a table by value, which is lent to it.
+pub fn add_in(table: [Counts; 32], reader: usize, more: Counts) -> [Counts; 32]
+    requires { reader < 32 }
+    ensures { result ≡ added_to table reader more }
+{
+    let mut t = table;
+    add_to(&mut t, reader, more);
+    t
+}
+
+// ── what a run counts: three numbers a reader, in the order of a record ──
+
+// One more of an outcome at a reader, both from 0.
+pub fn count_one(counted: &mut [u32], reader: usize, outcome: usize)
+    requires { (reader < 32) × (outcome < 3) × (length counted.old ≡ 96) }
+    ensures { (counted.new ≡ one_more counted.old reader outcome) × (length counted.new ≡ length counted.old) }
+{
+    let at = 3 * reader + outcome;
+    let n = std::num::wrapping_add_u32(counted[at], 1);
+    counted[at] = n;
+}
+
+fn counts_at(counted: &[u32], reader: usize) -> Counts
+    requires { (reader < 32) × (length counted.now ≡ 96) }
+    ensures { result ≡ counts_at counted.now reader }
+{
+    let at = 3 * reader;
+    let visible = counted[at];
+    let internal = counted[at + 1];
+    let refused = counted[at + 2];
+    Counts {
+        visible,
+        internal,
+        refused,
+    }
+}
+
+// Nothing was counted.
+fn idle(c: Counts) -> bool
+    ensures { result ≡ true → c ≡ none }
+{
+    if c.visible != 0 {
+        return false;
+    }
+    if c.internal != 0 {
+        return false;
+    }
+    c.refused == 0
+}
+
+// What was counted at each reader, added to its record. A reader where nothing was counted costs no copy of the table.
+fn add_all(table: [Counts; 32], counted: &[u32]) -> [Counts; 32]
+    requires { (length counted.now ≡ 96) × ((r : ℕ) → Of32Bits (slice_index_or table r none)) }
+    ensures { result ≡ added_first 32 counted.now table }
+{
+    let mut t = table;
+    let mut i = 0;
+    while i < 32 {
+        let more = counts_at(counted, i);
+        let nothing = idle(more);
+        if nothing {
+            i = i + 1;
+            continue;
+        }
+        let u = add_in(t, i, more);
+        t = u;
+        i = i + 1;
+    }
+    t
+}
+
+// ── a host's table: numbers of four bytes, low byte first ──
+
+fn byte32(x: u8) -> u32
+    ensures { (result ≡ x) × (result < 256) }
+{
+    x as u32
+}
+
+// Number i of a table.
+fn read_number(table: &[u8], i: usize) -> u32
+    requires { (4 * i + 4 ≤ length table.now) × (i < 96) }
+    ensures { result ≡ slice_index (doubles_in (words_in table.now)) i }
+{
+    let at = 4 * i;
+    let b0 = byte32(table[at]);
+    let b1 = byte32(table[at + 1]);
+    let b2 = byte32(table[at + 2]);
+    let b3 = byte32(table[at + 3]);
+    b0 + 256 * b1 + 65536 * b2 + 16777216 * b3
+}
+
+fn read_record(table: &[u8], reader: usize) -> Counts
+    requires { (reader < 32) × (384 ≤ length table.now) }
+    ensures { result ≡ counts_at (doubles_in (words_in table.now)) reader }
+{
+    let at = 3 * reader;
+    let visible = read_number(table, at);
+    let internal = read_number(table, at + 1);
+    let refused = read_number(table, at + 2);
+    Counts {
+        visible,
+        internal,
+        refused,
+    }
+}
+
+fn read_records(table: &[u8]) -> [Counts; 32]
+    requires { 384 ≤ length table.now }
+    ensures { result ≡ records 32 (doubles_in (words_in table.now)) }
+{
+    let none = Counts {
+        visible: 0,
+        internal: 0,
+        refused: 0,
+    };
+    let mut t = [none; 32];
+    let mut i = 0;
+    while i < 32 {
+        let c = read_record(table, i);
+        t[i] = c;
+        i = i + 1;
+    }
+    t
+}
+
+fn write_word(table: &mut [u8], i: usize, w: u32)
+    requires { (2 * i + 2 ≤ length table.old) × (i < 192) }
+    ensures { (table.new ≡ put_word table.old i w) × (length table.new ≡ length table.old) }
+{
+    table[2 * i] = (w % 256) as u8;
+    table[2 * i + 1] = (w / 256 % 256) as u8;
+}
+
+fn write_number(table: &mut [u8], i: usize, n: u32)
+    requires { (4 * i + 4 ≤ length table.old) × (i < 96) }
+    ensures { (table.new ≡ put_number table.old i n) × (length table.new ≡ length table.old) }
+{
+    write_word(table, 2 * i, n % 65536);
+    write_word(table, 2 * i + 1, n / 65536);
+}
+
+fn write_record(table: &mut [u8], reader: usize, c: Counts)
+    requires { (reader < 32) × (384 ≤ length table.old) }
+    ensures { (table.new ≡ put_record table.old reader c) × (length table.new ≡ length table.old) }
+{
+    let at = 3 * reader;
+    let visible = c.visible;
+    let internal = c.internal;
+    let refused = c.refused;
+    write_number(table, at, visible);
+    write_number(table, at + 1, internal);
+    write_number(table, at + 2, refused);
+}
+
+fn write_records(table: &mut [u8], t: [Counts; 32])
+    requires { 384 ≤ length table.old }
+    ensures { table.new ≡ put_first 32 t table.old }
+{
+    let mut i = 0;
+    while i < 32 {
+        let c = t[i];
+        write_record(table, i, c);
+        i = i + 1;
+    }
+}
+
+// What a run has counted, added to a host's table of 32 records or more: what comes after them is kept.
+pub fn add_table(table: &mut [u8], counted: &[u32])
+    requires { (384 ≤ length table.old) × (length counted.now ≡ 96) }
+    ensures { table.new ≡ increased counted.now table.old }
+{
+    let t = read_records(table);
+    let u = add_all(t, counted);
+    write_records(table, u);
+}

@@ -1,0 +1,66 @@
+// Run's list (document 02, K1): each number is followed by a word, its reader. Refusal 13's test of it.
+ghost use Rattle.std.specs.Prelude.{◌≡◌, ◌+◌, ◌*◌, ◌%◌, ◌<◌, ◌≤◌, length, slice_index};
+ghost use Rattle.eb3.specs.Bytes.{words_in};
+ghost use Rattle.readers.specs.Readers.{all_read, reader? as is_reader, lets_through};
+
+fn byte(x: u8) -> usize
+    ensures { (result ≡ x) × (result < 256) }
+{
+    x as usize
+}
+
+// Word i of a list.
+pub fn word_at(list: &[u8], i: usize) -> usize
+    requires { 2 * i + 2 ≤ length list.now }
+    ensures { (result ≡ slice_index (words_in list.now) i) × (result < 65536) }
+{
+    byte(list[2 * i]) + 256 * byte(list[2 * i + 1])
+}
+
+fn is_reader(r: usize) -> bool
+    ensures { result ≡ is_reader r }
+{
+    if r < 1 {
+        return false;
+    }
+    r <= 32
+}
+
+// Readers from 1, records from 0. Of a word that is no reader, some record; such a list is never counted.
+pub fn place(r: usize) -> usize
+    requires { r < 65536 }
+    ensures { (result ≡ (r + 31) % 32) × (result < 32) }
+{
+    (r + 31) % 32
+}
+
+// No reader is missing, and each is 1 to 32.
+fn readers_right(list: &[u8]) -> bool
+    ensures { result ≡ all_read (words_in list.now) }
+{
+    if list.len() / 2 % 2 != 0 {
+        return false;
+    }
+    let n = list.len() / 4;
+    let mut i = 0;
+    while i < n {
+        let r = word_at(list, 2 * i + 1);
+        let ok = is_reader(r);
+        if ok {
+            i = i + 1;
+            continue;
+        }
+        return false;
+    }
+    true
+}
+
+// Refusal 13's test: of all readers, and of the table, which has 32 whole records or more.
+pub fn lets_through(list: &[u8], table: &[u8]) -> bool
+    ensures { result ≡ lets_through list.now table.now }
+{
+    if table.len() / 12 < 32 {
+        return false;
+    }
+    readers_right(list)
+}
