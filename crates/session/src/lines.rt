@@ -14,7 +14,9 @@ pub struct Page {
 
 impl Page {
     // Nothing waits.
-    pub fn new(out: Stdout) -> Page {
+    pub fn new(out: Stdout) -> Page
+        ensures { result.out ≡ out }
+    {
         Page {
             bytes: [0; 4096],
             out,
