@@ -1,1 +1,2 @@
--- What proofs share: a local array of records lent as a slice (document 02, K1).
+-- The laws of the counts and of the table (document 02, K1).
+pub mod Laws

@@ -1,5 +1,5 @@
 use Rattle.std.proofs.Common.{arith}
-use Rattle.readers.specs.Laws.Table.{add_start, add_next, add_nothing, add_end}
+use Rattle.readers.proofs.Laws.Table.{add_start, add_next, add_nothing, add_end}
 use Rattle.readers.proofs.add_all.Goals as goal
 
 pub loop-i-init : goal.loop-i-init

@@ -1,7 +1,7 @@
 -- Read, added and written, the table is increased (`table_increased`).
-use Rattle.readers.specs.Laws.Table.{records_fit}
-use Rattle.readers.specs.Laws.Bytes.{numbers_fit}
-use Rattle.readers.specs.Laws.Increase.{table_increased}
+use Rattle.readers.proofs.Laws.Table.{records_fit}
+use Rattle.readers.proofs.Laws.Bytes.{numbers_fit}
+use Rattle.readers.proofs.Laws.Increase.{table_increased}
 use Rattle.readers.proofs.add_table.Goals as goal
 
 pub add_all-u-requires : goal.add_all-u-requires

@@ -1,6 +1,6 @@
 -- Three zeros (`idle_so`).
 use Rattle.std.proofs.Common.{refl}
-use Rattle.readers.specs.Laws.Table.{not_idle, idle_so}
+use Rattle.readers.proofs.Laws.Table.{not_idle, idle_so}
 use Rattle.readers.proofs.idle.Goals as goal
 
 pub returns-then-c-ne0 : goal.returns-then-c-ne0

@@ -1,5 +1,5 @@
 -- Four bytes are a number (`number_read`).
-use Rattle.readers.specs.Laws.Bytes.{number_read}
+use Rattle.readers.proofs.Laws.Bytes.{number_read}
 use Rattle.std.proofs.Common.{arith}
 use Rattle.readers.proofs.read_number.Goals as goal
 

@@ -1,4 +1,4 @@
-use Rattle.readers.specs.Laws.Table.{read_start, read_next, read_end}
+use Rattle.readers.proofs.Laws.Table.{read_start, read_next, read_end}
 use Rattle.std.proofs.Common.{arith}
 use Rattle.readers.proofs.read_records.Goals as goal
 

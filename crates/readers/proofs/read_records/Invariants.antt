@@ -1,5 +1,5 @@
 -- Each turn of the loop reads one record more (`read_next`).
-use Rattle.readers.specs.Laws.Table.{ReadTo}
+use Rattle.readers.proofs.Laws.Table.{ReadTo}
 use Rattle.std.proofs.Common.{◌-◌, ◌≤◌}
 use Rattle.eb3.specs.Bytes.{words_in}
 use Rattle.readers.specs.Readers.{doubles_in}

@@ -1,5 +1,5 @@
 -- Two words (`two_puts`).
-use Rattle.readers.specs.Laws.Bytes.{two_puts}
+use Rattle.readers.proofs.Laws.Bytes.{two_puts}
 use Rattle.std.proofs.Common.{rules}
 use Rattle.readers.proofs.write_number.Goals as goal
 

@@ -1,5 +1,5 @@
 -- Three numbers (`three_puts`).
-use Rattle.readers.specs.Laws.Table.{three_puts}
+use Rattle.readers.proofs.Laws.Table.{three_puts}
 use Rattle.std.proofs.Common.{rules}
 use Rattle.readers.proofs.write_record.Goals as goal
 

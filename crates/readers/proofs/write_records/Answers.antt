@@ -1,4 +1,4 @@
-use Rattle.readers.specs.Laws.Table.{put_start, put_next, put_end}
+use Rattle.readers.proofs.Laws.Table.{put_start, put_next, put_end}
 use Rattle.std.proofs.Common.{refl, arith, rules}
 use Rattle.readers.proofs.write_records.Goals as goal
 

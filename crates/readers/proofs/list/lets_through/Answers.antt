@@ -1,5 +1,5 @@
 -- A table that is too short (`records_short`), or the readers (`records_there`).
-use Rattle.readers.specs.Laws.Lists.{records_short, records_there}
+use Rattle.readers.proofs.Laws.Lists.{records_short, records_there}
 use Rattle.std.proofs.Common.{arith}
 use Rattle.readers.proofs.list.lets_through.Goals as goal
 

@@ -1,4 +1,4 @@
-use Rattle.readers.specs.Laws.Lists.{readers_start, readers_next, readers_fail, readers_odd, readers_end}
+use Rattle.readers.proofs.Laws.Lists.{readers_start, readers_next, readers_fail, readers_odd, readers_end}
 use Rattle.std.proofs.Common.{refl, arith, rules}
 use Rattle.readers.proofs.list.readers_right.Goals as goal
 

@@ -1,5 +1,5 @@
 -- While the readers are right, the answer is that of what comes after them (`readers_next`).
-use Rattle.readers.specs.Laws.Lists.{ReadersTo}
+use Rattle.readers.proofs.Laws.Lists.{ReadersTo}
 use Rattle.std.proofs.Common.{◌≡◌, ◌-◌, ◌/◌, ◌≤◌, length}
 use Rattle.readers.proofs.list.readers_right.Given as goal
 

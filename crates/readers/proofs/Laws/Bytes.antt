@@ -3,7 +3,7 @@ use Rattle.std.specs.Prelude.{◌≡◌, ℕ, zero, suc, ◌+◌, ◌*◌, ◌/�
 use Rattle.std.proofs.Common.{arith, sym, ap, subst, ◌∙◌, append_assoc, length-append}
 use Rattle.eb3.specs.Bytes.{words_in, written}
 use Rattle.readers.specs.Readers.{doubles_in, double_words}
-use Rattle.readers.specs.Laws.Readers.{double_length}
+use Rattle.readers.proofs.Laws.Readers.{double_length}
 use Rattle.writing.specs.WroteLaws.{written_next}
 use Rattle.readers.specs.Placing.{put_word, put_number}
 

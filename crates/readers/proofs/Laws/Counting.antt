@@ -11,7 +11,7 @@ use Rattle.eb3.specs.TransitionSystems.{Outcome, took_visible, took_internal, re
 use Rattle.eb3.specs.Bytes.{written}
 use Rattle.readers.specs.Readers.{double_words}
 use Rattle.readers.specs.Readers.{at_reader, counts_of, counts_by_reader, sums, increased}
-use Rattle.readers.specs.Laws.Readers.{Reader, counts_length, counts_at}
+use Rattle.readers.proofs.Laws.Readers.{Reader, counts_length, counts_at}
 use Rattle.readers.specs.Table.{one_more, outcome_place, counted_by}
 
 -- ── one number more ──

@@ -8,12 +8,12 @@ use Rattle.eb3.specs.Bytes.{words_in, bytes_of, written}
 use Rattle.readers.specs.Readers.{doubles_in, double_words}
 use Rattle.eb3.proofs.Laws.Bytes.{words_counted}
 use Rattle.readers.specs.Readers.{sums, increased}
-use Rattle.readers.specs.Laws.Readers.{doubles_length, sums_length, sums_at}
+use Rattle.readers.proofs.Laws.Readers.{doubles_length, sums_length, sums_at}
 use Rattle.readers.specs.declared.Counts.{Counts}
 use Rattle.readers.specs.Table.{none, plus, counts_at, records, added_first, numbers}
 use Rattle.readers.specs.Placing.{put_number, put_first}
-use Rattle.readers.specs.Laws.Table.{added_each, records_length, records_at}
-use Rattle.readers.specs.Laws.Bytes.{number_written}
+use Rattle.readers.proofs.Laws.Table.{added_each, records_length, records_at}
+use Rattle.readers.proofs.Laws.Bytes.{number_written}
 
 numbers_length : (n : ℕ) (t : List Counts) → length (numbers n t) ≡ 3 * n
 unfolding numbers
