@@ -1,4 +1,4 @@
--- The digits of a number, one at a time.
+-- The digits of a number, one at a time (document 01, "Examples": the numbers that are printed).
 use Rattle.std.proofs.Common.{◌≡◌, ℕ, ◌+◌, ◌/◌, ◌^◌, ◌<◌, ◌≤◌, length, ap, ◌∙◌, length-append}
 use Rattle.std.proofs.lemmas.Fmt.{decimal_digit, decimal_step}
 use Rattle.std.specs.Fmt.{decimal}

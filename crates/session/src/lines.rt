@@ -64,7 +64,7 @@ fn digit_count(n: u64) -> usize
     k
 }
 
-// Puts a number's digits at the start of the array, the most significant first, and answers how many they are. What stands behind
+// Puts a number's digits at the start of the array, the most significant first, and answers how many they are. What comes after
 // them stays.
 fn write_decimal(n: u64, digits: &mut [u8; 20]) -> usize
     ensures count { result ≡ length (decimal n) }

@@ -1,8 +1,8 @@
+-- In order: the block's number is wrong; it is right and the first sum is wrong; both are right, and the second sum decides.
 use Rattle.eb3.specs.Blocks.{block_right}
 use Rattle.blocks.proofs.Right.{word_wrong, word_right, sum_wrong, sum_right}
 use Rattle.blocks.proofs.check_block.Goals as goal
 
--- `t` is where the sums are found, `u` where the first of them is right.
 pub returns-then-wide-i : goal.returns-then-wide-i
 unfolding block_right
 returns-then-wide-i c = word_wrong _ c.wide.ensures.0 c.wide-2.ensures.0 _ c.if-wide-i.true

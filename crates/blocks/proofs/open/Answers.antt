@@ -1,4 +1,4 @@
--- The tests in order, `t` where the three of the length have passed.
+-- The tests in order: the three of the length, then the blocks, then the edition.
 use Rattle.blocks.proofs.Cases.{open_odd, open_few, open_many, open_wrong, open_other, open_fine}
 use Rattle.blocks.proofs.open.Goals as goal
 
