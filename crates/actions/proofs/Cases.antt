@@ -1,26 +1,42 @@
 -- A case for each way that these functions return; the premises have the form of what the code tells there, so that `search` finds them.
 use mathlib.Core.Path.{◌≡◌, refl, sym, ap, ◌∙◌, subst}
-use mathlib.Core.Bool.{false, cond}
+use mathlib.Core.Bool.{Bool, true, false, not}
 use mathlib.Core.List.{List, [], ◌∷◌, ◌++◌}
 use Prim.Native.Nat.{ℕ, ◌+◌, ◌-◌, ◌*◌, ◌/◌, ◌%◌, ◌^◌, ◌≤◌, ◌<◌}
 use native.Mathlib.Omega.{arith}
 use native.Mathlib.Nat.{mod-eq_of_lt}
-use lib.Dec.{eqb, lit<}
-use lib.ListN.{length, get_or, length-append, get_or-eq_default}
-use borrow.Author.Tests.{eq-eqb, ne_eqb}
+use lib.Dec.{eqb, ltb}
+use lib.ListN.{length, get_or, length-append}
+use borrow.Author.Tests.{eq-eqb, ne_eqb, lt-ltb}
+use Rattle.std.proofs.Common.{eqb→eq}
+use Rattle.std.specs.Prelude.{T}
 use Rattle.eb3.specs.Generic.AllLists.{All}
 use Rattle.eb3.specs.Terms.{VisibleAction, visible, Mask}
 use Rattle.eb3.specs.Spelling.{number_words, arguments_words}
 use Rattle.eb3.proofs.Laws.Sizes.{arguments_double}
 use Rattle.eb3.proofs.Laws.Spelling.{arguments_length}
 use Rattle.actions.specs.Codes.{arguments_code, action_code, Small, Closed, ActionAt}
-use Rattle.actions.specs.CodesLaws.{label_in, label_back, arguments_back, visible_positive}
-use Rattle.actions.specs.Sets.{bit_at, in_set, mask_word, mask_set}
-
-pub word_none : (t : List ℕ) (i : ℕ) → length t ≤ i → ◌≡◌ {A = ℕ} 0 (get_or t i 0) × (0 < 65536)
-word_none t i h = (sym (get_or-eq_default t 0 h), lit< tt)
+use Rattle.actions.specs.CodesLaws.{label_in, label_back, arguments_back}
+use Rattle.actions.specs.Sets.{in_set, mask_word, mask_set}
 
 -- ── how many arguments stand behind a label ──
+
+-- what the tests of a word, and of how many there are, tell
+apart : (b : Bool) → b ≡ true → b ≡ false → ⊥
+apart b e f = subst T (sym e ∙ f) tt
+
+holds : (b : Bool) → not b ≡ false → T b
+holds true e = tt
+holds false e = absurd (apart true refl e)
+
+pub not_short : (n k : ℕ) (b : Bool) → b ≡ ltb n k → n < k → b ≡ false → ⊥
+not_short n k b e h = apart b (e ∙ lt-ltb n k h)
+
+pub not_one : (x : ℕ) (b : Bool) → b ≡ not (eqb x 1) → b ≡ true → x ≡ 1 → ⊥
+not_one x b e t h = apart b t (e ∙ ap not (eq-eqb x 1 h))
+
+pub is_one : (x : ℕ) (b : Bool) → b ≡ not (eqb x 1) → b ≡ false → x ≡ 1
+is_one x b e f = eqb→eq x 1 (holds (eqb x 1) (sym e ∙ f))
 
 abbrev Counts : List ℕ → ℕ → Type 0
 Counts t r = (a : VisibleAction) (rest : List ℕ) → ActionAt t a rest → r ≡ length a.arguments
@@ -84,12 +100,8 @@ module _ (t : List ℕ) where
 pub action_length : (t : List ℕ) (a : VisibleAction) (rest : List ℕ) → ActionAt t a rest → length t ≡ 1 + 2 * length a.arguments + length rest
 action_length t a rest h = omega (arith, ap length h.spelled, length-append (arguments_words 1 a.arguments) rest, arguments_length 1 a.arguments, arguments_double (length a.arguments))
 
-module _ (t : List ℕ) (k : ℕ) (counts : Counts t k) where
-  pub behind_some : 1 + 2 * k ≤ length t → (length t - (1 + 2 * k) ≤ length t) × ((a : VisibleAction) (rest : List ℕ) → ActionAt t a rest → length t - (1 + 2 * k) ≡ length rest)
-  behind_some h = (omega arith, λ a rest s. omega (arith, counts a rest s, action_length t a rest s))
-
-  pub behind_none : length t < 1 + 2 * k → (0 ≤ length t) × ((a : VisibleAction) (rest : List ℕ) → ActionAt t a rest → 0 ≡ length rest)
-  behind_none h = (omega arith, λ a rest s. absurd (omega (arith, counts a rest s, action_length t a rest s)))
+pub behind_left : (t : List ℕ) (k r : ℕ) → Counts t k → r ≡ length t - (1 + 2 * k) → (r ≤ length t) × ((a : VisibleAction) (rest : List ℕ) → ActionAt t a rest → r ≡ length rest)
+behind_left t k r counts e = (omega arith, λ a rest s. omega (arith, counts a rest s, action_length t a rest s))
 
 -- ── the number ──
 
@@ -156,18 +168,14 @@ pub word_in_mask : (Δ : Mask) (i w : ℕ) → w ≡ get_or Δ i 0 → w < 65536
 unfolding mask_word
 word_in_mask Δ i w e h = (e ∙ sym (mod-eq_of_lt (subst (λ n. n < 65536) e h)), h)
 
-pub word_not_there : (Δ : Mask) (i : ℕ) → length Δ ≤ i → ◌≡◌ {A = ℕ} 0 (mask_word Δ i) × (0 < 65536)
-unfolding mask_word
-word_not_there Δ i h = (sym (ap (λ n. n % 65536) (get_or-eq_default Δ 0 h)), lit< tt)
-
 pub set_made : (Δ : Mask) (a b c d : ℕ) → a ≡ mask_word Δ 3 → b ≡ mask_word Δ 2 → c ≡ mask_word Δ 1 → d ≡ mask_word Δ 0
     → ((a * 65536 + b) * 65536 + c) * 65536 + d ≡ mask_set Δ
 unfolding mask_set
 set_made Δ a b c d e f g h = rw (e, f, g, h)
 
-pub set_none : (x code : ℕ) → code ≡ 0 → false ≡ in_set x code
+pub set_none : (x code : ℕ) → code ≡ 0 → not (eqb code 0) ≡ in_set x code
 unfolding in_set
-set_none x code e = sym (ap (λ b. cond b false (bit_at x (label_in code))) (eq-eqb code 0 e))
+set_none x code e = rw (eq-eqb code 0 e)
 
 pub set_some : (x code : ℕ) → (code ≡ 0 → ⊥) → eqb (x / 2 ^ ((code - 1) % 64) % 2) 1 ≡ in_set x code
 unfolding in_set label_in
@@ -175,19 +183,13 @@ set_some x code h = rw (ne_eqb code 0 h)
 
 -- ── a number taken apart ──
 
-module _ (code : ℕ) where
-  pub label_none : code ≡ 0 → (a : VisibleAction) → Small (visible a) → code ≡ action_code (visible a) → 0 ≡ a.label
-  label_none z a h e = absurd (visible_positive a (sym e ∙ z))
-
-  pub label_some : (a : VisibleAction) → Small (visible a) → code ≡ action_code (visible a) → (code - 1) % 64 ≡ a.label
+module _ (code n : ℕ) (less : n ≡ code - 1) where
+  pub label_some : (a : VisibleAction) → Small (visible a) → code ≡ action_code (visible a) → n % 64 ≡ a.label
   unfolding label_in
-  label_some a h e = ap label_in e ∙ label_back a h
+  label_some a h e = ap (λ m. m % 64) less ∙ ap label_in e ∙ label_back a h
 
-  pub arguments_none : code ≡ 0 → (a : VisibleAction) → Small (visible a) → code ≡ action_code (visible a) → 0 ≡ arguments_code a.arguments
-  arguments_none z a h e = absurd (visible_positive a (sym e ∙ z))
-
-  pub arguments_some : (a : VisibleAction) → Small (visible a) → code ≡ action_code (visible a) → (code - 1) / 64 ≡ arguments_code a.arguments
-  arguments_some a h e = ap (λ n. (n - 1) / 64) e ∙ arguments_back a h
+  pub arguments_some : (a : VisibleAction) → Small (visible a) → code ≡ action_code (visible a) → n / 64 ≡ arguments_code a.arguments
+  arguments_some a h e = ap (λ m. m / 64) (less ∙ ap (λ m. m - 1) e) ∙ arguments_back a h
 
 size_none : (xs : List ℕ) → arguments_code xs ≡ 0 → 0 ≡ length xs
 unfolding arguments_code
@@ -244,7 +246,4 @@ module _ (code q : ℕ) (number : Number code q) where
   pub found_second : (i r : ℕ) → i ≡ 1 → r ≡ q / 65 - 1 → Found i r
   found_second i r z f a h e = f ∙ ap (λ n. n / 65 - 1) (number a h e) ∙ second_back a.arguments h.2 h.1 ∙ ap (λ j. get_or a.arguments j 0) (sym z)
 
-pub found_none : (code i : ℕ) → (i ≡ 0 → ⊥) → (i ≡ 1 → ⊥) → (a : VisibleAction) → Small (visible a) → code ≡ action_code (visible a) → 0 ≡ get_or a.arguments i 0
-found_none code i z o a h e = sym (get_or-eq_default a.arguments 0 (omega (arith, h.1)))
-
-pub ruleset cases = (word_none, count_none_short, count_none, count_one_short, count_one, count_two, behind_some, behind_none, code_none, code_one, code_two, word_in_mask, word_not_there, set_made, set_none, set_some, label_none, label_some, arguments_none, arguments_some, counted_none, counted_one, counted_two, found_first, found_second, found_none)
+pub ruleset cases = (set_made, set_none, set_some, label_some, arguments_some, counted_none, counted_one, counted_two, found_first, found_second)

@@ -8,49 +8,32 @@ ghost use Rattle.actions.specs.Sets.{in_set, mask_word, mask_set};
 ghost use Rattle.std.specs.Int.Bits.{bit_or};
 
 // The word at a place, or 0 where there is none.
-fn word(t: &[u16], i: usize) -> u32
-    ensures { (result ≡ get_or t.now i 0) × (result < 65536) }
+fn word(t: &[u16], i: usize) -> u16
+    ensures { result ≡ get_or t.now i 0 }
 {
-    if i < t.len() {
-        return wide(t[i]);
-    }
-    0
+    t.get(i).copied().unwrap_or(0)
 }
 
-fn wide(x: u16) -> u32
-    ensures { (result ≡ x) × (result < 65536) }
-{
-    x as u32
-}
-
-// How many arguments stand behind a label: none, one or two.
+// How many arguments stand behind a label: none, one or two. Each is a 1 and then its word.
 fn arguments(t: &[u16]) -> usize
     ensures { (result ≤ 2) × ((a : VisibleAction) (rest : List ℕ) → ActionAt t.now a rest → result ≡ length a.arguments) }
 {
-    if t.len() < 3 {
-        return 0;
+    if t.len() < 3 || t[1] != 1 {
+        0
+    } else if t.len() < 5 || t[3] != 1 {
+        1
+    } else {
+        2
     }
-    if t[1] != 1 {
-        return 0;
-    }
-    if t.len() < 5 {
-        return 1;
-    }
-    if t[3] != 1 {
-        return 1;
-    }
-    2
 }
 
 // The words left behind the label and the arguments.
+// Stays a test: with saturating_sub each level of successors::begin, where this is inlined, took 16 bytes more stack.
 pub fn behind_action(t: &[u16]) -> usize
     ensures { (result ≤ length t.now) × ((a : VisibleAction) (rest : List ℕ) → ActionAt t.now a rest → result ≡ length rest) }
 {
     let n = 1 + 2 * arguments(t);
-    if n <= t.len() {
-        return t.len() - n;
-    }
-    0
+    if n <= t.len() { t.len() - n } else { 0 }
 }
 
 // The number of the action.
@@ -58,34 +41,25 @@ pub fn code_at(t: &[u16]) -> u32
     ensures { (a : VisibleAction) (rest : List ℕ) → ActionAt t.now a rest → result ≡ action_code (visible a) }
 {
     let n = arguments(t);
-    let label = word(t, 0);
+    let label = u32::from(word(t, 0));
     if n == 0 {
         return 1 + label;
     }
-    let x = word(t, 2);
+    let x = u32::from(word(t, 2));
     if n == 1 {
         return 1 + label + 64 * (1 + x);
     }
-    let y = word(t, 4);
+    let y = u32::from(word(t, 4));
     1 + label + 64 * (1 + x + 65 * (1 + y))
 }
 
 // ── sets of labels ──
 
-fn wide64(x: u16) -> u64
-    ensures { (result ≡ x) × (result < 65536) }
-{
-    x as u64
-}
-
 // A word of a mask, or 0 where there is none.
 fn mask_word(d: &[u16], i: usize) -> u64
     ensures { (result ≡ mask_word d.now i) × (result < 65536) }
 {
-    if i < d.len() {
-        return wide64(d[i]);
-    }
-    0
+    u64::from(word(d, i))
 }
 
 // The mask in front as a set.
@@ -101,10 +75,7 @@ pub fn mask_set(d: &[u16]) -> u64
 pub fn in_set(x: u64, code: u32) -> bool
     ensures { result ≡ in_set x code }
 {
-    if code == 0 {
-        return false;
-    }
-    (x >> ((code - 1) % 64)) % 2 == 1
+    code != 0 && (x >> ((code - 1) % 64)) % 2 == 1
 }
 
 pub fn join(x: u64, y: u64) -> u64
@@ -118,20 +89,14 @@ pub fn join(x: u64, y: u64) -> u64
 pub fn label_of(code: u32) -> u32
     ensures { (a : VisibleAction) → Small (visible a) → code ≡ action_code (visible a) → result ≡ a.label }
 {
-    if code == 0 {
-        return 0;
-    }
-    (code - 1) % 64
+    code.saturating_sub(1) % 64
 }
 
 // The arguments' number.
 fn arguments_of(code: u32) -> u32
     ensures { (a : VisibleAction) → Small (visible a) → code ≡ action_code (visible a) → result ≡ arguments_code a.arguments }
 {
-    if code == 0 {
-        return 0;
-    }
-    (code - 1) / 64
+    code.saturating_sub(1) / 64
 }
 
 pub fn argument_count(code: u32) -> u32
@@ -139,34 +104,22 @@ pub fn argument_count(code: u32) -> u32
 {
     let q = arguments_of(code);
     if q == 0 {
-        return 0;
+        0
+    } else if q < 65 {
+        1
+    } else {
+        2
     }
-    if q < 65 {
-        return 1;
-    }
-    2
 }
 
-// The argument at a place, or 0 where there is none.
+// The argument at a place, or 0 where there is none. An argument counts one more than it is; 0 says that there is none.
 pub fn argument_at(code: u32, i: u32) -> u32
     ensures { (a : VisibleAction) → Small (visible a) → code ≡ action_code (visible a) → result ≡ get_or a.arguments i 0 }
 {
     let q = arguments_of(code);
-    if i == 0 {
-        return argument_in(q % 65);
+    match i {
+        0 => (q % 65).saturating_sub(1),
+        1 => (q / 65).saturating_sub(1),
+        _ => 0,
     }
-    if i == 1 {
-        return argument_in(q / 65);
-    }
-    0
-}
-
-// An argument counts one more than it is; 0 says that there is none.
-fn argument_in(q: u32) -> u32
-    ensures { result ≡ q - 1 }
-{
-    if q == 0 {
-        return 0;
-    }
-    q - 1
 }

@@ -1,6 +1,6 @@
 -- What the engine's answer to Admit says of the admission itself: the refusal, or the rule set, its sizes and how its stream was read.
 -- Document 01, "Operations".
-use Rattle.std.specs.Prelude.{◌≡◌, refl, List, ℕ, leb, drop}
+use Rattle.std.specs.Prelude.{◌≡◌, refl, List, ℕ, leb, drop, Ok, Err}
 use Rattle.std.proofs.Math.Path.{ap}
 use Rattle.std.proofs.Common.{sym, ◌∙◌, arith}
 use Rattle.eb3.specs.Refusal
@@ -17,25 +17,26 @@ use Rattle.eb3.specs.Answers.{Answer, refused, answered, and_then}
 use Rattle.eb3.specs.Operations.{admit, sizes_needed}
 use Rattle.eb3.proofs.Laws.Answers.{and_then_answered, answered_injective, pick_answered, not_both}
 use Rattle.weights.specs.declared.Limits.{Limits}
-use Rattle.admission.specs.declared.Admitted.TheVariants.{Sizes as Admitted_sizes, Refused as Admitted_refused}
 use Rattle.admission.specs.Answering.{limits, admitted}
+use Rattle.refusals.specs.declared.Refusal.{Refusal}
+use Rattle.refusals.specs.Numbers.{RefusedBy}
 
-refused_from : (a : Answer RuleSet) (k : ℕ) → Admitted_refused k ≡ admitted (and_then a λ R. answered (sizes_needed R)) → a ≡ refused k
+refused_from : (a : Answer RuleSet) (k : Refusal) → Err k ≡ admitted (and_then a λ R. answered (sizes_needed R)) → RefusedBy k a
 unfolding admitted and_then
-refused_from (refused j) k e = let z : j ≡ k = cc in ap refused z
+refused_from (refused j) k e = record { code = j; is = refl; named = cc }
 refused_from (answered R) k e = absurd (let z : ◌≡◌ {A = ℕ} 0 1 = cc in omega arith)
 
-answered_from : (a : Answer RuleSet) (l : Limits) → Admitted_sizes l ≡ admitted (and_then a λ R. answered (sizes_needed R)) → (R : RuleSet) × (a ≡ answered R) × (l ≡ limits (sizes_needed R))
+answered_from : (a : Answer RuleSet) (l : Limits) → Ok l ≡ admitted (and_then a λ R. answered (sizes_needed R)) → (R : RuleSet) × (a ≡ answered R) × (l ≡ limits (sizes_needed R))
 unfolding admitted and_then
 answered_from (refused j) l e = absurd (let z : ◌≡◌ {A = ℕ} 0 1 = cc in omega arith)
 answered_from (answered R) l e = (R, refl, cc)
 
 module _ (rules : List ℕ) where
-  pub admission_refused : (k : ℕ) → Admitted_refused k ≡ admitted (admit rules) → admission rules ≡ refused k
+  pub admission_refused : (k : Refusal) → Err k ≡ admitted (admit rules) → RefusedBy k (admission rules)
   unfolding admit
   admission_refused k e = refused_from (admission rules) k e
 
-  pub admission_answered : (l : Limits) → Admitted_sizes l ≡ admitted (admit rules) → (R : RuleSet) × (admission rules ≡ answered R) × (l ≡ limits (sizes_needed R))
+  pub admission_answered : (l : Limits) → Ok l ≡ admitted (admit rules) → (R : RuleSet) × (admission rules ≡ answered R) × (l ≡ limits (sizes_needed R))
   unfolding admit
   admission_answered l e = answered_from (admission rules) l e
 

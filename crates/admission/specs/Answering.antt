@@ -1,21 +1,21 @@
 -- What the engine answers, in the specification's words: document 01's number or values for each case of an answer.
-use Rattle.std.specs.Prelude.{List, ℕ}
+use Rattle.std.specs.Prelude.{List, ℕ, Ok, Err, Result}
 use Rattle.eb3.specs.Editions.{edition_1}
 use Rattle.eb3.specs.RuleReading.{read_rules}
 use Rattle.eb3.specs.Answers.{Answer, refused, answered, Sizes}
 use Rattle.eb3.specs.Judging.{whole_of}
 use Rattle.weights.specs.declared.Limits.{Limits}
-use Rattle.admission.specs.declared.Admitted.{Admitted}
-use Rattle.admission.specs.declared.Admitted.TheVariants.{Sizes as Admitted_sizes, Refused as Admitted_refused}
+use Rattle.refusals.specs.declared.Refusal.{Refusal}
+use Rattle.refusals.specs.Numbers.{refusal}
 
 abbrev pub limits : Sizes → Limits
 limits S = record { cells = S.cells; reach = S.reach; breadth = S.breadth; size = S.size }
 
 -- Admit: C, G, W and the start term's size, or the refusal's number.
-unfoldable pub admitted : Answer Sizes → Admitted
-admitted (refused k) = Admitted_refused k
-admitted (answered S) = Admitted_sizes (limits S)
+unfoldable pub admitted : Answer Sizes → Result Limits Refusal
+admitted (refused k) = Err (refusal k)
+admitted (answered S) = Ok (limits S)
 
 -- The stream behind its first two words: read, ended, judged.
-abbrev pub read_whole : List ℕ → Admitted
+abbrev pub read_whole : List ℕ → Result Limits Refusal
 read_whole t = admitted (whole_of (read_rules edition_1 t))

@@ -1,6 +1,6 @@
 -- What is known where a file was admitted with a directory: the rule set, its form, its sizes, and where its parts stand (document 01, "Operations": no call
 -- trusts an earlier one, so each operation begins so).
-use Rattle.std.specs.Prelude.{◌≡◌, List, ℕ, ◌+◌, ◌*◌, ◌≤◌, length, drop}
+use Rattle.std.specs.Prelude.{◌≡◌, List, ℕ, ◌+◌, ◌*◌, ◌≤◌, length, drop, Ok, Err, Result}
 use Rattle.std.proofs.Math.Path.{ap, sym}
 use Rattle.std.proofs.Common.{◌∙◌, arith, mul-le-mul}
 use Rattle.eb3.specs.RuleSets.{RuleSet}
@@ -15,11 +15,11 @@ use Rattle.eb3.specs.Judging.{whole_of}
 use Rattle.eb3.proofs.Laws.Admission.{admitted as admitted_form, opened_1}
 use Rattle.weights.specs.declared.Limits.{Limits}
 use Rattle.declarations.specs.Directory.{Directory}
-use Rattle.admission.specs.declared.Admitted.{Admitted}
-use Rattle.admission.specs.declared.Admitted.TheVariants.{Sizes as Admitted_sizes, Refused as Admitted_refused}
 use Rattle.admission.specs.Answering.{limits, admitted}
 use Rattle.admission.specs.Admitting.{FileAdmitted}
 use Rattle.admission.specs.AdmissionLaws.{admission_refused, admission_answered, admission_taken}
+use Rattle.refusals.specs.declared.Refusal.{Refusal}
+use Rattle.refusals.specs.Numbers.{RefusedBy}
 
 -- The file's blocks were opened.
 abbrev pub Opens : List ℕ → Type 0
@@ -36,15 +36,15 @@ pub record Known (rules T D : List ℕ) (l : Limits) : Type 0 where
 rows_few : (a b : ℕ) → a ≤ 64 → b ≤ 16 → (3 + a) * b ≤ 1072
 rows_few a b h k = let p : 3 + a ≤ 67 = omega arith in omega (arith, mul-le-mul p k)
 
-module _ (rules words D : List ℕ) (n : ℕ) (r : Admitted) (words' T D' : List ℕ) (o : Opens rules) (f : FileAdmitted rules words D n r words' T D') where
+module _ (rules words D : List ℕ) (n : ℕ) (r : Result Limits Refusal) (words' T D' : List ℕ) (o : Opens rules) (f : FileAdmitted rules words D n r words' T D') where
   answer_is : r ≡ admitted (admit rules)
   unfolding and_then
   answer_is = f.answer ∙ sym (ap admitted (admit_by_parts rules ∙ ap (λ a. and_then a (λ o. whole_of (read_rules o.edition o.words))) o))
 
-  pub known_refused : (k : ℕ) → r ≡ Admitted_refused k → admission rules ≡ refused k
+  pub known_refused : (k : Refusal) → r ≡ Err k → RefusedBy k (admission rules)
   known_refused k e = admission_refused rules k (sym e ∙ answer_is)
 
-  pub known : (l : Limits) → r ≡ Admitted_sizes l → length D ≡ 1072 → Known rules T D' l
+  pub known : (l : Limits) → r ≡ Ok l → length D ≡ 1072 → Known rules T D' l
   known l e room =
       let a = admission_answered rules l (sym e ∙ answer_is) in
       let w : WellFormed a.0 = (admitted_form rules a.0 a.1).good in

@@ -1,6 +1,6 @@
 -- A rule set whose blocks open: its stream as it is lent, and what opening it says of Admit (document 01, "Blocks and the
 -- rule stream"; refusals 1 to 3).
-use Rattle.std.specs.Prelude.{◌≡◌, refl, true, List, ◌++◌, ℕ, ◌-◌, ◌*◌, ◌/◌, ◌%◌, ◌≤◌, T, eqb, leb, length, take, drop}
+use Rattle.std.specs.Prelude.{◌≡◌, refl, true, List, ◌++◌, ℕ, ◌-◌, ◌*◌, ◌/◌, ◌%◌, ◌≤◌, T, eqb, leb, length, take, drop, Ok, Err, Result}
 use Rattle.std.proofs.Math.Path.{ap, sym}
 use Rattle.std.proofs.Common.{◌∙◌, subst, arith, eqb→eq, leb→le, length-drop, take_at, eq-eqb, le-leb}
 use Rattle.std.proofs.lemmas.List.{drop-append-le}
@@ -12,13 +12,12 @@ use Rattle.eb3.specs.RuleReading.{read_rules}
 use Rattle.eb3.specs.Operations.{admit}
 use Rattle.eb3.proofs.Laws.Judging.{admit_by_parts}
 use Rattle.eb3.specs.Judging.{whole_of}
-use Rattle.blocks.specs.declared.Opened.{Opened}
-use Rattle.blocks.specs.declared.Opened.TheVariants.{Blocks, Refused as Opened_refused}
 use Rattle.blocks.specs.Opening.{opening}
-use Rattle.admission.specs.declared.Admitted.{Admitted}
-use Rattle.admission.specs.declared.Admitted.TheVariants.{Refused as Admitted_refused}
 use Rattle.admission.specs.Answering.{admitted, read_whole}
 use Rattle.admission.specs.Knowing.{Opens}
+use Rattle.refusals.specs.declared.Refusal.{Refusal}
+use Rattle.refusals.specs.Numbers.{RefusedBy}
+use Rattle.weights.specs.declared.Limits.{Limits}
 
 -- ── the stream ──
 
@@ -43,12 +42,12 @@ module _ (s : List ℕ) (n : ℕ) (e : length s ≡ 512 * n) (some : 1 ≤ n) (f
 
 -- ── blocks ──
 
-unopened : (s : List ℕ) (a : Answer Blocks_as_Opened) (k : ℕ) → Opened_refused k ≡ opening s a → a ≡ refused k
+unopened : (s : List ℕ) (a : Answer Blocks_as_Opened) (k : Refusal) → Err k ≡ opening s a → RefusedBy k a
 unfolding opening
-unopened s (refused j) k e = let z : j ≡ k = cc in ap refused z
+unopened s (refused j) k e = record { code = j; is = refl; named = cc }
 unopened s (answered x) k e = absurd (let z : ◌≡◌ {A = ℕ} 0 1 = cc in omega arith)
 
-opened : (s : List ℕ) (a : Answer Blocks_as_Opened) (n : ℕ) → Blocks n ≡ opening s a → (n ≡ block_count s) × (x : Blocks_as_Opened) × (a ≡ answered x)
+opened : (s : List ℕ) (a : Answer Blocks_as_Opened) (n : ℕ) → Ok n ≡ opening s a → (n ≡ block_count s) × (x : Blocks_as_Opened) × (a ≡ answered x)
 unfolding opening
 opened s (refused j) n e = absurd (let z : ◌≡◌ {A = ℕ} 0 1 = cc in omega arith)
 opened s (answered x) n e = (cc, x, refl)
@@ -56,15 +55,17 @@ opened s (answered x) n e = (cc, x, refl)
 whole_is : (s : List ℕ) (x : Blocks_as_Opened) → open_blocks s ≡ answered x → T (whole_blocks s) × (x ≡ opened_1 s)
 whole_is s x e = ((opened_as s x e).whole, opened_is_1 s x e)
 
-module _ (s : List ℕ) (p : Opened) (e : p ≡ opening s (open_blocks s)) where
-  pub admit_refused : (k : ℕ) → p ≡ Opened_refused k → Admitted_refused k ≡ admitted (admit s)
+module _ (s : List ℕ) (p : Result ℕ Refusal) (e : p ≡ opening s (open_blocks s)) where
+  pub admit_refused : (k : Refusal) → p ≡ Err k → Err k ≡ admitted (admit s)
   unfolding admitted and_then
-  admit_refused k f = sym (ap admitted (admit_by_parts s ∙ ap (λ a. and_then a (λ o. whole_of (read_rules o.edition o.words))) (unopened s _ k (sym f ∙ e))))
+  admit_refused k f =
+      let u = unopened s _ k (sym f ∙ e) in
+      ap Err u.named ∙ sym (ap admitted (admit_by_parts s ∙ ap (λ a. and_then a (λ o. whole_of (read_rules o.edition o.words))) u.is))
 
-  pub open_refused : (k : ℕ) → p ≡ Opened_refused k → open_blocks s ≡ refused k
+  pub open_refused : (k : Refusal) → p ≡ Err k → RefusedBy k (open_blocks s)
   open_refused k f = unopened s _ k (sym f ∙ e)
 
-  module _ (n : ℕ) (f : p ≡ Blocks n) where
+  module _ (n : ℕ) (f : p ≡ Ok n) where
     pub admit_blocks : (length s ≡ 512 * n) × (1 ≤ n) × (n ≤ 64)
     admit_blocks =
         let o = opened s _ n (sym f ∙ e) in
@@ -79,7 +80,7 @@ module _ (s : List ℕ) (p : Opened) (e : p ≡ opening s (open_blocks s)) where
     pub admit_opens : Opens s
     admit_opens = let o = opened s _ n (sym f ∙ e) in o.2 ∙ ap answered (whole_is s o.1 o.2).1
 
-    pub admit_read : (r : Admitted) → r ≡ read_whole (drop 2 (stream s)) → r ≡ admitted (admit s)
+    pub admit_read : (r : Result Limits Refusal) → r ≡ read_whole (drop 2 (stream s)) → r ≡ admitted (admit s)
     unfolding and_then
     admit_read r g =
         let o = opened s _ n (sym f ∙ e) in

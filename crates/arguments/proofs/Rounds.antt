@@ -8,15 +8,17 @@ use mathlib.Core.List.{List, [], ◌∷◌}
 use lib.ListN.{length, drop, get_or, length-drop, drop_of_length-le}
 use lib.Seq.{drop-cons}
 use borrow.Author.Tests.{lt-ltb, le-ltb}
-use Rattle.scan.specs.declared.Checked.{Checked}
-use Rattle.scan.specs.declared.Checked.TheVariants.{Left, Refused}
-use Rattle.scan.specs.Checking.{checked, last_of}
+use Rattle.scan.specs.Checking.{checked, last_of, Checked}
 use Rattle.scan.specs.Laws.{Fine, last_all, tail_short, checked_giving, both_in, both_out, last_length, last_last}
 use Rattle.eb3.specs.Reading.{Read, refused, taken, pick, giving, then, both, number_of}
 use Rattle.eb3.specs.TermReading.{mask_of}
 use Rattle.eb3.specs.RuleReading.{argument_of, arguments_of}
 use Rattle.arguments.specs.Tables.{declared}
 use Rattle.arguments.specs.TableLaws.{argument_ends}
+use Rattle.std.specs.Prelude.{Ok, Err}
+use Rattle.refusals.specs.declared.Refusal.{Refusal}
+use Rattle.refusals.specs.declared.Refusal.TheVariants.{Form, Reference}
+use Rattle.refusals.specs.Numbers.{refusal}
 
 -- ── masks ──
 
@@ -31,13 +33,13 @@ unfolding mask_of both then number_of
 word_below k n w v h = checked_giving _ _
     ∙ ap (λ b. checked {A = ℕ × List ℕ} (then (pick b (taken w v) (refused 5)) (λ a u. giving (λ m. (a, m)) (mask_of k (n - 16) u)))) (lt-ltb w (2 ^ min n 16) h) ∙ checked_giving _ _
 
-word_over : (k n w : ℕ) (v : List ℕ) → 2 ^ min n 16 ≤ w → checked (mask_of (suc k) n (w ∷ v)) ≡ Refused 5
-unfolding mask_of both then number_of checked
+word_over : (k n w : ℕ) (v : List ℕ) → 2 ^ min n 16 ≤ w → checked (mask_of (suc k) n (w ∷ v)) ≡ Err Reference
+unfolding mask_of both then number_of checked refusal
 word_over k n w v h = checked_giving _ _
     ∙ ap (λ b. checked {A = ℕ × List ℕ} (then (pick b (taken w v) (refused 5)) (λ a u. giving (λ m. (a, m)) (mask_of k (n - 16) u)))) (le-ltb w (2 ^ min n 16) h)
 
-word_none : (k n : ℕ) → checked (mask_of (suc k) n []) ≡ Refused 4
-unfolding mask_of both then number_of giving checked
+word_none : (k n : ℕ) → checked (mask_of (suc k) n []) ≡ Err Form
+unfolding mask_of both then number_of giving checked refusal
 word_none k n = refl
 
 pub mask_start : (k n : ℕ) (t : List ℕ) → Masked k n t 0 n
@@ -46,18 +48,18 @@ mask_start k n t =
     record { within = omega arith; some = omega arith; same = ap (λ j. checked (mask_of j n t)) e }
 
 module _ (k n : ℕ) (t : List ℕ) (i l : ℕ) (c : Masked k n t i l) where
-  pub mask_end : k ≤ i → Left (length t - k) ≡ checked (mask_of k n t)
+  pub mask_end : k ≤ i → Ok (length t - k) ≡ checked (mask_of k n t)
   unfolding mask_of checked
   mask_end h =
       let e : k - i ≡ 0 = omega arith in
       let d : length t - k ≡ length (drop i t) = omega (arith, length-drop i t) in
-      ap Left d ∙ sym (c.same ∙ ap (λ j. checked (mask_of j l (drop i t))) e)
+      ap Ok d ∙ sym (c.same ∙ ap (λ j. checked (mask_of j l (drop i t))) e)
 
   module _ (h : i < k) where
     another : k - i ≡ suc (k - (i + 1))
     another = omega arith
 
-    pub mask_short : length t ≤ i → Refused 4 ≡ checked (mask_of k n t)
+    pub mask_short : length t ≤ i → Err Form ≡ checked (mask_of k n t)
     mask_short s = sym (c.same ∙ ap (λ j. checked (mask_of j l (drop i t))) another ∙ ap (λ u. checked (mask_of (suc (k - (i + 1))) l u)) (drop_of_length-le t {i = i} s) ∙ word_none (k - (i + 1)) l)
 
     -- m is the limit, w the word
@@ -65,7 +67,7 @@ module _ (k n : ℕ) (t : List ℕ) (i l : ℕ) (c : Masked k n t i l) where
       here : checked (mask_of k n t) ≡ checked (mask_of (suc (k - (i + 1))) l (w ∷ drop (suc i) t))
       here = c.same ∙ ap (λ j. checked (mask_of j l (drop i t))) another ∙ ap (λ u. checked (mask_of (suc (k - (i + 1))) l u)) (drop-cons t i 0 s ∙ ap (λ x. x ∷ drop (suc i) t) (sym e))
 
-      pub mask_over : m ≤ w → Refused 5 ≡ checked (mask_of k n t)
+      pub mask_over : m ≤ w → Err Reference ≡ checked (mask_of k n t)
       mask_over o = sym (here ∙ word_over (k - (i + 1)) l w (drop (suc i) t) (rw (← d) o))
 
       pub mask_on : (o : ℕ) → w < m → o ≡ l - 16 → Masked k n t (i + 1) o
@@ -83,7 +85,7 @@ pub record Passed (T Γ ds t : List ℕ) (i n : ℕ) : Type 0 where
   pub short : n ≤ length t
   pub same : checked (arguments_of (declared T) Γ ds t) ≡ checked (arguments_of (declared T) Γ (drop i ds) (last_of n t))
 
-left_short : {A : Type 0} (u : List ℕ) (m : ℕ) (r : Read A) → Fine u r → Left m ≡ checked r → m ≤ length u
+left_short : {A : Type 0} (u : List ℕ) (m : ℕ) (r : Read A) → Fine u r → Ok m ≡ checked r → m ≤ length u
 unfolding checked
 left_short u m (refused k) f e = absurd (let z : ◌≡◌ {A = ℕ} 0 1 = cc in omega arith)
 left_short u m (taken a v) f e =
@@ -98,9 +100,9 @@ arguments_start T Γ ds t = record {
 }
 
 module _ (T Γ ds t : List ℕ) (i n : ℕ) (c : Passed T Γ ds t i n) where
-  pub arguments_all : length ds ≤ i → Left n ≡ checked (arguments_of (declared T) Γ ds t)
+  pub arguments_all : length ds ≤ i → Ok n ≡ checked (arguments_of (declared T) Γ ds t)
   unfolding arguments_of checked
-  arguments_all h = ap Left (sym (last_length n t c.short)) ∙ sym (c.same ∙ ap (λ es. checked (arguments_of (declared T) Γ es (last_of n t))) (drop_of_length-le ds {i = i} h))
+  arguments_all h = ap Ok (sym (last_length n t c.short)) ∙ sym (c.same ∙ ap (λ es. checked (arguments_of (declared T) Γ es (last_of n t))) (drop_of_length-le ds {i = i} h))
 
   -- x is the domain, u the words left
   module _ (x : ℕ) (u : List ℕ) (p : Checked) (h : i < length ds) (d : x ≡ get_or ds i 0) (l : u ≡ last_of n t) (e : p ≡ checked (argument_of (declared T) Γ x u)) where
@@ -108,10 +110,10 @@ module _ (T Γ ds t : List ℕ) (i n : ℕ) (c : Passed T Γ ds t i n) where
     unfolding arguments_of
     one_first = c.same ∙ (λ j. checked (arguments_of (declared T) Γ ((drop-cons ds i 0 h ∙ ap (λ y. y ∷ drop (suc i) ds) (sym d)) j) (sym l j))) ∙ checked_giving _ _
 
-    pub argument_refused : (k : ℕ) → p ≡ Refused k → Refused k ≡ checked (arguments_of (declared T) Γ ds t)
+    pub argument_refused : (k : Refusal) → p ≡ Err k → Err k ≡ checked (arguments_of (declared T) Γ ds t)
     argument_refused k f = both_out (argument_of (declared T) Γ x) (arguments_of (declared T) Γ (drop (suc i) ds)) u p k e f ∙ sym one_first
 
-    pub argument_passed : (m : ℕ) → p ≡ Left m → Passed T Γ ds t (i + 1) m
+    pub argument_passed : (m : ℕ) → p ≡ Ok m → Passed T Γ ds t (i + 1) m
     argument_passed m f =
         let b : m ≤ length u = left_short u m (argument_of (declared T) Γ x u) (argument_ends (declared T) Γ x u) (sym f ∙ e) in
         let z : length u ≡ n = ap length l ∙ last_length n t c.short in

@@ -10,7 +10,8 @@ ghost use Rattle.eb3.specs.RuleReading.{argument_of, arguments_of};
 ghost use Rattle.scan.specs.Checking.{checked, last_of};
 ghost use Rattle.arguments.specs.Tables.{row, declared, constant_of_domain, variable_of_domain};
 
-use scan::{Checked, behind, last, wide};
+use refusals::Refusal;
+use scan::{behind, front, last};
 
 // ── the tables ──
 
@@ -49,25 +50,25 @@ pub fn entry(tb: &[u32], at: usize) -> u32
 pub fn domains(tb: &[u32]) -> usize
     ensures { result ≡ get_or tb.now 0 0 }
 {
-    wide32(entry(tb, 0))
+    entry(tb, 0) as usize
 }
 
 pub fn labels(tb: &[u32]) -> usize
     ensures { result ≡ get_or tb.now 17 0 }
 {
-    wide32(entry(tb, 17))
+    entry(tb, 17) as usize
 }
 
 pub fn functions(tb: &[u32]) -> usize
     ensures { result ≡ get_or tb.now 210 0 }
 {
-    wide32(entry(tb, 210))
+    entry(tb, 210) as usize
 }
 
 pub fn processes(tb: &[u32]) -> usize
     ensures { (result ≡ get_or tb.now 211 0) × (result < 4294967296) }
 {
-    wide32(entry(tb, 211))
+    entry(tb, 211) as usize
 }
 
 // A count at a place, and that many words behind it.
@@ -76,7 +77,7 @@ pub fn row_at(tb: &[u32], at: usize) -> &[u32]
 {
     if at < tb.len() {
         let from = at + 1;
-        let n = wide32(tb[at]);
+        let n = tb[at] as usize;
         if n <= tb.len() - from {
             let end = from + n;
             return &tb[from..end];
@@ -91,9 +92,9 @@ pub fn row_at(tb: &[u32], at: usize) -> &[u32]
 pub fn size_of(tb: &[u32], d: usize) -> usize
     ensures { (result ≡ domain_size (declared tb.now) d) × (result < 4294967296) }
 {
-    if d < wide32(entry(tb, 0)) {
+    if d < entry(tb, 0) as usize {
         let at = 1 + d;
-        return wide32(entry(tb, at));
+        return entry(tb, at) as usize;
     }
     0
 }
@@ -104,54 +105,31 @@ pub fn size_of(tb: &[u32], d: usize) -> usize
 fn mask_limit(n: usize) -> usize
     ensures { result ≡ 2 ^ min n 16 }
 {
-    if n < 16 {
-        return 1 << n;
-    }
-    65536
-}
-
-fn less_16(n: usize) -> usize
-    ensures { result ≡ n - 16 }
-{
-    if n < 16 {
-        return 0;
-    }
-    n - 16
+    1 << n.min(16)
 }
 
 // k words of a mask, where n labels are left.
-pub fn check_mask(t: &[u16], k: usize, n: usize) -> Checked
+pub fn check_mask(t: &[u16], k: usize, n: usize) -> Result<usize, Refusal>
     ensures { result ≡ checked (mask_of k n t.now) }
 {
-    let mut i = 0;
     let mut left = n;
-    while i < k {
+    for i in 0..k {
         if t.len() <= i {
-            return Checked::Refused(4);
+            return Err(Refusal::Form);
         }
-        if mask_limit(left) <= wide(t[i]) {
-            return Checked::Refused(5);
+        if mask_limit(left) <= t[i] as usize {
+            return Err(Refusal::Reference);
         }
-        left = less_16(left);
-        i = i + 1;
+        left = left.saturating_sub(16);
     }
-    Checked::Left(t.len() - k)
+    Ok(t.len() - k)
 }
 
 // The four words in front are zero.
 pub fn mask_zero(t: &[u16]) -> bool
     ensures { result ≡ zero_mask (take 4 t.now) }
 {
-    let mut i = 0;
-    while i < 4 {
-        if i < t.len() {
-            if t[i] != 0 {
-                return false;
-            }
-        }
-        i = i + 1;
-    }
-    true
+    front(t, 4).iter().all(|&w| w == 0)
 }
 
 // ── variables ──
@@ -162,83 +140,68 @@ pub fn with(vars: &[u16], x: u16) -> [u16; 8]
     ensures { take (length vars.now + 1) result ≡ vars.now ++ (x ∷ []) }
 {
     let mut more = [x; 8];
-    let mut i = 0;
-    while i < vars.len() {
-        more[i] = vars[i];
-        i = i + 1;
-    }
+    more[..vars.len()].copy_from_slice(vars);
     more
 }
 
 // ── arguments ──
 
 // An argument of the domain d, where the domain of each variable in scope is given.
-fn check_argument(t: &[u16], tb: &[u32], vars: &[u16], d: usize) -> Checked
+fn check_argument(t: &[u16], tb: &[u32], vars: &[u16], d: usize) -> Result<usize, Refusal>
     ensures { result ≡ checked (argument_of (declared tb.now) vars.now d t.now) }
 {
     if t.len() == 0 {
-        return Checked::Refused(4);
+        return Err(Refusal::Form);
     }
     let c = t[0];
     match c {
         1 => constant_argument(behind(t), tb, d),
         2 => variable_argument(behind(t), vars, d),
-        _ => Checked::Refused(4),
+        _ => Err(Refusal::Form),
     }
 }
 
 // A constant below the domain's size: 4 before 6 at one word.
-fn constant_argument(t: &[u16], tb: &[u32], d: usize) -> Checked
+fn constant_argument(t: &[u16], tb: &[u32], d: usize) -> Result<usize, Refusal>
     ensures { result ≡ checked (constant_of_domain (declared tb.now) d t.now) }
 {
     if t.len() == 0 {
-        return Checked::Refused(4);
+        return Err(Refusal::Form);
     }
-    let v = wide(t[0]);
+    let v = t[0] as usize;
     if 65534 < v {
-        return Checked::Refused(4);
+        return Err(Refusal::Form);
     }
     if v < size_of(tb, d) {
-        return Checked::Left(t.len() - 1);
+        return Ok(t.len() - 1);
     }
-    Checked::Refused(6)
+    Err(Refusal::Kind)
 }
 
 // A variable in scope, of the same domain: 5 before 6 at one word.
-fn variable_argument(t: &[u16], vars: &[u16], d: usize) -> Checked
+fn variable_argument(t: &[u16], vars: &[u16], d: usize) -> Result<usize, Refusal>
     ensures { result ≡ checked (variable_of_domain vars.now d t.now) }
 {
     if t.len() == 0 {
-        return Checked::Refused(4);
+        return Err(Refusal::Form);
     }
-    let i = wide(t[0]);
+    let i = t[0] as usize;
     if i < vars.len() {
-        if wide(vars[i]) == d {
-            return Checked::Left(t.len() - 1);
+        if vars[i] as usize == d {
+            return Ok(t.len() - 1);
         }
-        return Checked::Refused(6);
+        return Err(Refusal::Kind);
     }
-    Checked::Refused(5)
+    Err(Refusal::Reference)
 }
 
 // An argument for each of some domains.
-pub fn check_arguments(t: &[u16], tb: &[u32], vars: &[u16], ds: &[u32]) -> Checked
+pub fn check_arguments(t: &[u16], tb: &[u32], vars: &[u16], ds: &[u32]) -> Result<usize, Refusal>
     ensures { result ≡ checked (arguments_of (declared tb.now) vars.now ds.now t.now) }
 {
     let mut n = t.len();
-    let mut i = 0;
-    while i < ds.len() {
-        let d = wide32(ds[i]);
-        match check_argument(last(t, n), tb, vars, d) {
-            Checked::Left(m) => {
-                n = m;
-                i = i + 1;
-                continue;
-            }
-            Checked::Refused(k) => {
-                return Checked::Refused(k);
-            }
-        }
+    for &d in ds {
+        n = check_argument(last(t, n), tb, vars, d as usize)?;
     }
-    Checked::Left(n)
+    Ok(n)
 }

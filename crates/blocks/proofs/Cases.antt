@@ -1,14 +1,14 @@
 -- `open` by its ways of returning.
 use mathlib.Core.Path.{◌≡◌, refl, ap, sym, ◌∙◌}
-use mathlib.Core.Bool.{Bool, true, false, not, ◌&&◌}
+use mathlib.Core.Bool.{Bool, true, false, ◌&&◌}
 use mathlib.Core.List.{List, [], ◌∷◌}
 use mathlib.Core.Option.{none, some}
 use Prim.Native.Nat.{ℕ, ◌+◌, ◌*◌, ◌%◌, ◌≤◌, ◌<◌}
 use native.Mathlib.Omega.{arith}
-use lib.Dec.{T, eqb, leb, eqb→eq, leb→le}
+use lib.Dec.{eqb, leb, eqb→eq, leb→le}
 use lib.ListN.{length, take, drop, get_or, length-append, length-take, length-drop, get_or-append}
 use lib.Seq.{get_or-drop, get_or-take}
-use borrow.Author.Tests.{not-true, not-false, eq-eqb, le-leb}
+use borrow.Author.Tests.{eq-eqb, le-leb}
 use Rattle.eb3.specs.Generic.Booleans.{T_fst, T_snd}
 use Rattle.eb3.specs.Editions.{Edition, edition_1, edition_of}
 use Rattle.eb3.specs.Reading.{pick}
@@ -17,7 +17,9 @@ use Rattle.eb3.specs.Bytes.{words_in}
 use Rattle.eb3.specs.Blocks.{contents, block_count, whole_blocks, blocks_right, edition_in, open_blocks}
 use Rattle.eb3.proofs.Laws.Reading.{pick_false}
 use Rattle.blocks.specs.Opening.{edition_test, opening}
-use Rattle.blocks.specs.declared.Opened.TheVariants.{Blocks, Refused}
+use Rattle.std.specs.Prelude.{Ok, Err}
+use Rattle.refusals.specs.declared.Refusal.TheVariants.{Length, Block, Edition as WrongEdition}
+use Rattle.refusals.specs.Numbers.{refusal}
 use Rattle.blocks.proofs.Joining.{one_content}
 
 first_words : (s : List ℕ) → 4 ≤ length s → (get_or (words_in s) 0 0 ≡ get_or s 0 0 + 256 * get_or s 1 0) × (get_or (words_in s) 1 0 ≡ get_or s 2 0 + 256 * get_or s 3 0)
@@ -60,36 +62,31 @@ module _ (s : List ℕ) where
       go false true = refl
       go false false = refl
 
-  not_whole : (T (whole_blocks s) → ⊥) → Refused 1 ≡ opening s (open_blocks s)
-  unfolding open_blocks opening
-  not_whole h = ap (opening s) (sym (pick_false _ _ (whole_blocks s) h))
-
-  pub open_odd : (length s % 512 ≡ 0 → ⊥) → Refused 1 ≡ opening s (open_blocks s)
-  open_odd h = not_whole λ t. h (eqb→eq (length s % 512) 0 (T_fst (eqb (length s % 512) 0) _ t))
-
-  pub open_few : block_count s < 1 → Refused 1 ≡ opening s (open_blocks s)
-  open_few h = not_whole λ t. let k : 1 ≤ block_count s = leb→le 1 (block_count s) (T_fst (leb 1 (block_count s)) _ (T_snd (eqb (length s % 512) 0) _ t)) in omega arith
-
-  pub open_many : 64 < block_count s → Refused 1 ≡ opening s (open_blocks s)
-  open_many h = not_whole λ t. let k : block_count s ≤ 64 = leb→le (block_count s) 64 (T_snd (leb 1 (block_count s)) _ (T_snd (eqb (length s % 512) 0) _ t)) in omega arith
+  -- The file's length is tested by parts.
+  pub open_length : (length s % 512 ≡ 0 → 1 ≤ block_count s → block_count s ≤ 64 → ⊥) → Err Length ≡ opening s (open_blocks s)
+  unfolding open_blocks opening refusal
+  open_length h =
+      ap (opening s) (sym (pick_false _ _ (whole_blocks s) λ t.
+      let u = T_snd (eqb (length s % 512) 0) _ t in
+      h (eqb→eq (length s % 512) 0 (T_fst (eqb (length s % 512) 0) _ t)) (leb→le 1 (block_count s) (T_fst (leb 1 (block_count s)) _ u)) (leb→le (block_count s) 64 (T_snd (leb 1 (block_count s)) _ u))))
 
   -- A file of whole blocks, with the answers `b` of its blocks' test and `e` of its edition's.
-  module _ (even : length s % 512 ≡ 0) (some : 1 ≤ block_count s) (few : block_count s ≤ 64) {b : Bool} (p : b ≡ blocks_right 0 (block_count s) s) where
+  module _ (even : length s % 512 ≡ 0) (any : 1 ≤ block_count s) (few : block_count s ≤ 64) {b : Bool} (p : b ≡ blocks_right 0 (block_count s) s) where
     whole : whole_blocks s ≡ true
-    whole = rw (eq-eqb _ _ even, le-leb _ _ some, le-leb _ _ few)
+    whole = rw (eq-eqb _ _ even, le-leb _ _ any, le-leb _ _ few)
 
-    pub open_wrong : not b ≡ true → Refused 2 ≡ opening s (open_blocks s)
-    unfolding open_blocks opening
-    open_wrong h = rw (whole, ← p, not-true b h)
+    pub open_wrong : b ≡ false → Err Block ≡ opening s (open_blocks s)
+    unfolding open_blocks opening refusal
+    open_wrong h = rw (whole, ← p, h)
 
-    module _ (h : not b ≡ false) {e : Bool} (q : e ≡ edition_test s (block_count s)) where
+    module _ (h : b ≡ true) {e : Bool} (q : e ≡ edition_test s (block_count s)) where
       tested : edition_in s ≡ edition_by e
       tested = edition_same (omega arith) ∙ sym (ap edition_by q)
 
-      pub open_other : not e ≡ true → Refused 3 ≡ opening s (open_blocks s)
-      unfolding open_blocks opening and_then
-      open_other k = rw (whole, ← p, not-false b h, tested, not-true e k)
+      pub open_other : e ≡ false → Err WrongEdition ≡ opening s (open_blocks s)
+      unfolding open_blocks opening and_then refusal
+      open_other k = rw (whole, ← p, h, tested, k)
 
-      pub open_fine : not e ≡ false → Blocks (block_count s) ≡ opening s (open_blocks s)
-      unfolding open_blocks opening and_then
-      open_fine k = rw (whole, ← p, not-false b h, tested, not-false e k)
+      pub open_fine : e ≡ true → Ok (block_count s) ≡ opening s (open_blocks s)
+      unfolding open_blocks opening and_then refusal
+      open_fine k = rw (whole, ← p, h, tested, k)

@@ -19,11 +19,11 @@ word_next s j h =
 
 -- A loop that stores a word at each i, with `x` for what it is to find; `m` is the length that the words have all the time.
 module _ (x s ws : List ℕ) (m i : ℕ) (e : length s ≡ 2 * m) (f : length ws ≡ m) where
-  pub decode_next : (a b : ℕ) → i < length ws → a ≡ get_or s (2 * i) 0 → b ≡ get_or s (2 * i + 1) 0
-      → take i ws ++ words_in (drop (2 * i) s) ≡ x → take (i + 1) (set ws i (a + 256 * b)) ++ words_in (drop (2 * (i + 1)) s) ≡ x
-  decode_next a b h p q k =
+  pub decode_next : (w : ℕ) → i < length ws → w ≡ get_or s (2 * i) 0 + 256 * get_or s (2 * i + 1) 0
+      → take i ws ++ words_in (drop (2 * i) s) ≡ x → take (i + 1) (set ws i w) ++ words_in (drop (2 * (i + 1)) s) ≡ x
+  decode_next w h p k =
       let l : 2 * i + 1 < length s = omega arith in let g : 2 * (i + 1) ≡ 2 * i + 2 = omega arith in
-      rw (g, add-one i, take-suc-set ws i (a + 256 * b) h, append_assoc, p, q) (rw (word_next s (2 * i) l) at k)
+      rw (g, add-one i, take-suc-set ws i w h, append_assoc, p) (rw (word_next s (2 * i) l) at k)
 
   pub decode_end : length ws ≤ i → take i ws ++ words_in (drop (2 * i) s) ≡ x → ws ≡ x
   unfolding words_in

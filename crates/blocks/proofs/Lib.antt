@@ -4,3 +4,4 @@ mod Right
 mod Joining
 mod Cases
 mod Remainders
+mod Chunks

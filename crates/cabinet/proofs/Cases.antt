@@ -1,34 +1,53 @@
 -- From the engine's answer to the numbers that C gets.
 use mathlib.Core.Path.{◌≡◌, refl, ap, sym, ◌∙◌}
 use Prim.Native.Nat.{ℕ}
-use mathlib.Core.List.{List}
+use mathlib.Core.List.{List, []}
+use Rattle.std.specs.Prelude.{T, Result, Ok, Err}
+use Rattle.eb3.specs.Refusal
+use Rattle.eb3.specs.Generic.Lists.{one_of, all_of, one_of_more}
+use Rattle.eb3.proofs.Laws.DemandOne.{refusals}
+use Rattle.refusals.specs.declared.Refusal.{Refusal as Why}
+use Rattle.refusals.specs.Numbers.{number, number_refusal}
 use Rattle.eb3.specs.Terms.{Action, internal, visible}
 use Rattle.eb3.specs.Answers.{Answer, refused, answered, Sizes, Moved, Ran, Written}
 use Rattle.weights.specs.declared.Limits.{Limits}
-use Rattle.admission.specs.declared.Admitted.{Admitted}
-use Rattle.admission.specs.declared.Admitted.TheVariants.{Sizes as Admitted_sizes, Refused as Admitted_refused}
 use Rattle.admission.specs.Answering.{admitted}
 use Rattle.cabinet.specs.declared.Sizes.{Sizes as CSizes}
-use Rattle.engine.specs.declared.starting.Started.{Started}
-use Rattle.engine.specs.declared.starting.Started.TheVariants.{Size, Refused}
 use Rattle.engine.specs.Starting.{started_as}
 use Rattle.cabinet.specs.declared.Started.{Started as CStarted}
-use Rattle.engine.specs.declared.counting.Counted.{Counted}
-use Rattle.engine.specs.declared.counting.Counted.TheVariants.{Moves, Refused as Counted_refused}
 use Rattle.engine.specs.Counting.{counted_as}
 use Rattle.cabinet.specs.declared.Counted.{Counted as CCounted}
 use Rattle.engine.specs.declared.stepping.Step.{Step}
-use Rattle.engine.specs.declared.stepping.Moved.{Moved as Stepped}
-use Rattle.engine.specs.declared.stepping.Moved.TheVariants.{Made, Refused as Stepped_refused}
 use Rattle.engine.specs.Stepping.{told, moved_as, Done}
 use Rattle.cabinet.specs.declared.Moved.{Moved as CMoved}
 use Rattle.mains.specs.declared.Totals.{Totals}
-use Rattle.engine.specs.declared.running.Ran.{Ran as Ended}
-use Rattle.engine.specs.declared.running.Ran.TheVariants.{Ended as Ended_so, Refused as Ended_refused}
 use Rattle.engine.specs.Running.{ran_as, RunDone}
-use Rattle.eb3.specs.Operations.{run, ScratchAfter}
+use Rattle.eb3.specs.Operations.{admit, start, count, move, present, run, ScratchAfter}
 use Rattle.cabinet.specs.declared.Ran.{Ran as CRan}
 use Rattle.cabinet.specs.Exported.{sizes, started, counted, moved_by, moved, exported_step, ran}
+
+-- An answer refuses by numbers of refusals only.
+abbrev Numbered : {A : Type 0} → Answer A → Type 0
+Numbered a = (k : ℕ) → a ≡ refused k → T (one_of Refusal.of_present k)
+
+numbered : {A : Type 0} (ks : List ℕ) → T (all_of Refusal.of_present ks) → (a : Answer A) → ((k : ℕ) → a ≡ refused k → T (one_of ks k)) → Numbered a
+numbered ks t a h k e = one_of_more Refusal.of_present ks t k (h k e)
+
+admission_among : T (all_of Refusal.of_present Refusal.of_admission)
+unfolding one_of all_of
+admission_among = tt
+
+start_among : T (all_of Refusal.of_present Refusal.of_start)
+unfolding one_of all_of
+start_among = tt
+
+count_among : T (all_of Refusal.of_present Refusal.of_count)
+unfolding one_of all_of
+count_among = tt
+
+move_among : T (all_of Refusal.of_present Refusal.of_move)
+unfolding one_of all_of
+move_among = tt
 
 abbrev given : Limits → CSizes
 given l = record { refusal = 0; cells = l.cells; reach = l.reach; breadth = l.breadth; size = l.size }
@@ -36,21 +55,24 @@ given l = record { refusal = 0; cells = l.cells; reach = l.reach; breadth = l.br
 abbrev only : ℕ → CSizes
 only k = record { refusal = k; cells = 0; reach = 0; breadth = 0; size = 0 }
 
-abbrev exported : Admitted → CSizes
-exported (Admitted_sizes l) = given l
-exported (Admitted_refused k) = only k
+abbrev exported : Result Limits Why → CSizes
+exported (Ok l) = given l
+exported (Err k) = only (number k)
 
-same : (a : Answer Sizes) → exported (admitted a) ≡ sizes a
+same : (a : Answer Sizes) → Numbered a → exported (admitted a) ≡ sizes a
 unfolding admitted sizes
-same (refused k) = refl
-same (answered S) = refl
+same (refused k) n = ap only (number_refusal k (n k refl))
+same (answered S) n = refl
 
-module _ (a : Answer Sizes) (p : Admitted) (e : p ≡ admitted a) where
-  pub admit_gives : (l : Limits) → p ≡ Admitted_sizes l → given l ≡ sizes a
-  admit_gives l f = sym (ap exported f) ∙ (ap exported e ∙ same a)
+module _ (rules : List ℕ) (p : Result Limits Why) (e : p ≡ admitted (admit rules)) where
+  told_admit : exported (admitted (admit rules)) ≡ sizes (admit rules)
+  told_admit = same (admit rules) (numbered Refusal.of_admission admission_among (admit rules) (refusals rules [] [] [] [] [] [] [] [] 0).admit_refused)
 
-  pub admit_refuses : (k j : ℕ) → p ≡ Admitted_refused k → j ≡ k → only j ≡ sizes a
-  admit_refuses k j f g = ap only g ∙ (sym (ap exported f) ∙ (ap exported e ∙ same a))
+  pub admit_gives : (l : Limits) → p ≡ Ok l → given l ≡ sizes (admit rules)
+  admit_gives l f = sym (ap exported f) ∙ (ap exported e ∙ told_admit)
+
+  pub admit_refuses : (k : Why) (j : ℕ) → p ≡ Err k → j ≡ number k → only j ≡ sizes (admit rules)
+  admit_refuses k j f g = ap only g ∙ (sym (ap exported f) ∙ (ap exported e ∙ told_admit))
 
 -- ── Start ──
 
@@ -60,21 +82,24 @@ begun n = record { refusal = 0; size = n }
 abbrev unbegun : ℕ → CStarted
 unbegun k = record { refusal = k; size = 0 }
 
-abbrev exported_start : Started → CStarted
-exported_start (Size n) = begun n
-exported_start (Refused k) = unbegun k
+abbrev exported_start : Result ℕ Why → CStarted
+exported_start (Ok n) = begun n
+exported_start (Err k) = unbegun (number k)
 
-same_start : (a : Answer ℕ) → exported_start (started_as a) ≡ started a
+same_start : (a : Answer ℕ) → Numbered a → exported_start (started_as a) ≡ started a
 unfolding started_as started
-same_start (refused k) = refl
-same_start (answered n) = refl
+same_start (refused k) n = ap unbegun (number_refusal k (n k refl))
+same_start (answered m) n = refl
 
-module _ (a : Answer ℕ) (p : Started) (e : p ≡ started_as a) where
-  pub start_gives : (n : ℕ) → p ≡ Size n → begun n ≡ started a
-  start_gives n f = sym (ap exported_start f) ∙ (ap exported_start e ∙ same_start a)
+module _ (rules term memory : List ℕ) (p : Result ℕ Why) (e : p ≡ started_as (start rules term memory).answer) where
+  told_start : exported_start (started_as (start rules term memory).answer) ≡ started (start rules term memory).answer
+  told_start = same_start _ (numbered Refusal.of_start start_among _ (refusals rules [] term memory [] [] [] [] [] 0).start_refused.number)
 
-  pub start_refuses : (k j : ℕ) → p ≡ Refused k → j ≡ k → unbegun j ≡ started a
-  start_refuses k j f g = ap unbegun g ∙ (sym (ap exported_start f) ∙ (ap exported_start e ∙ same_start a))
+  pub start_gives : (n : ℕ) → p ≡ Ok n → begun n ≡ started (start rules term memory).answer
+  start_gives n f = sym (ap exported_start f) ∙ (ap exported_start e ∙ told_start)
+
+  pub start_refuses : (k : Why) (j : ℕ) → p ≡ Err k → j ≡ number k → unbegun j ≡ started (start rules term memory).answer
+  start_refuses k j f g = ap unbegun g ∙ (sym (ap exported_start f) ∙ (ap exported_start e ∙ told_start))
 
 -- ── Count ──
 
@@ -84,44 +109,56 @@ listed n = record { refusal = 0; moves = n }
 abbrev unlisted : ℕ → CCounted
 unlisted k = record { refusal = k; moves = 0 }
 
-abbrev exported_count : Counted → CCounted
-exported_count (Moves n) = listed n
-exported_count (Counted_refused k) = unlisted k
+abbrev exported_count : Result ℕ Why → CCounted
+exported_count (Ok n) = listed n
+exported_count (Err k) = unlisted (number k)
 
-same_count : (a : Answer ℕ) → exported_count (counted_as a) ≡ counted a
+same_count : (a : Answer ℕ) → Numbered a → exported_count (counted_as a) ≡ counted a
 unfolding counted_as counted
-same_count (refused k) = refl
-same_count (answered n) = refl
+same_count (refused k) n = ap unlisted (number_refusal k (n k refl))
+same_count (answered m) n = refl
 
-module _ (a : Answer ℕ) (p : Counted) (e : p ≡ counted_as a) where
-  pub count_gives : (n : ℕ) → p ≡ Moves n → listed n ≡ counted a
-  count_gives n f = sym (ap exported_count f) ∙ (ap exported_count e ∙ same_count a)
+module _ (rules term memory : List ℕ) (p : Result ℕ Why) (e : p ≡ counted_as (count rules term memory)) where
+  told_count : exported_count (counted_as (count rules term memory)) ≡ counted (count rules term memory)
+  told_count = same_count _ (numbered Refusal.of_count count_among _ (refusals rules [] term memory [] [] [] [] [] 0).count_refused)
 
-  pub count_refuses : (k j : ℕ) → p ≡ Counted_refused k → j ≡ k → unlisted j ≡ counted a
-  count_refuses k j f g = ap unlisted g ∙ (sym (ap exported_count f) ∙ (ap exported_count e ∙ same_count a))
+  pub count_gives : (n : ℕ) → p ≡ Ok n → listed n ≡ counted (count rules term memory)
+  count_gives n f = sym (ap exported_count f) ∙ (ap exported_count e ∙ told_count)
+
+  pub count_refuses : (k : Why) (j : ℕ) → p ≡ Err k → j ≡ number k → unlisted j ≡ counted (count rules term memory)
+  count_refuses k j f g = ap unlisted g ∙ (sym (ap exported_count f) ∙ (ap exported_count e ∙ told_count))
 
 -- ── Move, Present ──
 
-same_step : (a : Answer Moved) → exported_step (moved_as a) ≡ moved a
+same_step : (a : Answer Moved) → Numbered a → exported_step (moved_as a) ≡ moved a
 unfolding moved_as exported_step moved moved_by told
-same_step (refused k) = refl
-same_step (answered m) = go m.action
+same_step (refused k) n = ap (λ j. record { refusal = j; size = 0; visible = 0; label = 0; arguments = 0; first = 0; second = 0 }) (number_refusal k (n k refl))
+same_step (answered m) n = go m.action
   where
-    go : (ρ : Action) → exported_step (Made (told ρ m.size)) ≡ moved_by ρ m.size
+    go : (ρ : Action) → exported_step (Ok (told ρ m.size)) ≡ moved_by ρ m.size
     go internal = refl
     go (visible a) = refl
 
-pub step_told : (w : Written Moved) (r : Stepped) (term' memory' : List ℕ) (m : CMoved) → Done w r term' memory' → m ≡ exported_step r
+step_told : (w : Written Moved) → Numbered w.answer → (r : Result Step Why) (term' memory' : List ℕ) (m : CMoved) → Done w r term' memory' → m ≡ exported_step r
     → (m ≡ moved w.answer) × (term' ≡ w.term) × (memory' ≡ w.memory)
-step_told w r term' memory' m d e = (e ∙ ap exported_step d.answer ∙ same_step w.answer, d.term_after, d.memory_after)
+step_told w n r term' memory' m d e = (e ∙ ap exported_step d.answer ∙ same_step w.answer n, d.term_after, d.memory_after)
+
+module _ (rules term memory next_term next_memory : List ℕ) (r : Result Step Why) (term' memory' : List ℕ) (m : CMoved) (e : m ≡ exported_step r) where
+  pub move_told : (k : ℕ) → Done (move rules term memory k next_term next_memory) r term' memory' → (m ≡ moved (move rules term memory k next_term next_memory).answer)
+      × (term' ≡ (move rules term memory k next_term next_memory).term) × (memory' ≡ (move rules term memory k next_term next_memory).memory)
+  move_told k d = step_told _ (numbered Refusal.of_move move_among _ (refusals rules [] term memory [] next_term next_memory [] [] k).move_refused.number) r term' memory' m d e
+
+  pub present_told : (event : List ℕ) → Done (present rules term memory event next_term next_memory) r term' memory' → (m ≡ moved (present rules term memory event next_term next_memory).answer)
+      × (term' ≡ (present rules term memory event next_term next_memory).term) × (memory' ≡ (present rules term memory event next_term next_memory).memory)
+  present_told event d = step_told _ (refusals rules [] term memory event next_term next_memory [] [] 0).present_refused.number r term' memory' m d e
 
 -- What an answer gives, by its case.
-pub step_gives : (r : Stepped) (s : Step) → r ≡ Made s
+pub step_gives : (r : Result Step Why) (s : Step) → r ≡ Ok s
     → record { refusal = 0; size = s.size; visible = s.visible; label = s.label; arguments = s.arguments; first = s.first; second = s.second } ≡ exported_step r
 unfolding exported_step
 step_gives r s f = sym (ap exported_step f)
 
-pub step_refuses : (r : Stepped) (k j : ℕ) → r ≡ Stepped_refused k → j ≡ k → record { refusal = j; size = 0; visible = 0; label = 0; arguments = 0; first = 0; second = 0 } ≡ exported_step r
+pub step_refuses : (r : Result Step Why) (k : Why) (j : ℕ) → r ≡ Err k → j ≡ number k → record { refusal = j; size = 0; visible = 0; label = 0; arguments = 0; first = 0; second = 0 } ≡ exported_step r
 unfolding exported_step
 step_refuses r k j f g = (λ i. record { refusal = g i; size = 0; visible = 0; label = 0; arguments = 0; first = 0; second = 0 }) ∙ sym (ap exported_step f)
 
@@ -133,24 +170,27 @@ ended t = record { refusal = 0; size = t.size; visible = t.visible; internal = t
 abbrev unended : ℕ → CRan
 unended k = record { refusal = k; size = 0; visible = 0; internal = 0; refused = 0 }
 
-abbrev exported_run : Ended → CRan
-exported_run (Ended_so t) = ended t
-exported_run (Ended_refused k) = unended k
+abbrev exported_run : Result Totals Why → CRan
+exported_run (Ok t) = ended t
+exported_run (Err k) = unended (number k)
 
-same_run : (a : Answer Ran) → exported_run (ran_as a) ≡ ran a
+same_run : (a : Answer Ran) → Numbered a → exported_run (ran_as a) ≡ ran a
 unfolding ran_as ran
-same_run (refused k) = refl
-same_run (answered m) = refl
+same_run (refused k) n = ap unended (number_refusal k (n k refl))
+same_run (answered m) n = refl
 
-module _ (rules numbers term memory spare cells : List ℕ) (p : Ended) (term' memory' spare' : List ℕ) (d : RunDone rules numbers term memory spare cells p term' memory' spare') where
+module _ (rules numbers term memory spare cells : List ℕ) (p : Result Totals Why) (term' memory' spare' : List ℕ) (d : RunDone rules numbers term memory spare cells p term' memory' spare') where
   abbrev Told : CRan → Type 0
   Told r =
       (r ≡ ran (run rules numbers term memory spare cells).answer) × (term' ≡ (run rules numbers term memory spare cells).term)
       × (memory' ≡ (run rules numbers term memory spare cells).memory) × ScratchAfter (run rules numbers term memory spare cells).answer spare spare'
 
-  pub run_gives : (t : Totals) → p ≡ Ended_so t → Told (ended t)
-  run_gives t f = (sym (ap exported_run f) ∙ (ap exported_run d.answer ∙ same_run (run rules numbers term memory spare cells).answer), d.term_after, d.memory_after, d.scratch_after)
+  told_run : exported_run (ran_as (run rules numbers term memory spare cells).answer) ≡ ran (run rules numbers term memory spare cells).answer
+  told_run = same_run _ (numbered Refusal.of_start start_among _ (refusals rules numbers term memory [] [] [] spare cells 0).run_refused.number)
 
-  pub run_refuses : (k j : ℕ) → p ≡ Ended_refused k → j ≡ k → Told (unended j)
+  pub run_gives : (t : Totals) → p ≡ Ok t → Told (ended t)
+  run_gives t f = (sym (ap exported_run f) ∙ (ap exported_run d.answer ∙ told_run), d.term_after, d.memory_after, d.scratch_after)
+
+  pub run_refuses : (k : Why) (j : ℕ) → p ≡ Err k → j ≡ number k → Told (unended j)
   run_refuses k j f g =
-      (ap unended g ∙ (sym (ap exported_run f) ∙ (ap exported_run d.answer ∙ same_run (run rules numbers term memory spare cells).answer)), d.term_after, d.memory_after, d.scratch_after)
+      (ap unended g ∙ (sym (ap exported_run f) ∙ (ap exported_run d.answer ∙ told_run)), d.term_after, d.memory_after, d.scratch_after)

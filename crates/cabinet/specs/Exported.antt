@@ -1,9 +1,10 @@
 -- What each exported function gives to C: `refusal` is 0 where the operation was done, else document 01's number, and then every other field is 0.
-use Rattle.std.specs.Prelude.{ℕ, length, get_or}
+use Rattle.std.specs.Prelude.{Result, Ok, Err, ℕ, length, get_or}
+use Rattle.refusals.specs.declared.Refusal.{Refusal}
+use Rattle.refusals.specs.Numbers.{number}
+use Rattle.engine.specs.declared.stepping.Step.{Step}
 use Rattle.eb3.specs.Terms.{Action, internal, visible}
 use Rattle.eb3.specs.Answers.{Answer, refused, answered, Sizes, Moved, Ran}
-use Rattle.engine.specs.declared.stepping.Moved.{Moved as Stepped}
-use Rattle.engine.specs.declared.stepping.Moved.TheVariants.{Made, Refused}
 use Rattle.cabinet.specs.declared.Sizes.{Sizes as CSizes}
 use Rattle.cabinet.specs.declared.Started.{Started as CStarted}
 use Rattle.cabinet.specs.declared.Counted.{Counted as CCounted}
@@ -32,9 +33,9 @@ moved (refused k) = record { refusal = k; size = 0; visible = 0; label = 0; argu
 moved (answered m) = moved_by m.action m.size
 
 -- What the engine's answer gives.
-unfoldable pub exported_step : Stepped → CMoved
-exported_step (Made s) = record { refusal = 0; size = s.size; visible = s.visible; label = s.label; arguments = s.arguments; first = s.first; second = s.second }
-exported_step (Refused k) = record { refusal = k; size = 0; visible = 0; label = 0; arguments = 0; first = 0; second = 0 }
+unfoldable pub exported_step : Result Step Refusal → CMoved
+exported_step (Ok s) = record { refusal = 0; size = s.size; visible = s.visible; label = s.label; arguments = s.arguments; first = s.first; second = s.second }
+exported_step (Err k) = record { refusal = number k; size = 0; visible = 0; label = 0; arguments = 0; first = 0; second = 0 }
 
 unfoldable pub ran : Answer Ran → CRan
 ran (refused k) = record { refusal = k; size = 0; visible = 0; internal = 0; refused = 0 }

@@ -5,11 +5,12 @@ ghost use Rattle.std.specs.Prelude.{◌≡◌};
 ghost use Rattle.eb3.specs.Operations.{admit, start, count, move, present, run, ScratchAfter};
 ghost use Rattle.cabinet.specs.Exported.{sizes, started, counted, exported_step, moved, ran};
 
-use admission::{Admitted, admit};
-use engine::counting::{Counted as Listed, count};
-use engine::running::{Ran as Ended, run};
-use engine::starting::{Started as Begun, start};
-use engine::stepping::{Moved as Stepped, make_move, present};
+use admission::admit;
+use engine::counting::count;
+use engine::running::run;
+use engine::starting::start;
+use engine::stepping::{Step, make_move, present};
+use refusals::Refusal;
 
 // In place of a refusal's number, where the operation was done.
 const DONE: u32 = 0;
@@ -60,26 +61,20 @@ pub struct Ran {
     pub refused: u64,
 }
 
-fn number(k: u8) -> u32
-    ensures { result ≡ k }
-{
-    k as u32
-}
-
 #[unsafe(no_mangle)]
 pub extern "C" fn eb3_admit(rules: &[u8]) -> Sizes
     ensures { result ≡ sizes (admit rules.now) }
 {
     match admit(rules) {
-        Admitted::Sizes(l) => Sizes {
+        Ok(l) => Sizes {
             refusal: DONE,
             cells: l.cells,
             reach: l.reach,
             breadth: l.breadth,
             size: l.size,
         },
-        Admitted::Refused(k) => Sizes {
-            refusal: number(k),
+        Err(refusal) => Sizes {
+            refusal: u32::from(refusal),
             cells: 0,
             reach: 0,
             breadth: 0,
@@ -93,12 +88,12 @@ pub extern "C" fn eb3_start(rules: &[u8], term: &mut [u8], memory: &mut [u8]) ->
     ensures { (result ≡ started (start rules.now term.old memory.old).answer) × (term.new ≡ (start rules.now term.old memory.old).term) × (memory.new ≡ (start rules.now term.old memory.old).memory) }
 {
     match start(rules, term, memory) {
-        Begun::Size(n) => Started {
+        Ok(n) => Started {
             refusal: DONE,
             size: n,
         },
-        Begun::Refused(k) => Started {
-            refusal: number(k),
+        Err(refusal) => Started {
+            refusal: u32::from(refusal),
             size: 0,
         },
     }
@@ -109,29 +104,23 @@ pub extern "C" fn eb3_count(rules: &[u8], term: &[u8], memory: &[u8]) -> Counted
     ensures { result ≡ counted (count rules.now term.now memory.now) }
 {
     match count(rules, term, memory) {
-        Listed::Moves(n) => Counted {
+        Ok(n) => Counted {
             refusal: DONE,
             moves: n,
         },
-        Listed::Refused(k) => Counted {
-            refusal: number(k),
+        Err(refusal) => Counted {
+            refusal: u32::from(refusal),
             moves: 0,
         },
     }
 }
 
-fn wide64(k: u64) -> usize
-    ensures { result ≡ k }
-{
-    k as usize
-}
-
 // What Move and Present give.
-fn told(r: Stepped) -> Moved
+fn told(r: Result<Step, Refusal>) -> Moved
     ensures { result ≡ exported_step r }
 {
     match r {
-        Stepped::Made(s) => Moved {
+        Ok(s) => Moved {
             refusal: DONE,
             size: s.size,
             visible: s.visible,
@@ -140,8 +129,8 @@ fn told(r: Stepped) -> Moved
             first: s.first,
             second: s.second,
         },
-        Stepped::Refused(k) => Moved {
-            refusal: number(k),
+        Err(refusal) => Moved {
+            refusal: u32::from(refusal),
             size: 0,
             visible: 0,
             label: 0,
@@ -163,7 +152,7 @@ pub extern "C" fn eb3_move(
 ) -> Moved
     ensures { (result ≡ moved (move rules.now term.now memory.now k next_term.old next_memory.old).answer) × (next_term.new ≡ (move rules.now term.now memory.now k next_term.old next_memory.old).term) × (next_memory.new ≡ (move rules.now term.now memory.now k next_term.old next_memory.old).memory) }
 {
-    told(make_move(rules, term, memory, wide64(k), next_term, next_memory))
+    told(make_move(rules, term, memory, k as usize, next_term, next_memory))
 }
 
 #[unsafe(no_mangle)]
@@ -193,15 +182,15 @@ pub extern "C" fn eb3_run(
     ensures { (result ≡ ran (run rules.now numbers.now term.old memory.old spare.old cells.now).answer) × (term.new ≡ (run rules.now numbers.now term.old memory.old spare.old cells.now).term) × (memory.new ≡ (run rules.now numbers.now term.old memory.old spare.old cells.now).memory) × ScratchAfter (run rules.now numbers.now term.old memory.old spare.old cells.now).answer spare.old spare.new }
 {
     match run(rules, numbers, term, memory, spare, cells) {
-        Ended::Ended(t) => Ran {
+        Ok(t) => Ran {
             refusal: DONE,
             size: t.size,
             visible: t.visible,
             internal: t.internal,
             refused: t.refused,
         },
-        Ended::Refused(k) => Ran {
-            refusal: number(k),
+        Err(refusal) => Ran {
+            refusal: u32::from(refusal),
             size: 0,
             visible: 0,
             internal: 0,

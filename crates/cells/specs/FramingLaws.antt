@@ -1,9 +1,10 @@
 -- Laws of filling one function's cells in each way: by copies of old cells, by copies and one value, or element by element; and of the loops that do it.
 -- Document 01, "Memory and the history machine".
-use Rattle.std.specs.Prelude.{◌≡◌, refl, true, List, ℕ, ◌+◌, ◌*◌, ◌/◌, ◌%◌, ◌≤◌, ◌<◌, length, drop, get_or, set}
+use Rattle.std.specs.Prelude.{◌≡◌, refl, true, List, ℕ, ◌+◌, ◌-◌, ◌*◌, ◌/◌, ◌%◌, ◌≤◌, ◌<◌, length, drop, get_or, set}
 use Rattle.std.proofs.Common.{sym, ap, subst, ◌∙◌, arith, lit<, length-set}
 use Rattle.std.proofs.Math.Decide.{ℕ_discrete, dec_lt}
 use Rattle.std.proofs.Math.ListN.{get_or-eq_default}
+use Rattle.std.specs.List.{CopiedTo, SameBelow, SameFrom}
 use Rattle.scan.specs.Checking.{last_of}
 use Rattle.expressions.specs.Stores.{stored, row_place, before_place}
 use Rattle.expressions.specs.Answering.{Evaluated}
@@ -51,6 +52,16 @@ module _ (m : List ℕ) (from at : ℕ) where
 
   pub copy_end : (M' : List ℕ) (x k : ℕ) → x ≤ k → k ≤ x → Copied m M' from at x → Copied m M' from at k
   copy_end M' x k h l r = let e : x ≡ k = omega arith in subst (Copied m M' from at) e r
+
+-- What copying words within a slice says of each index.
+pub copied_within : (m M' : List ℕ) (from at k : ℕ) → length M' ≡ length m → CopiedTo m M' from at ((from + k) - from) → SameBelow m M' at → SameFrom m M' (at + ((from + k) - from)) → Copied m M' from at k
+unfolding stored
+copied_within m M' from at k same there below above = record {
+  same_length = same;
+  copies = λ l x h. there (at + x) 65535 (omega arith) (omega arith) ∙ (let e : from + ((at + x) - at) ≡ from + x = omega arith in ap (λ i. get_or m i 65535) e);
+  kept_below = λ i h. below i 65535 h;
+  kept_above = λ i h. above i 65535 (omega arith);
+}
 
 -- ── element by element ──
 

@@ -1,8 +1,10 @@
 -- Laws of preparing: word by word a store is made ready, and word by word a memory is put into it.
 -- Document 01, "Memory and the history machine".
-use Rattle.std.specs.Prelude.{◌≡◌, refl, Bool, List, [], ◌∷◌, ℕ, zero, suc, ◌+◌, ◌-◌, ◌*◌, ◌/◌, ◌%◌, ◌≤◌, ◌<◌, length, get_or, set, take, drop}
+use Rattle.std.specs.Prelude.{◌≡◌, refl, Bool, List, [], ◌∷◌, ℕ, zero, suc, ◌+◌, ◌-◌, ◌*◌, ◌/◌, ◌%◌, ◌≤◌, ◌<◌, length, get_or, set, take, drop, replicate}
 use Rattle.std.proofs.Common.{sym, ap, subst, ◌∙◌, length-set, length-drop, length-take-le}
 use native.Mathlib.Omega.{arith}
+use borrow.Rule.Slice.PartMut.{put_mid}
+use Rattle.std.proofs.lemmas.List.{places}
 use Rattle.std.proofs.Math.Decide.{ℕ_discrete, dec_lt}
 use Rattle.std.proofs.Math.ListN.{get_or-eq_default}
 use borrow.Author.Tests.{lt-ltb, le-ltb, le-leb}
@@ -99,6 +101,18 @@ module _ (M : List ℕ) (from : ℕ) where
 
   pub cleared_end : (M' : List ℕ) (i to : ℕ) → i ≤ to → to ≤ i → Cleared M M' from i → Cleared M M' from to
   cleared_end M' i to h l r = let e : i ≡ to = omega arith in subst (Cleared M M' from) e r
+
+-- Zeros put over a part of a slice.
+pub cleared_part : (M Y : List ℕ) (from to : ℕ) → from ≤ to → to ≤ length M → Y ≡ replicate (length (take (to - from) (drop from M))) 0 → Cleared M (put_mid from (to - from) M Y) from to
+unfolding stored
+cleared_part M Y from to h l e =
+    let size : length (take (to - from) (drop from M)) ≡ to - from = length-take-le (to - from) (drop from M) (omega (arith, length-drop from M)) in
+    subst (λ Z. Cleared M (put_mid from (to - from) M Z) from to) (sym (e ∙ ap (λ n. replicate n 0) size)) (record {
+      same_length = grind (arith, places);
+      zeros = λ k p q. grind (arith, places);
+      kept_below = λ k p. grind (arith, places);
+      kept_above = λ k p. grind (arith, places);
+    })
 
 -- ── words of a memory ──
 

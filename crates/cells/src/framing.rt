@@ -7,25 +7,16 @@ ghost use Rattle.cells.specs.Frames.{kept_value, AsksOne, Tells, Copied, NewCell
 ghost use Rattle.cells.specs.Turns.{FunctionFilled};
 
 use expressions::{eval_data, word};
-use scan::{last, wide};
+use scan::last;
 
 // Whether before f(x0) stands at the front: the element keeps its value.
 fn keeps(s: &[u16], f: usize) -> bool
     ensures { Tells result s.now (λ d. d ≡ kept_value f) }
 {
-    if s.len() < 4 {
-        return false;
+    match s {
+        [7, g, 2, 0, ..] => *g as usize == f,
+        _ => false,
     }
-    if s[0] != 7 {
-        return false;
-    }
-    if wide(s[1]) != f {
-        return false;
-    }
-    if s[2] != 2 {
-        return false;
-    }
-    s[3] == 0
 }
 
 // Whether it is asked first if x0 is the entity that an argument of the event names, or a function's value of such an argument: at most one
@@ -33,45 +24,21 @@ fn keeps(s: &[u16], f: usize) -> bool
 fn names_one(s: &[u16]) -> bool
     ensures { Tells result s.now AsksOne × (result ≡ true → 8 ≤ length s.now) }
 {
-    if s.len() < 8 {
-        return false;
+    match s {
+        [5, 8, 2, 0, 2, i, _, _, ..] => *i != 0,
+        [5, 8, 2, 0, 6 | 7, _, 2, i, ..] => *i != 0,
+        _ => false,
     }
-    if s[0] != 5 {
-        return false;
-    }
-    if s[1] != 8 {
-        return false;
-    }
-    if s[2] != 2 {
-        return false;
-    }
-    if s[3] != 0 {
-        return false;
-    }
-    if s[4] == 2 {
-        return s[5] != 0;
-    }
-    if s[4] < 6 {
-        return false;
-    }
-    if 7 < s[4] {
-        return false;
-    }
-    if s[6] != 2 {
-        return false;
-    }
-    s[7] != 0
 }
 
 // The k cells from one place on as those from another.
+// Stays word by word: copy_within calls memmove, and the library promises C hosts to call memcpy and memset only (host/eb3.h, Linking).
 fn copy_cells(m: &mut [u16], from: usize, at: usize, k: usize)
     requires { (from + k ≤ length m.old) × (at + k ≤ length m.old) }
     ensures { Copied m.old m.new from at k }
 {
-    let mut i = 0;
-    while i < k {
+    for i in 0..k {
         m[at + i] = m[from + i];
-        i = i + 1;
     }
 }
 
@@ -80,12 +47,10 @@ fn fill_each(s: &[u16], m: &mut [u16], at: usize, k: usize)
     requires { (length s.now ≤ 65535) × (36 ≤ at) × (at + k ≤ length m.old) × (k < 65536) }
     ensures { (length m.new ≡ length m.old) × ((f : ℕ) → NewCells f s.now at k m.old m.new) }
 {
-    let mut x = 0;
-    while x < k {
+    for x in 0..k {
         m[0] = x as u16;
         let v = eval_data(s, m) % 65536;
         m[at + x] = v as u16;
-        x = x + 1;
     }
 }
 

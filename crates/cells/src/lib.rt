@@ -9,106 +9,86 @@ ghost use Rattle.eb3.specs.Terms.{VisibleAction};
 ghost use Rattle.eb3.specs.Attributes.{Attributes};
 ghost use Rattle.cells.specs.Filling.{Filling, Filled};
 ghost use Rattle.cells.specs.Preparing.{Prepared, ready_word, Loaded, Saved};
-ghost use Rattle.cells.specs.PreparingLaws.{Loading, Cleared};
+ghost use Rattle.cells.specs.PreparingLaws.{Loading};
 
-use arguments::{entry, wide32};
+use arguments::entry;
 use framing::fill_function;
 use writing::put_words;
 
 mod framing;
 
-// The cells of n functions, by the expressions in column j of the directory's rows of w words: function by function, element by
-// element. Word 0 of the store is the function's parameter, and changes.
-pub fn fill(t: &[u16], dir: &[u32], m: &mut [u16], w: usize, j: usize, n: usize)
-    requires { (length t.now ≤ 65535) × (w ≤ 256) × (j ≤ 256) × (n ≤ 16) }
-    ensures { (length m.new ≡ length m.old) × ((A : Attributes) (o : Option VisibleAction) (b : Reading) → Filling A o b t.now dir.now m.old w j n → Filled A o b m.old m.new) }
+/// The attribute functions of a rule set: where their expressions stand, and how many cells they have.
+#[derive(Clone, Copy)]
+pub struct Functions<'a> {
+    /// The stream that the functions' expressions are in.
+    pub words: &'a [u16],
+    /// The directory, with a row of `width` words for each function: how many cells it has, where they begin among all cells, and
+    /// where each of its expressions stands.
+    pub directory: &'a [u32],
+    /// How many words a row of the directory has.
+    pub width: usize,
+    /// How many functions there are.
+    pub count: usize,
+    /// How many cells they have together.
+    pub cells: usize,
+    pub ghost few_words: { length words.now ≤ 65535 },
+    pub ghost narrow: { width ≤ 256 },
+    pub ghost few: { count ≤ 16 },
+    pub ghost few_cells: { cells ≤ 65499 },
+}
+
+// All cells, by the expressions in column j of the directory: function by function, element by element. Word 0 of the store is the
+// function's parameter, and changes.
+pub fn fill(functions: &Functions, m: &mut [u16], j: usize)
+    requires { j ≤ 256 }
+    ensures { (length m.new ≡ length m.old) × ((A : Attributes) (o : Option VisibleAction) (b : Reading) → Filling A o b functions.now.words.now functions.now.directory.now m.old functions.now.width j functions.now.count → Filled A o b m.old m.new) }
 {
-    let mut f = 0;
-    while f < n {
-        fill_function(t, m, f, wide32(entry(dir, w * f + j)));
-        f = f + 1;
+    for f in 0..functions.count {
+        let left = entry(functions.directory, functions.width * f + j) as usize;
+        fill_function(functions.words, m, f, left);
     }
 }
 
 // ── a store made ready ──
 
-fn low(x: u32) -> u16
-    ensures { result ≡ x % 65536 }
-{
-    (x % 65536) as u16
-}
-
 // Word i of a store made ready, below the cells.
-fn ready_word(dir: &[u32], w: usize, n: usize, c: usize, i: usize) -> u16
-    requires { (w ≤ 256) × (n ≤ 16) × (c ≤ 65499) }
-    ensures { result ≡ ready_word dir.now w n c i }
+fn ready_word(functions: &Functions, i: usize) -> u16
+    ensures { result ≡ ready_word functions.now.directory.now functions.now.width functions.now.count functions.now.cells i }
 {
     if i < 3 {
         return 65535;
     }
     if i < 4 {
-        return (36 + c) as u16;
+        return (36 + functions.cells) as u16;
     }
     let f = (i - 4) / 2;
-    if f < n {
-        return low(entry(dir, w * f + i % 2));
+    if f < functions.count {
+        return (entry(functions.directory, functions.width * f + i % 2) % 65536) as u16;
     }
     0
 }
 
-// A store for the cells of n functions, c in all, whose rows of w words the directory has. Nothing is done where there is
-// no room for the words below the cells.
-pub fn lay(dir: &[u32], m: &mut [u16], w: usize, n: usize, c: usize)
-    requires { (w ≤ 256) × (n ≤ 16) × (c ≤ 65499) }
-    ensures { (length m.new ≡ length m.old) × (36 ≤ length m.old → Prepared dir.now m.old m.new w n c) }
+// A store for the functions' cells. Nothing is done where there is no room for the words below the cells.
+pub fn lay(functions: &Functions, m: &mut [u16])
+    ensures { (length m.new ≡ length m.old) × (36 ≤ length m.old → Prepared functions.now.directory.now m.old m.new functions.now.width functions.now.count functions.now.cells) }
 {
     if m.len() < 36 {
         return;
     }
-    let mut i = 0;
-    while i < 36 {
-        m[i] = ready_word(dir, w, n, c, i);
-        i = i + 1;
+    for i in 0..36 {
+        m[i] = ready_word(functions, i);
     }
 }
 
 // ── memories ──
-
-fn byte16(x: u8) -> u16
-    ensures { (result ≡ x) × (result < 256) }
-{
-    x as u16
-}
-
-fn least(a: usize, b: usize) -> usize
-    ensures { (result ≤ a) × (result ≤ b) × (result < a → b ≤ result) }
-{
-    if a < b {
-        return a;
-    }
-    b
-}
 
 // k words that the memory has.
 fn load_words(memory: &[u8], m: &mut [u16], at: usize, k: usize)
     requires { (at + k ≤ length m.old) × (2 * k ≤ length memory.now) }
     ensures { Loading memory.now m.old m.new at k }
 {
-    let mut i = 0;
-    while i < k {
-        m[at + i] = byte16(memory[2 * i]) + 256 * byte16(memory[2 * i + 1]);
-        i = i + 1;
-    }
-}
-
-fn clear(m: &mut [u16], from: usize, to: usize)
-    requires { (from ≤ to) × (to ≤ length m.old) }
-    ensures { Cleared m.old m.new from to }
-{
-    let mut i = from;
-    while i < to {
-        m[i] = 0;
-        i = i + 1;
+    for i in 0..k {
+        m[at + i] = memory[2 * i] as u16 + 256 * memory[2 * i + 1] as u16;
     }
 }
 
@@ -119,20 +99,17 @@ pub fn load(memory: &[u8], m: &mut [u16], at: usize, c: usize)
     if m.len() < at {
         return;
     }
-    let n = least(c, m.len() - at);
-    let k = least(n, memory.len() / 2);
+    let n = c.min(m.len() - at);
+    let k = n.min(memory.len() / 2);
     load_words(memory, m, at, k);
-    clear(m, at + k, at + n);
+    m[at + k..at + n].fill(0);
 }
 
 // The c cells at the front of a lent memory, if there is room.
 pub fn save(m: &[u16], memory: &mut [u8], c: usize)
     ensures { Saved m.now memory.old memory.new c }
 {
-    if m.len() < 36 {
-        return;
-    }
-    if m.len() - 36 < c {
+    if m.len() < 36 || m.len() - 36 < c {
         return;
     }
     let end = 36 + c;

@@ -1,8 +1,10 @@
 -- Which codes may be where something is due (document 01, "Values and conditions", "Blocks and the rule stream"): data are 0 to 7, conditions 8 to 13, the
 -- terms of a process 20 to 29, and running terms 20 to 26 and 30. Any other code there is refused as form.
-use Rattle.std.specs.Prelude.{Bool, ◌&&◌, ◌||◌, ℕ, eqb, leb}
+use Rattle.std.specs.Prelude.{Bool, ◌&&◌, ◌||◌, ℕ, zero, suc, eqb, leb, Option, None, Some}
 use Rattle.eb3.specs.Refusal
 use Rattle.eb3.specs.Reading.{pick}
+use Rattle.refusals.specs.declared.Refusal.{Refusal as Refused}
+use Rattle.refusals.specs.Numbers.{refusal}
 use Rattle.codes.specs.declared.Due.{Due}
 use Rattle.codes.specs.declared.Due.TheVariants.{Data, Condition, RuleTerm, RunningTerm}
 
@@ -18,3 +20,8 @@ may_be RunningTerm c = between 20 26 c || eqb c 30
 -- The refusal's number, or 0 where the code may be there.
 unfoldable pub refusal_of : Due → ℕ → ℕ
 refusal_of due c = pick (may_be due c) 0 Refusal.form
+
+-- The refusal itself, or none where the number is 0.
+abbrev pub refused_as : ℕ → Option Refused
+refused_as zero = None
+refused_as (suc k) = Some (refusal (suc k))

@@ -8,12 +8,12 @@ ghost use Rattle.std.specs.Prelude.{◌≡◌, ℕ, ◌+◌, ◌*◌, ◌-◌, �
 ghost use Rattle.eb3.specs.Scopes.{Scope};
 ghost use Rattle.eb3.specs.Sizes.{breadth};
 ghost use Rattle.eb3.specs.Terms.{Term};
-ghost use Rattle.codes.specs.Sorts.{refusal_of};
+ghost use Rattle.codes.specs.Sorts.{refusal_of, refused_as};
 ghost use Rattle.codes.specs.Table.{operands_after, moving_code};
 ghost use Rattle.codes.specs.Shapes.{width_of, two_parameters, arity_of, more_words, argument_count, more_operands, operand_count};
 ghost use Rattle.codes.specs.Rows.{Piece, of_term, RowAt};
 
-use scan::wide;
+use refusals::Refusal;
 
 // What the words before a place leave to come there. A rule term is a process's; a running term has no variables, quantifiers or calls, but may be done.
 #[derive(Clone, Copy)]
@@ -24,42 +24,18 @@ pub enum Due {
     RunningTerm,
 }
 
-// The refusal of a code where something is due; 0 where it may be there.
-pub fn refusal(w: u16, due: Due) -> u8
-    ensures { result ≡ refusal_of due w }
+// The refusal of a code where something is due; none where it may be there.
+#[tactic(auto, unfolding(crate::specs::Sorts::refusal_of, crate::specs::Sorts::may_be, refusals::specs::Numbers::refusal))]
+pub fn refusal(w: u16, due: Due) -> Option<Refusal>
+    ensures { result ≡ refused_as (refusal_of due w) }
 {
-    match w {
-        0..=7 => match due {
-            Due::Data => 0,
-            Due::Condition => 4,
-            Due::RuleTerm => 4,
-            Due::RunningTerm => 4,
-        },
-        8..=13 => match due {
-            Due::Data => 4,
-            Due::Condition => 0,
-            Due::RuleTerm => 4,
-            Due::RunningTerm => 4,
-        },
-        20..=26 => match due {
-            Due::Data => 4,
-            Due::Condition => 4,
-            Due::RuleTerm => 0,
-            Due::RunningTerm => 0,
-        },
-        27..=29 => match due {
-            Due::Data => 4,
-            Due::Condition => 4,
-            Due::RuleTerm => 0,
-            Due::RunningTerm => 4,
-        },
-        30 => match due {
-            Due::Data => 4,
-            Due::Condition => 4,
-            Due::RuleTerm => 4,
-            Due::RunningTerm => 0,
-        },
-        _ => 4,
+    match (due, w) {
+        (Due::Data, 0..=7) => None,
+        (Due::Condition, 8..=13) => None,
+        (Due::RuleTerm, 20..=29) => None,
+        (Due::RunningTerm, 20..=26) => None,
+        (Due::RunningTerm, 30) => None,
+        _ => Some(Refusal::Form),
     }
 }
 
@@ -110,10 +86,7 @@ pub fn words_after(w: usize, shape: usize) -> usize
 fn word(t: &[u16], i: usize) -> usize
     ensures { (result ≡ get_or t.now i 0) × (result < 65536) }
 {
-    if i < t.len() {
-        return wide(t[i]);
-    }
-    0
+    if i < t.len() { t[i] as usize } else { 0 }
 }
 
 // How many arguments follow a label: they are constants, and no term begins with a constant's code.
@@ -121,29 +94,23 @@ fn arguments(t: &[u16], shape: usize) -> usize
     ensures { (result ≡ argument_count shape t.now) × (result ≤ 2) }
 {
     if word(t, 1) != 1 {
-        return 0;
+        0
+    } else if word(t, 2 + width(shape)) != 1 {
+        1
+    } else {
+        2
     }
-    let second = 2 + width(shape);
-    if word(t, second) != 1 {
-        return 1;
-    }
-    2
 }
 
 // The operands that the table does not say.
 fn more_operands(w: usize, t: &[u16], shape: usize) -> usize
     ensures { (result ≡ more_operands shape w t.now) × (result ≤ 2) }
 {
-    if w == 6 {
-        return second_parameter(shape, word(t, 0));
+    match w {
+        6 | 7 => second_parameter(shape, word(t, 0)),
+        21 => arguments(t, shape),
+        _ => 0,
     }
-    if w == 7 {
-        return second_parameter(shape, word(t, 0));
-    }
-    if w == 21 {
-        return arguments(t, shape);
-    }
-    0
 }
 
 // The operands that the table says.
@@ -175,19 +142,14 @@ pub fn skip_row(s: &[u16], n: usize, shape: usize) -> usize
         if s.len() <= at {
             return 0;
         }
-        let w = wide(s[at]);
+        let w = s[at] as usize;
         if 30 < w {
             return 0;
         }
-        let next = at + 1;
-        let more = operands(w, &s[next..], shape);
-        at = next + words_after(w, shape);
-        due = due - 1 + more;
+        due = due - 1 + operands(w, &s[at + 1..], shape);
+        at = at + 1 + words_after(w, shape);
     }
-    if at <= s.len() {
-        return s.len() - at;
-    }
-    0
+    s.len().saturating_sub(at)
 }
 
 // The words left after one expression or term.
@@ -211,6 +173,8 @@ fn moving(w: usize) -> bool
 }
 
 // Whether a term can never move: no such code is in it. Where one is, the loop ends at the first.
+// Stays beside skip_row: the loops share what follows a code (operands and words_after), and one function of both would have to promise what
+// is left and what was seen at once.
 pub fn idle(s: &[u16], shape: usize) -> bool
     requires { length s.now ≤ 65535 }
     ensures { (P : Scope) (E : Term) (rest : List ℕ) → RowAt shape s.now P (of_term E ∷ []) rest → result ≡ eqb (breadth E) 0 }
@@ -221,17 +185,15 @@ pub fn idle(s: &[u16], shape: usize) -> bool
         if s.len() <= at {
             return false;
         }
-        let w = wide(s[at]);
+        let w = s[at] as usize;
         if 30 < w {
             return false;
         }
         if moving(w) {
             return false;
         }
-        let next = at + 1;
-        let more = operands(w, &s[next..], shape);
-        at = next + words_after(w, shape);
-        due = due - 1 + more;
+        due = due - 1 + operands(w, &s[at + 1..], shape);
+        at = at + 1 + words_after(w, shape);
     }
     true
 }

@@ -1,6 +1,6 @@
 -- Laws of the directory: what a reading took is found where it stood, and what keeps the places keeps what is found by them.
 -- Document 01, "Blocks and the rule stream", items 2 to 5; refusals 4 and 5.
-use Rattle.std.specs.Prelude.{◌≡◌, refl, List, [], ◌∷◌, ◌++◌, ℕ, suc, ◌+◌, ◌*◌, ◌-◌, ◌%◌, ◌<◌, length, get_or}
+use Rattle.std.specs.Prelude.{◌≡◌, refl, List, [], ◌∷◌, ◌++◌, ℕ, suc, ◌+◌, ◌*◌, ◌-◌, ◌%◌, ◌<◌, length, get_or, Ok}
 use Rattle.std.proofs.Common.{sym, ap, ◌∙◌, subst, arith, length-append}
 use Rattle.eb3.specs.Expressions.{Data}
 use Rattle.eb3.specs.Scopes.{Scope, DataInScope}
@@ -15,9 +15,7 @@ use Rattle.eb3.specs.RuleReading.{read_rule_term, read_process}
 use Rattle.eb3.proofs.Laws.Reading.{Sound, Sounds, number_sound, counted_sound}
 use Rattle.eb3.proofs.Laws.RuleTermReading.{rule_term_sound}
 use Rattle.eb3.proofs.Laws.ExpressionReading.{data_sound}
-use Rattle.scan.specs.declared.Checked.{Checked}
-use Rattle.scan.specs.declared.Checked.TheVariants.{Left}
-use Rattle.scan.specs.Checking.{checked, last_of}
+use Rattle.scan.specs.Checking.{checked, last_of, Checked}
 use Rattle.scan.specs.Laws.{Tail, Fine, Ends, tail_at, tail_on, tail_short, number_ends}
 use Rattle.scan.specs.RowLaws.{counted_ends}
 use Rattle.arguments.specs.Tables.{process_place}
@@ -55,10 +53,10 @@ for_each_count (b ∷ bs) f t xs u e =
     ap length h.2 ∙ ap suc (for_each_count bs f k.0 h.0.1 u k.2)
 
 -- What is left of t, by how much is left.
-pub left_is : {A : Type 0} (f : Reader A) → Ends f → (t : List ℕ) (p : Checked) (m : ℕ) (a : A) (v : List ℕ) → p ≡ checked (f t) → p ≡ Left m → f t ≡ taken a v → v ≡ last_of m t
+pub left_is : {A : Type 0} (f : Reader A) → Ends f → (t : List ℕ) (p : Checked) (m : ℕ) (a : A) (v : List ℕ) → p ≡ checked (f t) → p ≡ Ok m → f t ≡ taken a v → v ≡ last_of m t
 unfolding checked
 left_is f ends t p m a v e h g =
-    let k : Left m ≡ Left (length v) = sym h ∙ e ∙ ap checked g in
+    let k : Ok m ≡ Ok (length v) = sym h ∙ e ∙ ap checked g in
     let l : length v ≡ m = cc in
     sym (tail_at v t (subst (Fine t) g (ends t))) ∙ ap (λ n. last_of n t) l
 

@@ -6,8 +6,6 @@ use native.Mathlib.Omega.{arith}
 use mathlib.Core.Path.{◌≡◌, refl, sym, ap, ◌∙◌, subst}
 use mathlib.Core.List.{List, [], ◌∷◌}
 use lib.ListN.{length, get_or, replicate}
-use Rattle.scan.specs.declared.Checked.{Checked}
-use Rattle.scan.specs.declared.Checked.TheVariants.{Left, Refused}
 use Rattle.eb3.specs.Editions.{edition_1}
 use Rattle.eb3.specs.Cells.{cell_count}
 use Rattle.eb3.specs.Expressions.{Data}
@@ -15,16 +13,19 @@ use Rattle.eb3.specs.RuleSets.{Function, domain_size}
 use Rattle.eb3.specs.Reading.{Read, refused, taken, Reader, giving, then, both, number_of, repeat, for_each, series}
 use Rattle.eb3.specs.ExpressionReading.{read_data}
 use Rattle.eb3.specs.RuleReading.{function_from, read_function}
-use Rattle.scan.specs.Checking.{checked, last_of}
+use Rattle.scan.specs.Checking.{checked, last_of, Checked}
 use Rattle.scan.specs.Laws.{Fine, tail_at, both_in, both_out, number_word}
 use Rattle.grammar.specs.Laws.{data_ends}
 use Rattle.arguments.specs.Tables.{declared}
 use Rattle.declarations.specs.declared.Counted.{Counted}
-use Rattle.declarations.specs.declared.Counted.TheVariants.{Cells, Refused as CountRefused}
-use Rattle.declarations.specs.Entering.{labels_of, cells_of, all_cells, function_cells, functions_cells, CellsBound}
+use Rattle.declarations.specs.Entering.{labels_of, cells_of, all_cells, function_cells, functions_cells, CellsBound, found_cells}
 use Rattle.declarations.specs.ScopeFacts.{one_each, at_start, start_scope}
 use Rattle.declarations.specs.FunctionLaws.{function_ends}
 use Rattle.declarations.specs.Noting.{start_of, for_label, label_expressions, function_of}
+use Rattle.std.specs.Prelude.{Ok, Err, Result}
+use Rattle.refusals.specs.declared.Refusal.{Refusal}
+use Rattle.scan.specs.ReadingLaws.{RefusedAs, checked_refused}
+use Rattle.refusals.specs.Numbers.{refusal}
 
 -- ── both kinds ──
 
@@ -35,26 +36,18 @@ module _ (T t : List ℕ) (n i : ℕ) (p : Checked) (e : p ≡ checked (read_dat
   start : p ≡ checked (start_of n i t)
   start = e ∙ ap (λ S. checked (read_data 1 S t)) (start_scope n i)
 
-  pub expressions_out : (j : ℕ) → p ≡ Refused j → Refused j ≡ checked (both (start_of n i) (labels_for T n i) t)
+  pub expressions_out : (j : Refusal) → p ≡ Err j → Err j ≡ checked (both (start_of n i) (labels_for T n i) t)
   expressions_out j h = both_out (start_of n i) (labels_for T n i) t p j start h
 
   -- a is the word read, x the number that it is
-  pub expressions_in : (r : List ℕ) (q : Checked) (m a x : ℕ) → a ≡ get_or T 17 0 → x ≡ a → p ≡ Left m → r ≡ last_of m t → q ≡ checked (for_each (labels_of T 0 x) (for_label n i) r) → q ≡ checked (both (start_of n i) (labels_for T n i) t)
+  pub expressions_in : (r : List ℕ) (q : Checked) (m a x : ℕ) → a ≡ get_or T 17 0 → x ≡ a → p ≡ Ok m → r ≡ last_of m t → q ≡ checked (for_each (labels_of T 0 x) (for_label n i) r) → q ≡ checked (both (start_of n i) (labels_for T n i) t)
   expressions_in r q m a x g w h s f = both_in (start_of n i) (labels_for T n i) t r p q m (data_ends 1 _) start h s (f ∙ ap (λ y. checked (for_each (labels_of T 0 y) (for_label n i) r)) (w ∙ g))
 
 -- ── a function ──
 
-one_parameter : (d m : ℕ) (t : List ℕ) → Left m ≡ checked (number_of 5 d t) → repeat 1 (number_of 5 d) t ≡ taken (get_or t 0 0 ∷ []) (last_of m t)
+one_parameter : (d m : ℕ) (t : List ℕ) → Ok m ≡ checked (number_of 5 d t) → repeat 1 (number_of 5 d) t ≡ taken (get_or t 0 0 ∷ []) (last_of m t)
 unfolding repeat both then giving
 one_parameter d m t e = rw (number_word 5 d m t e)
-
-no_parameter : (d j : ℕ) (t : List ℕ) → Refused j ≡ checked (number_of 5 d t) → number_of 5 d t ≡ refused j
-unfolding checked
-no_parameter d j t e = go (number_of 5 d t) refl e
-  where
-    go : (r : Read ℕ) → number_of 5 d t ≡ r → Refused j ≡ checked r → number_of 5 d t ≡ refused j
-    go (refused k) i f = i ∙ (let k : k ≡ j = cc in ap refused k)
-    go (taken a u) i f = absurd (let y : ◌≡◌ {A = ℕ} 0 1 = cc in omega arith)
 
 abbrev pub sizes_in : List ℕ → List ℕ
 sizes_in T = (declared T).domains
@@ -64,11 +57,11 @@ unfolding read_function
 function_is T t n i = ap (λ c. giving function_from (both (repeat c (number_of 5 (get_or T 0 0))) (both (start_of n i) (labels_for T n i)) t)) (one_each n i)
 
 -- with its parameter read
-pub function_on : (T t : List ℕ) (n i m : ℕ) → Left m ≡ checked (number_of 5 (get_or T 0 0) t) → function_of T n i t ≡ giving function_from (giving (λ b. (get_or t 0 0 ∷ [], b)) (both (start_of n i) (labels_for T n i) (last_of m t)))
+pub function_on : (T t : List ℕ) (n i m : ℕ) → Ok m ≡ checked (number_of 5 (get_or T 0 0) t) → function_of T n i t ≡ giving function_from (giving (λ b. (get_or t 0 0 ∷ [], b)) (both (start_of n i) (labels_for T n i) (last_of m t)))
 unfolding both then
 function_on T t n i m e = function_is T t n i ∙ rw (one_parameter (get_or T 0 0) m t e)
 
-cells_given : (D : List ℕ) (w o z : ℕ) (r : Read (Data × List Data)) → Left o ≡ checked r → z ≡ get_or D w 0 → Cells o z ≡ function_cells D (giving function_from (giving (λ b. (w ∷ [], b)) r))
+cells_given : (D : List ℕ) (w o z : ℕ) (r : Read (Data × List Data)) → Ok o ≡ checked r → z ≡ get_or D w 0 → found_cells o z ≡ function_cells D (giving function_from (giving (λ b. (w ∷ [], b)) r))
 unfolding checked giving function_cells cells_of cell_count
 cells_given D w o z (refused j) e f = absurd (let y : ◌≡◌ {A = ℕ} 0 1 = cc in omega arith)
 cells_given D w o z (taken b u) e f =
@@ -76,11 +69,11 @@ cells_given D w o z (taken b u) e f =
     let c : z ≡ get_or D w 0 * 1 = omega (arith, f) in
     rw (k, c)
 
-none_given : (D : List ℕ) (w j : ℕ) (r : Read (Data × List Data)) → Refused j ≡ checked r → CountRefused j ≡ function_cells D (giving function_from (giving (λ b. (w ∷ [], b)) r))
+none_given : (D : List ℕ) (w : ℕ) (j : Refusal) (r : Read (Data × List Data)) → Err j ≡ checked r → Err j ≡ function_cells D (giving function_from (giving (λ b. (w ∷ [], b)) r))
 unfolding checked giving function_cells
 none_given D w j (refused k) e =
-    let f : j ≡ k = cc in
-    ap CountRefused f
+    let f : j ≡ refusal k = cc in
+    ap Err f
 none_given D w j (taken b u) e = absurd (let y : ◌≡◌ {A = ℕ} 0 1 = cc in omega arith)
 
 -- a is the word read, d the number of domains that it is
@@ -88,18 +81,18 @@ module _ (T t : List ℕ) (n i a d : ℕ) (p : Checked) (g : a ≡ get_or T 0 0)
   there : p ≡ checked (number_of 5 (get_or T 0 0) t)
   there = e ∙ ap (λ y. checked (number_of 5 y t)) (w ∙ g)
 
-  pub function_out : (j : ℕ) → p ≡ Refused j → CountRefused j ≡ function_cells (sizes_in T) (function_of T n i t)
+  pub function_out : (j : Refusal) → p ≡ Err j → Err j ≡ function_cells (sizes_in T) (function_of T n i t)
   unfolding giving both then repeat function_cells
-  function_out j h = rw (function_is T t n i, no_parameter (get_or T 0 0) j t (sym h ∙ there))
+  function_out j h = let x = checked_refused (number_of 5 (get_or T 0 0) t) j (sym h ∙ there) in rw (function_is T t n i, x.read) (ap Err x.named)
 
-  module _ (m : ℕ) (r : List ℕ) (q : Checked) (h : p ≡ Left m) (s : r ≡ last_of m t) (f : q ≡ checked (both (start_of n i) (labels_for T n i) r)) where
+  module _ (m : ℕ) (r : List ℕ) (q : Checked) (h : p ≡ Ok m) (s : r ≡ last_of m t) (f : q ≡ checked (both (start_of n i) (labels_for T n i) r)) where
     rest : q ≡ checked (both (start_of n i) (labels_for T n i) (last_of m t))
     rest = f ∙ ap (λ u. checked (both (start_of n i) (labels_for T n i) u)) s
 
-    pub function_stops : (j : ℕ) → q ≡ Refused j → CountRefused j ≡ function_cells (sizes_in T) (function_of T n i t)
+    pub function_stops : (j : Refusal) → q ≡ Err j → Err j ≡ function_cells (sizes_in T) (function_of T n i t)
     function_stops j b = rw (function_on T t n i m (sym h ∙ there)) (none_given (sizes_in T) (get_or t 0 0) j _ (sym b ∙ rest))
 
-    pub function_in : (o x z : ℕ) → q ≡ Left o → x ≡ get_or t 0 0 → z ≡ domain_size (declared T) x → Cells o z ≡ function_cells (sizes_in T) (function_of T n i t)
+    pub function_in : (o x z : ℕ) → q ≡ Ok o → x ≡ get_or t 0 0 → z ≡ domain_size (declared T) x → found_cells o z ≡ function_cells (sizes_in T) (function_of T n i t)
     function_in o x z b c y = rw (function_on T t n i m (sym h ∙ there)) (cells_given (sizes_in T) (get_or t 0 0) o z _ (sym b ∙ rest) (y ∙ ap (λ v. get_or (sizes_in T) v 0) c))
 
 -- ── functions ──
@@ -111,7 +104,7 @@ place_small x i h k =
     let b : i ≤ 65536 = omega arith in
     mul-le-mul a b
 
-pub functions_none : (T t : List ℕ) (n k i : ℕ) → k ≡ 0 → Cells (length t) 0 ≡ functions_cells (sizes_in T) (series k i (function_of T n) t)
+pub functions_none : (T t : List ℕ) (n k i : ℕ) → k ≡ 0 → found_cells (length t) 0 ≡ functions_cells (sizes_in T) (series k i (function_of T n) t)
 unfolding series functions_cells all_cells
 functions_none T t n k i z = rw z
 
@@ -121,65 +114,63 @@ functions_next T t n zero i z = absurd (z refl)
 functions_next T t n (suc k) i z = rw (sub-one (suc k))
 
 -- what was read, where so many words are left
-left_of : (D t : List ℕ) (m c : ℕ) (r : Read Function) → Fine t r → Cells m c ≡ function_cells D r → (F : Function) × ((r ≡ taken F (last_of m t)) × (c ≡ cells_of D F))
+left_of : (D t : List ℕ) (m c : ℕ) (r : Read Function) → Fine t r → found_cells m c ≡ function_cells D r → (F : Function) × ((r ≡ taken F (last_of m t)) × (c ≡ cells_of D F))
 unfolding function_cells
 left_of D t m c (refused j) f e = absurd (let y : ◌≡◌ {A = ℕ} 0 1 = cc in omega arith)
 left_of D t m c (taken F u) f e =
-    let k : m ≡ length u = cc in
-    let o : c ≡ cells_of D F = cc in
+    let q : ◌≡◌ {A = Counted} (record { left = m; cells = c }) (record { left = length u; cells = cells_of D F }) = cc in
+    let k : m ≡ length u = ap (λ x. x.left) q in
+    let o : c ≡ cells_of D F = ap (λ x. x.cells) q in
     (F, (ap (taken F) (sym (ap (λ j. last_of j t) k ∙ tail_at u t f)), o))
 
-out_of : (D : List ℕ) (j : ℕ) (r : Read Function) → CountRefused j ≡ function_cells D r → r ≡ refused j
+out_of : (D : List ℕ) (j : Refusal) (r : Read Function) → Err j ≡ function_cells D r → RefusedAs j r
 unfolding function_cells
-out_of D j (refused k) e =
-    let f : k ≡ j = cc in
-    ap refused f
+out_of D j (refused k) e = record { code = k; read = refl; named = cc }
 out_of D j (taken F u) e = absurd (let y : ◌≡◌ {A = ℕ} 0 1 = cc in omega arith)
 
 abbrev one_more : Function → Read (List Function) → Read (List Function)
 one_more F r = giving {A = Function × List Function} (λ p. p.0 ∷ p.1) (giving (λ b. (F, b)) r)
 
-sum_given : (D : List ℕ) (F : Function) (l c d : ℕ) (r : Read (List Function)) → c ≡ cells_of D F → Cells l d ≡ functions_cells D r → Cells l (c + d) ≡ functions_cells D (one_more F r)
+sum_given : (D : List ℕ) (F : Function) (l c d : ℕ) (r : Read (List Function)) → c ≡ cells_of D F → found_cells l d ≡ functions_cells D r → found_cells l (c + d) ≡ functions_cells D (one_more F r)
 unfolding giving functions_cells all_cells
 sum_given D F l c d (refused j) f e = absurd (let y : ◌≡◌ {A = ℕ} 0 1 = cc in omega arith)
 sum_given D F l c d (taken Fs u) f e =
-    let k : l ≡ length u = cc in
-    let o : d ≡ all_cells D Fs = cc in
-    rw (k, f, o)
+    let q : ◌≡◌ {A = Counted} (record { left = l; cells = d }) (record { left = length u; cells = all_cells D Fs }) = cc in
+    rw (ap (λ x. x.left) q, f, ap (λ x. x.cells) q)
 
-stop_given : (D : List ℕ) (F : Function) (j : ℕ) (r : Read (List Function)) → CountRefused j ≡ functions_cells D r → CountRefused j ≡ functions_cells D (one_more F r)
+stop_given : (D : List ℕ) (F : Function) (j : Refusal) (r : Read (List Function)) → Err j ≡ functions_cells D r → Err j ≡ functions_cells D (one_more F r)
 unfolding giving functions_cells
 stop_given D F j (refused k) e = e
 stop_given D F j (taken Fs u) e = absurd (let y : ◌≡◌ {A = ℕ} 0 1 = cc in omega arith)
 
-module _ (T t : List ℕ) (n k i : ℕ) (p : Counted) (z : k ≡ 0 → ⊥) (e : p ≡ function_cells (sizes_in T) (function_of T n i t)) where
-  pub functions_out : (j : ℕ) → p ≡ CountRefused j → CountRefused j ≡ functions_cells (sizes_in T) (series k i (function_of T n) t)
+module _ (T t : List ℕ) (n k i : ℕ) (p : Result Counted Refusal) (z : k ≡ 0 → ⊥) (e : p ≡ function_cells (sizes_in T) (function_of T n i t)) where
+  pub functions_out : (j : Refusal) → p ≡ Err j → Err j ≡ functions_cells (sizes_in T) (series k i (function_of T n) t)
   unfolding giving both then functions_cells
-  functions_out j h = rw (functions_next T t n k i z, out_of (sizes_in T) j (function_of T n i t) (sym h ∙ e))
+  functions_out j h = let x = out_of (sizes_in T) j (function_of T n i t) (sym h ∙ e) in rw (functions_next T t n k i z, x.read) (ap Err x.named)
 
-  module _ (m c : ℕ) (r : List ℕ) (q : Counted) (h : p ≡ Cells m c) (s : r ≡ last_of m t) (f : q ≡ functions_cells (sizes_in T) (series (k - 1) (i + 1) (function_of T n) r)) where
-    it : (F : Function) × ((function_of T n i t ≡ taken F (last_of m t)) × (c ≡ cells_of (sizes_in T) F))
-    it = left_of (sizes_in T) t m c (function_of T n i t) (function_ends edition_1 (get_or T 0 0) (labels_of T 0 (get_or T 17 0)) (replicate n 1) i t) (sym h ∙ e)
+  module _ (one : Counted) (r : List ℕ) (q : Result Counted Refusal) (h : p ≡ Ok one) (s : r ≡ last_of one.left t) (f : q ≡ functions_cells (sizes_in T) (series (k - 1) (i + 1) (function_of T n) r)) where
+    it : (F : Function) × ((function_of T n i t ≡ taken F (last_of one.left t)) × (one.cells ≡ cells_of (sizes_in T) F))
+    it = left_of (sizes_in T) t one.left one.cells (function_of T n i t) (function_ends edition_1 (get_or T 0 0) (labels_of T 0 (get_or T 17 0)) (replicate n 1) i t) (sym h ∙ e)
 
-    whole : series k i (function_of T n) t ≡ one_more it.0 (series (k - 1) (i + 1) (function_of T n) (last_of m t))
+    whole : series k i (function_of T n) t ≡ one_more it.0 (series (k - 1) (i + 1) (function_of T n) (last_of one.left t))
     unfolding both then
     whole = functions_next T t n k i z ∙ rw it.1.0
 
-    others : q ≡ functions_cells (sizes_in T) (series (k - 1) (i + 1) (function_of T n) (last_of m t))
+    others : q ≡ functions_cells (sizes_in T) (series (k - 1) (i + 1) (function_of T n) (last_of one.left t))
     others = f ∙ ap (λ u. functions_cells (sizes_in T) (series (k - 1) (i + 1) (function_of T n) u)) s
 
-    pub functions_stop : (j : ℕ) → q ≡ CountRefused j → CountRefused j ≡ functions_cells (sizes_in T) (series k i (function_of T n) t)
+    pub functions_stop : (j : Refusal) → q ≡ Err j → Err j ≡ functions_cells (sizes_in T) (series k i (function_of T n) t)
     functions_stop j b = rw whole (stop_given (sizes_in T) it.0 j _ (sym b ∙ others))
 
-    pub functions_in : (l d : ℕ) → q ≡ Cells l d → Cells l (c + d) ≡ functions_cells (sizes_in T) (series k i (function_of T n) t)
-    functions_in l d b = rw whole (sum_given (sizes_in T) it.0 l c d _ it.1.1 (sym b ∙ others))
+    pub functions_in : (two : Counted) → q ≡ Ok two → found_cells two.left (one.cells + two.cells) ≡ functions_cells (sizes_in T) (series k i (function_of T n) t)
+    functions_in two b = rw whole (sum_given (sizes_in T) it.0 two.left one.cells two.cells _ it.1.1 (sym b ∙ others))
 
 -- no sum overflows
-pub one_bound : (p : Counted) (m c : ℕ) → p ≡ Cells m c → CellsBound p 1 → c ≤ 1 * 4294967296
-one_bound p m c h e = subst (λ x. CellsBound x 1) h e
+pub one_bound : (p : Result Counted Refusal) (one : Counted) → p ≡ Ok one → CellsBound p 1 → one.cells ≤ 1 * 4294967296
+one_bound p one h e = subst (λ x. CellsBound x 1) h e
 
-pub functions_bound : (p q : Counted) (m c l d k : ℕ) → (k ≡ 0 → ⊥) → p ≡ Cells m c → CellsBound p 1 → q ≡ Cells l d → CellsBound q (k - 1) → c + d ≤ k * 4294967296
-functions_bound p q m c l d k z h e b f =
-    let one : c ≤ 1 * 4294967296 = one_bound p m c h e in
-    let more : d ≤ (k - 1) * 4294967296 = subst (λ x. CellsBound x (k - 1)) b f in
-    omega (arith, one, more)
+pub functions_bound : (p q : Result Counted Refusal) (one two : Counted) (k : ℕ) → (k ≡ 0 → ⊥) → p ≡ Ok one → CellsBound p 1 → q ≡ Ok two → CellsBound q (k - 1) → one.cells + two.cells ≤ k * 4294967296
+functions_bound p q one two k z h e b f =
+    let x : one.cells ≤ 1 * 4294967296 = one_bound p one h e in
+    let y : two.cells ≤ (k - 1) * 4294967296 = subst (λ x. CellsBound x (k - 1)) b f in
+    omega (arith, x, y)

@@ -7,15 +7,13 @@ use mathlib.Core.Path.{◌≡◌, refl, sym, ap, ◌∙◌, subst}
 use mathlib.Core.List.{List, [], ◌∷◌, ◌++◌, append-nil, append_assoc}
 use lib.ListN.{length, get_or, set, length-set, length-append}
 use lib.Seq.{get_or-set_same, get_or-set_other}
-use Rattle.scan.specs.declared.Checked.{Checked}
-use Rattle.scan.specs.declared.Checked.TheVariants.{Left, Refused}
 use Rattle.eb3.specs.Expressions.{Data}
 use Rattle.eb3.specs.Spelling.{data_words}
 use Rattle.eb3.specs.Reading.{Read, refused, taken, Reader, giving, then, both, for_each}
 use Rattle.eb3.specs.ExpressionReading.{read_data}
-use Rattle.scan.specs.Checking.{checked, last_of}
+use Rattle.scan.specs.Checking.{checked, last_of, Checked}
 use Rattle.scan.specs.Laws.{Tail, tail_on, last_all, tail_at, tail_short, got, last_tail, last_length}
-use Rattle.scan.specs.ReadingLaws.{checked_refused, not_taken}
+use Rattle.scan.specs.ReadingLaws.{checked_refused, not_taken, same_refused, refused_checked, RefusedAs}
 use Rattle.scan.specs.RowLaws.{passed}
 use Rattle.grammar.specs.Laws.{data_ends}
 use Rattle.arguments.specs.Tables.{from, row}
@@ -24,6 +22,8 @@ use Rattle.declarations.specs.ScopeFacts.{at_label, label_scope}
 use Rattle.declarations.specs.Directory.{Stands, Standing}
 use Rattle.declarations.proofs.DirectoryLaws.{stands_noted, standing_kept, standing_more}
 use Rattle.declarations.specs.Noting.{for_label, label_expressions, LabelsNoted}
+use Rattle.std.specs.Prelude.{Ok, Err}
+use Rattle.refusals.specs.declared.Refusal.{Refusal}
 
 -- The rest of the labels, from l on.
 abbrev rest_of : List ℕ → ℕ → ℕ → ℕ → ℕ → Reader (List Data)
@@ -64,14 +64,14 @@ giving_none : (ds : List Data) (u : List ℕ) → giving (λ es. ds ++ es) (take
 unfolding giving
 giving_none ds u = ap (λ l. taken l u) (append-nil ds)
 
-pub sofar_end : (t T D₀ : List ℕ) (n i k at : ℕ) (D : List ℕ) (left l : ℕ) → Sofar t T D₀ n i k at D left l → k ≤ l → LabelsNoted T n i k t D₀ at (Left left) D
+pub sofar_end : (t T D₀ : List ℕ) (n i k at : ℕ) (D : List ℕ) (left l : ℕ) → Sofar t T D₀ n i k at D left l → k ≤ l → LabelsNoted T n i k t D₀ at (Ok left) D
 unfolding checked for_each from
 sofar_end t T D₀ n i k at D left l s h =
     let z : k - l ≡ 0 = omega (arith, s.few) in
     let e : label_expressions T n i k t ≡ taken s.ds (last_of left t) =
     s.reading ∙ ap (λ m. giving (λ es. s.ds ++ es) (rest_of T n i l m (last_of left t))) z ∙ giving_none s.ds (last_of left t) in
     record {
-      answer = ap Left (sym (last_length left t s.short)) ∙ sym (ap checked e);
+      answer = ap Ok (sym (last_length left t s.short)) ∙ sym (ap checked e);
       same_length = s.same_length;
       kept = s.kept;
       found = λ whole a u tl small room f. (let q : s.ds ≡ a = same_taken s.ds a (last_of left t) u (sym e ∙ f) in subst (Standing whole D at) q (s.found whole tl small room));
@@ -87,9 +87,9 @@ labels_next T l k h =
     let e : k - l ≡ suc (k - (l + 1)) = omega arith in
     ap (labels_of T l) e ∙ ap (λ m. row T (18 + 3 * l) ∷ labels_of T m (k - (l + 1))) (sym (add-one l))
 
-refused_on : (ds : List Data) (b : List ℕ) (bs : List (List ℕ)) (f : List ℕ → Reader Data) (t : List ℕ) (j : ℕ) → f b t ≡ refused j → giving (λ es. ds ++ es) (for_each (b ∷ bs) f t) ≡ refused j
+refused_on : (ds : List Data) (b : List ℕ) (bs : List (List ℕ)) (f : List ℕ → Reader Data) (t : List ℕ) (j : Refusal) → RefusedAs j (f b t) → RefusedAs j (giving (λ es. ds ++ es) (for_each (b ∷ bs) f t))
 unfolding giving for_each both then
-refused_on ds b bs f t j e = rw e
+refused_on ds b bs f t j h = record { code = h.code; read = rw h.read; named = h.named }
 
 taken_on : (ds : List Data) (b : List ℕ) (bs : List (List ℕ)) (f : List ℕ → Reader Data) (t : List ℕ) (d : Data) (u : List ℕ) → f b t ≡ taken d u
     → giving (λ es. ds ++ es) (for_each (b ∷ bs) f t) ≡ giving (λ es. (ds ++ (d ∷ [])) ++ es) (for_each bs f u)
@@ -117,18 +117,18 @@ module _ (t T D₀ R u D D₁ : List ℕ) (n i k at left l : ℕ) (p : Checked) 
   other : (j : ℕ) → j < at + l → get_or D₁ j 0 ≡ get_or D j 0
   other j b = ap (λ E. get_or E j 0) g ∙ get_or-set_other D (at + l) j (left % 4294967296) 0 (omega arith)
 
-  pub sofar_fail : (j : ℕ) → p ≡ Refused j → LabelsNoted T n i k t D₀ at (Refused j) D₁
+  pub sofar_fail : (j : Refusal) → p ≡ Err j → LabelsNoted T n i k t D₀ at (Err j) D₁
   unfolding checked
   sofar_fail j h =
-      let f : label_expressions T n i k t ≡ refused j = on ∙ refused_on s.ds (row T (18 + 3 * l)) (labels_of T (l + 1) (k - (l + 1))) (for_label n i) u j (checked_refused (this u) j (sym h ∙ here)) in
+      let f : RefusedAs j (label_expressions T n i k t) = same_refused _ _ j on (refused_on s.ds (row T (18 + 3 * l)) (labels_of T (l + 1) (k - (l + 1))) (for_label n i) u j (checked_refused (this u) j (sym h ∙ here))) in
       record {
-        answer = sym (ap checked f);
+        answer = refused_checked _ j f;
         same_length = as_long;
         kept = λ m b. other m (omega arith) ∙ s.kept m b;
         found = λ whole a v tl small room q. absurd (not_taken (label_expressions T n i k t) j a v f q);
       }
 
-  module _ (m : ℕ) (h : p ≡ Left m) where
+  module _ (m : ℕ) (h : p ≡ Ok m) where
     it : (d : Data) × (this u ≡ taken d (last_of m u))
     it = got this (data_ends 1 _) u m p here h
 

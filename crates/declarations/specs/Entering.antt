@@ -1,16 +1,16 @@
 -- What the checks of domains, labels and functions answer, and the rows that they enter.
 -- Document 01, "Blocks and the rule stream", items 2 to 5; refusals 4 and 5.
-use Rattle.std.specs.Prelude.{◌≡◌, List, [], ◌∷◌, map, ℕ, suc, ◌+◌, ◌*◌, ◌≤◌, length, get_or}
+use Rattle.std.specs.Prelude.{◌≡◌, List, [], ◌∷◌, map, ℕ, suc, ◌+◌, ◌*◌, ◌≤◌, length, get_or, Ok, Err, Result}
 use Rattle.std.proofs.Math.Seq.{paste}
 use Rattle.eb3.specs.Refusal
 use Rattle.eb3.specs.Cells.{cell_count}
 use Rattle.eb3.specs.RuleSets.{Function}
 use Rattle.eb3.specs.Reading.{Read, refused, taken, number_of, repeat, counted}
-use Rattle.scan.specs.declared.Checked.{Checked}
-use Rattle.scan.specs.Checking.{checked}
+use Rattle.scan.specs.Checking.{checked, Checked}
 use Rattle.arguments.specs.Tables.{from, row, label_place}
 use Rattle.declarations.specs.declared.Counted.{Counted}
-use Rattle.declarations.specs.declared.Counted.TheVariants.{Cells as Counted_cells, Refused as Counted_refused}
+use Rattle.refusals.specs.declared.Refusal.{Refusal}
+use Rattle.refusals.specs.Numbers.{refusal}
 
 -- The rows of k labels from label l on.
 abbrev pub labels_of : List ℕ → ℕ → ℕ → List (List ℕ)
@@ -38,15 +38,19 @@ unfoldable pub all_cells : List ℕ → List Function → ℕ
 all_cells domains [] = 0
 all_cells domains (F ∷ Fs) = cells_of domains F + all_cells domains Fs
 
-unfoldable pub function_cells : List ℕ → Read Function → Counted
-function_cells domains (refused k) = Counted_refused k
-function_cells domains (taken F t) = Counted_cells (length t) (cells_of domains F)
+-- So many words are left, and so many cells counted.
+abbrev pub found_cells : ℕ → ℕ → Result Counted Refusal
+found_cells n c = Ok (record { left = n; cells = c })
 
-unfoldable pub functions_cells : List ℕ → Read (List Function) → Counted
-functions_cells domains (refused k) = Counted_refused k
-functions_cells domains (taken Fs t) = Counted_cells (length t) (all_cells domains Fs)
+unfoldable pub function_cells : List ℕ → Read Function → Result Counted Refusal
+function_cells domains (refused k) = Err (refusal k)
+function_cells domains (taken F t) = found_cells (length t) (cells_of domains F)
+
+unfoldable pub functions_cells : List ℕ → Read (List Function) → Result Counted Refusal
+functions_cells domains (refused k) = Err (refusal k)
+functions_cells domains (taken Fs t) = found_cells (length t) (all_cells domains Fs)
 
 -- So many functions have fewer than 2 to the 32nd cells each: no sum of them overflows.
-abbrev pub CellsBound : Counted → ℕ → Type 0
-CellsBound (Counted_cells n c) k = c ≤ k * 4294967296
-CellsBound (Counted_refused j) k = Unit
+abbrev pub CellsBound : Result Counted Refusal → ℕ → Type 0
+CellsBound (Ok a) k = a.cells ≤ k * 4294967296
+CellsBound (Err j) k = Unit

@@ -1,19 +1,19 @@
 -- What is noted in the directory while functions are read, and by which readings.
 -- Document 01, "Blocks and the rule stream", items 2 to 5; refusals 4 and 5.
-use Rattle.std.specs.Prelude.{◌≡◌, List, ◌∷◌, ℕ, ◌+◌, ◌*◌, ◌≤◌, ◌<◌, length, get_or, replicate}
+use Rattle.std.specs.Prelude.{◌≡◌, List, ◌∷◌, ℕ, ◌+◌, ◌*◌, ◌≤◌, ◌<◌, length, get_or, replicate, Result}
 use Rattle.eb3.specs.Editions.{edition_1}
 use Rattle.eb3.specs.Expressions.{Data}
 use Rattle.eb3.specs.RuleSets.{Function}
 use Rattle.eb3.specs.Reading.{Read, taken, Reader, both, for_each, series}
 use Rattle.eb3.specs.ExpressionReading.{read_data}
 use Rattle.eb3.specs.RuleReading.{at_start_scope, at_label_scope, read_function}
-use Rattle.scan.specs.declared.Checked.{Checked}
-use Rattle.scan.specs.Checking.{checked}
+use Rattle.scan.specs.Checking.{checked, Checked}
 use Rattle.scan.specs.Laws.{Tail}
 use Rattle.arguments.specs.Tables.{declared}
 use Rattle.declarations.specs.declared.Counted.{Counted}
 use Rattle.declarations.specs.Entering.{labels_of, function_cells, functions_cells}
 use Rattle.declarations.specs.Directory.{Standing, FunctionRow, FunctionRows, row_width}
+use Rattle.refusals.specs.declared.Refusal.{Refusal}
 
 -- ── what is read of function i of n, by the tables T ──
 
@@ -51,10 +51,10 @@ abbrev pub ExpressionsNoted : List ℕ → ℕ → ℕ → List ℕ → List ℕ
 ExpressionsNoted T n i t D at r D' = Noted checked (expressions_of T n i) t D at (at + (1 + get_or T 17 0)) (λ whole E p. Standing whole E at (p.0 ∷ p.1)) r D'
 
 -- Of function i, a row, where `begin` cells stand before its own; and of k functions from i on.
-abbrev pub FunctionNoted : List ℕ → ℕ → ℕ → List ℕ → List ℕ → ℕ → ℕ → Counted → List ℕ → Type 0
+abbrev pub FunctionNoted : List ℕ → ℕ → ℕ → List ℕ → List ℕ → ℕ → ℕ → Result Counted Refusal → List ℕ → Type 0
 FunctionNoted T n i t D at begin r D' = Noted (function_cells (declared T).domains) (function_of T n i) t D at (at + row_width (get_or T 17 0)) (λ whole E F. FunctionRow (declared T).domains whole E at begin F) r D'
 
-abbrev pub FunctionsNoted : List ℕ → ℕ → ℕ → ℕ → List ℕ → List ℕ → ℕ → Counted → List ℕ → Type 0
+abbrev pub FunctionsNoted : List ℕ → ℕ → ℕ → ℕ → List ℕ → List ℕ → ℕ → Result Counted Refusal → List ℕ → Type 0
 FunctionsNoted T n k i t D begin r D' =
     Noted (functions_cells (declared T).domains) (series k i (function_of T n)) t D (row_width (get_or T 17 0) * i) (row_width (get_or T 17 0) * (i + k))
     (λ whole E Fs. FunctionRows (declared T).domains whole E (row_width (get_or T 17 0)) i begin Fs) r D'

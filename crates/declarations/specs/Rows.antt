@@ -1,14 +1,12 @@
 -- A count and as many words, each read by itself (`One`), are a row at the front of the words: what was read is that row (`RowAt`), and a copy of it
 -- into the tables enters it.
 -- Document 01, "Blocks and the rule stream", items 2 to 5; refusals 4 and 5.
-use Rattle.std.specs.Prelude.{ℕ, zero, suc, ◌+◌, ◌≤◌, ◌≡◌, refl, Bool, true, false, List, [], ◌∷◌, ◌++◌, ◌⊎◌, length, take, drop, get_or, leb, ltb}
+use Rattle.std.specs.Prelude.{ℕ, zero, suc, ◌+◌, ◌≤◌, ◌≡◌, refl, Bool, true, false, List, [], ◌∷◌, ◌++◌, ◌⊎◌, length, take, drop, get_or, leb, ltb, Ok}
 use Rattle.std.proofs.Common.{arith, sym, ap, ◌∙◌, inl, inr, ⊎_elim, length-append, leb-true}
 use Rattle.std.proofs.Math.Seq.{paste, take-append_seam, take-length}
-use Rattle.scan.specs.declared.Checked.{Checked}
-use Rattle.scan.specs.declared.Checked.TheVariants.{Left}
 use Rattle.eb3.specs.Reading.{Read, refused, taken, Reader, pick, giving, then, both, number_of, count_of, repeat, counted}
 use Rattle.eb3.specs.RuleReading.{read_domains}
-use Rattle.scan.specs.Checking.{checked, last_of}
+use Rattle.scan.specs.Checking.{checked, last_of, Checked}
 use Rattle.scan.specs.Laws.{Ends, Fine, tail_at, number_ends}
 use Rattle.scan.specs.RowLaws.{counted_ends, count_ends}
 use Rattle.arguments.specs.Tables.{row}
@@ -79,7 +77,7 @@ pub record RowAt (hi : ℕ) (t : List ℕ) (c : Read (List ℕ)) (m : ℕ) : Typ
   pub few : length (row t 0) ≡ get_or t 0 0
   pub place : (at : ℕ) (T : List ℕ) → paste T at t (get_or t 0 0 + 1) ≡ put_row at (row t 0) T
 
-row_from : (hi m : ℕ) (t : List ℕ) (c r : Read (List ℕ)) → c ≡ r → Fine t r → Row hi t r → Left m ≡ checked r → RowAt hi t c m
+row_from : (hi m : ℕ) (t : List ℕ) (c r : Read (List ℕ)) → c ≡ r → Fine t r → Row hi t r → Ok m ≡ checked r → RowAt hi t c m
 unfolding checked row put_row
 row_from hi m t c (refused j) is f h e = absurd (let z : ◌≡◌ {A = ℕ} 0 1 = cc in omega arith)
 row_from hi m t c (taken l u) is f h e =
@@ -100,13 +98,13 @@ row_from hi m t c (taken l u) is f h e =
       place = λ at T. ap (λ x. paste T at t x) g1 ∙ ap (λ x. take at T ++ x ++ drop (at + suc (length l)) T) (tk ∙ sym tl) ∙ ap (λ x. put_row at x T) (sym q);
     }
 
-pub row_read : (lo hi : ℕ) (f : Reader ℕ) → One f → Ends f → (m : ℕ) (t : List ℕ) (p : Checked) → p ≡ checked (counted lo hi f t) → p ≡ Left m → RowAt hi t (counted lo hi f t) m
+pub row_read : (lo hi : ℕ) (f : Reader ℕ) → One f → Ends f → (m : ℕ) (t : List ℕ) (p : Checked) → p ≡ checked (counted lo hi f t) → p ≡ Ok m → RowAt hi t (counted lo hi f t) m
 row_read lo hi f o d m t p e h = row_from hi m t (counted lo hi f t) (counted lo hi f t) refl (counted_ends lo hi f d t) (row_any lo hi f o t) (sym h ∙ e)
 
 -- The domains of a label or a process.
-pub numbers_row : (lo hi k d m : ℕ) (t : List ℕ) (p : Checked) → p ≡ checked (counted lo hi (number_of k d) t) → p ≡ Left m → RowAt hi t (counted lo hi (number_of k d) t) m
+pub numbers_row : (lo hi k d m : ℕ) (t : List ℕ) (p : Checked) → p ≡ checked (counted lo hi (number_of k d) t) → p ≡ Ok m → RowAt hi t (counted lo hi (number_of k d) t) m
 numbers_row lo hi k d = row_read lo hi (number_of k d) (one_number k d) (number_ends k d)
 
 -- The sizes of all domains.
-pub domains_row : (m : ℕ) (t : List ℕ) (p : Checked) → p ≡ checked (read_domains t) → p ≡ Left m → RowAt 16 t (read_domains t) m
+pub domains_row : (m : ℕ) (t : List ℕ) (p : Checked) → p ≡ checked (read_domains t) → p ≡ Ok m → RowAt 16 t (read_domains t) m
 domains_row = row_read 1 16 (count_of 1 64) (one_count 1 64) (count_ends 1 64)

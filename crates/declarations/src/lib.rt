@@ -12,21 +12,16 @@ ghost use Rattle.declarations.specs.Entering.{Entered, CellsBound};
 ghost use Rattle.declarations.specs.Directory.{row_width};
 ghost use Rattle.declarations.specs.Noting.{LabelsNoted, ExpressionsNoted, FunctionNoted, FunctionsNoted};
 
-use arguments::{entry, low32, row_at, size_of, wide32};
+use arguments::{entry, row_at, size_of};
 use grammar::{Scope, check_data};
-use scan::{Checked, count, first, last, number, wide};
+use refusals::Refusal;
+use scan::{count, first, last, number};
 
-// How many words are left behind some functions, and how many cells they have; or the number of a refusal.
+// How many words are left after some functions, and how many cells they have.
 #[derive(Clone, Copy)]
-pub enum Counted {
-    Cells(usize, usize),
-    Refused(u8),
-}
-
-fn word32(x: u16) -> u32
-    ensures { result ≡ x }
-{
-    x as u32
+pub struct Counted {
+    pub left: usize,
+    pub cells: usize,
 }
 
 // The first n words of s, from the place at on.
@@ -34,85 +29,70 @@ pub fn copy(tb: &mut [u32], at: usize, s: &[u16], n: usize)
     requires { (at + n ≤ length tb.old) × (n ≤ length s.now) }
     ensures { tb.new ≡ paste tb.old at s.now n }
 {
-    let mut i = 0;
-    while i < n {
-        tb[at + i] = word32(s[i]);
-        i = i + 1;
+    for i in 0..n {
+        tb[at + i] = s[i] as u32;
     }
 }
 
 // ── domains ──
 
 // n sizes of domains.
-fn sizes(t: &[u16], n: usize) -> Checked
+fn sizes(t: &[u16], n: usize) -> Result<usize, Refusal>
     ensures { result ≡ checked (repeat n (count_of 1 64) t.now) }
 {
     let mut left = t.len();
-    let mut i = 0;
-    while i < n {
-        match count(last(t, left), 1, 64) {
-            Checked::Left(m) => {
-                left = m;
-            }
-            Checked::Refused(k) => {
-                return Checked::Refused(k);
-            }
-        }
-        i = i + 1;
+    for _ in 0..n {
+        left = count(last(t, left), 1, 64)?;
     }
-    Checked::Left(left)
+    Ok(left)
 }
 
-pub fn check_domains(t: &[u16]) -> Checked
+pub fn check_domains(t: &[u16]) -> Result<usize, Refusal>
     ensures { result ≡ checked (read_domains t.now) }
 {
-    match count(t, 1, 16) {
-        Checked::Left(m) => sizes(last(t, m), first(t)),
-        Checked::Refused(k) => Checked::Refused(k),
-    }
+    let m = count(t, 1, 16)?;
+    sizes(last(t, m), first(t))
 }
 
 // ── labels ──
 
 // n numbers of domains, each below d.
-fn numbers(t: &[u16], n: usize, d: usize) -> Checked
+fn numbers(t: &[u16], n: usize, d: usize) -> Result<usize, Refusal>
     ensures { result ≡ checked (repeat n (number_of 5 d) t.now) }
 {
     if n == 0 {
-        return Checked::Left(t.len());
+        return Ok(t.len());
     }
-    match number(t, 5, d) {
-        Checked::Left(m) => numbers(last(t, m), n - 1, d),
-        Checked::Refused(k) => Checked::Refused(k),
-    }
+    let m = number(t, Refusal::Reference, d)?;
+    numbers(last(t, m), n - 1, d)
 }
 
 // The parameters of a label or a process: a count up to hi, and that many numbers of domains.
-pub fn parameters(t: &[u16], hi: usize, d: usize) -> Checked
+pub fn parameters(t: &[u16], hi: usize, d: usize) -> Result<usize, Refusal>
     ensures { result ≡ checked (counted 0 hi (number_of 5 d) t.now) }
 {
-    match count(t, 0, hi) {
-        Checked::Left(m) => numbers(last(t, m), first(t), d),
-        Checked::Refused(k) => Checked::Refused(k),
-    }
+    let m = count(t, 0, hi)?;
+    numbers(last(t, m), first(t), d)
 }
 
 // n labels, entered from the place at on.
-pub fn enter_labels(t: &[u16], tb: &mut [u32], n: usize, at: usize, d: usize) -> Checked
+pub fn enter_labels(
+    t: &[u16],
+    tb: &mut [u32],
+    n: usize,
+    at: usize,
+    d: usize,
+) -> Result<usize, Refusal>
     requires { at + 3 * n ≤ length tb.old }
     ensures { Entered t.now tb.old n at d result tb.new }
 {
     if n == 0 {
-        return Checked::Left(t.len());
+        return Ok(t.len());
     }
-    match parameters(t, 2, d) {
-        Checked::Left(m) => {
-            let k = first(t) + 1;
-            copy(tb, at, t, k);
-            enter_labels(last(t, m), tb, n - 1, at + 3, d)
-        }
-        Checked::Refused(k) => Checked::Refused(k),
-    }
+    let m = parameters(t, 2, d)?;
+    let k = first(t) + 1;
+    copy(tb, at, t, k);
+    enter_labels(last(t, m), tb, n - 1, at + 3, d)
 }
 
 // ── functions ──
@@ -123,40 +103,46 @@ fn note(dir: &mut [u32], at: usize, x: usize)
     ensures { dir.new ≡ set dir.old at (x % 4294967296) }
 {
     if at < dir.len() {
-        dir[at] = low32(x);
+        dir[at] = (x % 4294967296) as u32;
         return;
     }
 }
 
 // The expressions of function i of n for the first k labels, noted from the place at on.
-fn later(t: &[u16], tb: &[u32], dir: &mut [u32], n: usize, i: usize, k: usize, at: usize) -> Checked
+fn later(
+    t: &[u16],
+    tb: &[u32],
+    dir: &mut [u32],
+    n: usize,
+    i: usize,
+    k: usize,
+    at: usize,
+) -> Result<usize, Refusal>
     requires { (k < 65536) × (at < 4294967296) }
     ensures { LabelsNoted tb.now n i k t.now dir.old at result dir.new }
 {
     let mut left = t.len();
-    let mut l = 0;
-    while l < k {
+    for l in 0..k {
         note(dir, at + l, left);
         let c = Scope {
             variables: 1 + row_at(tb, 18 + 3 * l).len(),
             now: i,
             before: n,
         };
-        match check_data(last(t, left), c) {
-            Checked::Left(m) => {
-                left = m;
-            }
-            Checked::Refused(j) => {
-                return Checked::Refused(j);
-            }
-        }
-        l = l + 1;
+        left = check_data(last(t, left), c)?;
     }
-    Checked::Left(left)
+    Ok(left)
 }
 
 // The expression of function i of n for the empty trace, and those for the labels, noted from the place at on.
-fn expressions(t: &[u16], tb: &[u32], dir: &mut [u32], n: usize, i: usize, at: usize) -> Checked
+fn expressions(
+    t: &[u16],
+    tb: &[u32],
+    dir: &mut [u32],
+    n: usize,
+    i: usize,
+    at: usize,
+) -> Result<usize, Refusal>
     requires { (get_or tb.now 17 0 ≤ 64) × (at < 4294967000) }
     ensures { ExpressionsNoted tb.now n i t.now dir.old at result dir.new }
 {
@@ -166,10 +152,8 @@ fn expressions(t: &[u16], tb: &[u32], dir: &mut [u32], n: usize, i: usize, at: u
         now: i,
         before: 0,
     };
-    match check_data(t, c) {
-        Checked::Left(m) => later(last(t, m), tb, dir, n, i, wide32(entry(tb, 17)), at + 1),
-        Checked::Refused(j) => Checked::Refused(j),
-    }
+    let m = check_data(t, c)?;
+    later(last(t, m), tb, dir, n, i, entry(tb, 17) as usize, at + 1)
 }
 
 // One function, and its row of the directory from the place at on: its parameter's domain, whose elements are its cells,
@@ -182,23 +166,17 @@ fn function(
     i: usize,
     at: usize,
     begin: usize,
-) -> Counted
+) -> Result<Counted, Refusal>
     requires { (get_or tb.now 17 0 ≤ 64) × (at < 4294966000) }
     ensures { FunctionNoted tb.now n i t.now dir.old at begin result dir.new × CellsBound result 1 }
 {
-    match number(t, 5, wide32(entry(tb, 0))) {
-        Checked::Left(m) => {
-            let d = first(t);
-            let c = size_of(tb, d);
-            note(dir, at, c);
-            note(dir, at + 1, begin);
-            match expressions(last(t, m), tb, dir, n, i, at + 2) {
-                Checked::Left(k) => Counted::Cells(k, c),
-                Checked::Refused(j) => Counted::Refused(j),
-            }
-        }
-        Checked::Refused(j) => Counted::Refused(j),
-    }
+    let m = number(t, Refusal::Reference, entry(tb, 0) as usize)?;
+    let d = first(t);
+    let c = size_of(tb, d);
+    note(dir, at, c);
+    note(dir, at + 1, begin);
+    let left = expressions(last(t, m), tb, dir, n, i, at + 2)?;
+    Ok(Counted { left, cells: c })
 }
 
 // Where function i's row begins in the directory.
@@ -206,7 +184,7 @@ fn row_place(tb: &[u32], i: usize) -> usize
     requires { (i < 65536) × (get_or tb.now 17 0 ≤ 64) }
     ensures { (result ≡ row_width (get_or tb.now 17 0) * i) × (result ≤ 4390912) }
 {
-    (3 + wide32(entry(tb, 17))) * i
+    (3 + entry(tb, 17) as usize) * i
 }
 
 // k functions of n, from function i on, whose cells begin at begin.
@@ -218,18 +196,21 @@ pub fn functions(
     k: usize,
     i: usize,
     begin: usize,
-) -> Counted
+) -> Result<Counted, Refusal>
     requires { (k + i < 65536) × (get_or tb.now 17 0 ≤ 64) × (begin ≤ i * 4294967296) }
     ensures { FunctionsNoted tb.now n k i t.now dir.old begin result dir.new × CellsBound result k }
 {
     if k == 0 {
-        return Counted::Cells(t.len(), 0);
+        return Ok(Counted {
+            left: t.len(),
+            cells: 0,
+        });
     }
-    match function(t, tb, dir, n, i, row_place(tb, i), begin) {
-        Counted::Cells(m, c) => match functions(last(t, m), tb, dir, n, k - 1, i + 1, begin + c) {
-            Counted::Cells(l, d) => Counted::Cells(l, c + d),
-            Counted::Refused(j) => Counted::Refused(j),
-        },
-        Counted::Refused(j) => Counted::Refused(j),
-    }
+    let one = function(t, tb, dir, n, i, row_place(tb, i), begin)?;
+    let u = last(t, one.left);
+    let others = functions(u, tb, dir, n, k - 1, i + 1, begin + one.cells)?;
+    Ok(Counted {
+        left: others.left,
+        cells: one.cells + others.cells,
+    })
 }

@@ -1,12 +1,11 @@
 -- Answers of the search for a path, put together and taken apart.
-use mathlib.Core.Path.{◌≡◌, refl, sym, ap, ◌∙◌}
-use mathlib.Core.List.{List, [], ◌∷◌, ◌++◌}
-use Prim.Native.Nat.{ℕ, suc, ◌+◌, ◌-◌, ◌≤◌, ◌<◌}
+use mathlib.Core.Path.{◌≡◌, sym, ap, ◌∙◌, subst}
+use mathlib.Core.List.{List, [], ◌++◌}
+use Prim.Native.Nat.{ℕ, ◌+◌, ◌-◌, ◌≤◌, ◌<◌}
 use native.Mathlib.Nat.{le_refl}
-use native.Mathlib.Numerals.{add-one}
 use native.Mathlib.Omega.{arith}
-use lib.ListN.{length, take, drop, set, length-set}
-use lib.Seq.{set_split, drop_at, drop-length, length-take-le}
+use lib.ListN.{length, drop}
+use lib.Seq.{drop-length}
 use Rattle.eb3.specs.Scopes.{Scope}
 use Rattle.eb3.specs.Terms.{Term}
 use Rattle.eb3.specs.Sizes.{size}
@@ -18,51 +17,6 @@ use Rattle.derivation.specs.Derived.{passed, full, shown_count, DerivedShown}
 use Rattle.derivation.specs.Arms.{Sound, Outcome, Decided}
 use Rattle.derivation.specs.AnswerLaws.{by_order, never_full, place_room}
 use Rattle.listing.specs.Operands.{answer_is}
-
--- ── a decision ──
-
-pub decided-kept : (o : List ℕ) (r : ℕ) (entry : List ℕ) → r ≤ full → passed ≤ r → Decided o r entry entry r
-decided-kept o r entry b h = record { same_length = refl; bounded = b; kept = λ k. refl; lost = λ l k. absurd (omega arith); wrote = λ l k. absurd (omega arith) }
-
-pub decided-lost : (c r : ℕ) (entry : List ℕ) → r < passed → r ≡ 0 → Decided (c ∷ []) r entry entry full
-decided-lost c r entry b h = record { same_length = refl; bounded = le_refl full; kept = λ k. absurd (omega arith); lost = λ l k. omega arith; wrote = λ l k. absurd (omega (arith, k)) }
-
-drop-set : (n c : ℕ) (x : List ℕ) → n < length x → drop n (set x n c) ≡ c ∷ drop (n + 1) x
-drop-set n c x h = rw add-one (ap (drop n) (set_split x n c h) ∙ drop_at (take n x) (c ∷ drop (suc n) x) n (length-take-le n x (omega arith)))
-
-pub decided-made : (c r : ℕ) (entry : List ℕ) → r < passed → (r ≡ 0 → ⊥) → r ≤ length entry → Decided (c ∷ []) r entry (set entry (r - 1) c) (r - 1)
-decided-made c r entry b h l = record {
-  same_length = length-set entry (r - 1) c;
-  bounded = omega arith;
-  kept = λ k. absurd (omega arith);
-  lost = λ y k. absurd (omega arith);
-  wrote = λ y k.
-      let e : r - 1 + 1 ≡ r = omega arith in
-      (e, drop-set (r - 1) c entry (omega arith) ∙ ap (λ n. c ∷ drop n entry) e);
-}
-
--- ── the whole ──
-
--- the left operand's size, and the decision in front of it
-pub decided-twice : {c n r q p : ℕ} {entry mid exit : List ℕ} → Decided (n ∷ []) r entry mid q → Decided (c ∷ []) q mid exit p → Decided (c ∷ n ∷ []) r entry exit p
-decided-twice {c} {n} {r} {q} {p} {entry} {mid} {exit} f g = record {
-  same_length = g.same_length ∙ f.same_length;
-  bounded = g.bounded;
-  kept = λ k. g.kept (omega (arith, f.kept k)) ∙ f.kept k;
-  lost = λ l k. by_order q passed (λ y. omega (arith, g.lost y k, (f.wrote l (omega arith)).0)) (λ y. omega (arith, f.lost l (omega (arith, g.kept y))));
-  wrote = λ l k.
-      by_order q passed
-      (λ y.
-      let a = f.wrote l (omega arith) in
-      let b = g.wrote y k in
-      (omega (arith, a.0, b.0), b.1 ∙ ap (λ x. c ∷ x) a.1))
-      (λ y. absurd (omega (arith, g.kept y, (f.wrote l (omega (arith, g.kept y))).0)));
-}
-
--- the place of a decision lies in the array
-pub placed_on : {c r q : ℕ} {entry mid : List ℕ} → Decided (c ∷ []) r entry mid q → (r < passed → r ≤ length entry) → q < passed → q ≤ length mid
-placed_on {c} {r} {q} {entry} {mid} f g z =
-    by_order r passed (λ y. omega (arith, (f.wrote y (omega arith)).0, g y, f.same_length)) (λ y. absurd (omega (arith, f.kept y)))
 
 pub sound_lost : (n k l : ℕ) → Sound n k l full
 sound_lost n k l = record { bounded = le_refl full; place_bounded = λ z. absurd (omega (arith, z)); passed_bounded = λ y z. never_full z }
@@ -102,6 +56,10 @@ derived_of h f = record {
 pub outcome_of : {x : ℕ} {s M : List ℕ} {k : ℕ} {entry exit : List ℕ} {n r : ℕ} → DerivedShown x s M k entry exit n r → (P : Scope) (E : Term) (rest : List ℕ) → TermAt s P E rest → r < full
     → Outcome (shown_count x M E) (path x (holding M) E k) (length rest) k exit r
 outcome_of h P E rest t z = record { found = h.found P E rest t z; none_found = h.none_found P E rest t z }
+
+-- of a store that is the same
+pub at_store : {x : ℕ} {s M N : List ℕ} {k : ℕ} {entry exit : List ℕ} {n r : ℕ} → N ≡ M → DerivedShown x s N k entry exit n r → DerivedShown x s M k entry exit n r
+at_store {x} {s} {M} {N} {k} {entry} {exit} {n} {r} e h = subst (λ m. DerivedShown x s m k entry exit n r) e h
 
 -- ── outcomes ──
 

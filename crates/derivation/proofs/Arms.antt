@@ -87,13 +87,6 @@ perform_derived x t M entry k n r le h = derived_of (sound_more (length (21 ∷ 
 -- ── two operands ──
 
 module _ (x c : ℕ) (t M : List ℕ) (k : ℕ) (entry mid : List ℕ) (n l : ℕ) (first : DerivedShown x t M k entry mid n l) (same : length mid ≡ length entry) (short : length t ≤ 65535) (small : k < 131072) where
-  pub two_lost : full ≤ l → TwoDerived x c t M k entry mid n full
-  two_lost f = record {
-    sound = sound_lost (length t) k (length entry);
-    has_room = λ P E F rest s a b. absurd (omega (arith, f, first.has_room P E (words 1 F ++ rest) s.first (omega (arith, a)) (omega (arith, b))));
-    right = λ P E F rest s z. never_full z;
-  }
-
   pub two_left : l < passed → (exit : List ℕ) (q : ℕ) → Decided (c ∷ []) l mid exit q → TwoDerived x c t M k entry exit n q
   two_left f exit q h = record {
     sound = decided_sound h (length entry) (sound_of first);

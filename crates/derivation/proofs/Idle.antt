@@ -21,8 +21,8 @@ use Rattle.paths.specs.Paths.{path, idle}
 use Rattle.derivation.specs.Derived.{passed, full, DerivedShown}
 use Rattle.derivation.specs.Arms.{Decided, RightDerived, LeftDerived, listed_path, ListedDerived, masked_path, MaskedDerived}
 use Rattle.derivation.specs.FitLaws.{before_second}
-use Rattle.derivation.specs.AnswerLaws.{never_full, before_full, decided_room}
-use Rattle.derivation.proofs.Answers.{sound_lost, sound_more, sound_of, outcome_of, outcome_as, outcome_place, outcome_early, decided_sound, decided_outcome, derived_room}
+use Rattle.derivation.specs.AnswerLaws.{before_full, decided_room}
+use Rattle.derivation.proofs.Answers.{sound_more, sound_of, outcome_of, outcome_as, outcome_place, outcome_early, decided_sound, decided_outcome, derived_room}
 use Rattle.derivation.proofs.Arms.{behind_sound, behind_low, behind_outcome}
 use Rattle.derivation.proofs.Counts.{both_right, both_left}
 
@@ -50,13 +50,6 @@ right_derived y t u M k entry mid exit n b r q skipped isu walked same h = recor
 -- ── the left moves ──
 
 module _ (y : ℕ) (t M : List ℕ) (k : ℕ) (entry mid : List ℕ) (n l : ℕ) (walked : DerivedShown y t M k entry mid n l) where
-  pub left_lost : full ≤ l → LeftDerived y t M k entry mid n full
-  left_lost f = record {
-    sound = sound_lost (length t) k (length entry);
-    has_room = λ P E F rest s v w. absurd (omega (arith, f, walked.has_room P E (words 1 F ++ rest) s.first (omega (arith, v)) (omega (arith, w))));
-    right = λ P E F rest s z. never_full z;
-  }
-
   pub left_found : length mid ≡ length entry → l < passed → (exit : List ℕ) (q : ℕ) → Decided (1 ∷ []) l mid exit q → LeftDerived y t M k entry exit n q
   left_found same f exit q h = record {
     sound = decided_sound h (length entry) (sound_of walked);

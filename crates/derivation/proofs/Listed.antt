@@ -4,7 +4,7 @@ use mathlib.Core.List.{List, ◌++◌}
 use Prim.Native.Nat.{ℕ, ◌+◌, ◌-◌, ◌/◌, ◌%◌, ◌≤◌, ◌<◌}
 use native.Mathlib.Omega.{arith}
 use lib.ListN.{length, take, drop, length-append, length-drop}
-use lib.Seq.{take_at, drop_at, take-append-add, length-take-le, slice}
+use lib.Seq.{take_at, drop_at, length-take-le}
 use Rattle.eb3.specs.Scopes.{Scope}
 use Rattle.eb3.specs.Terms.{Term}
 use Rattle.eb3.specs.Spelling.{words}
@@ -28,13 +28,6 @@ lent_few {t} {M} {acts} {mid} {l} h k = omega (arith, lent_len mid (l / 65536), 
 
 -- l is the answer of the left's list, r that of the right's behind it
 module _ (t M acts mid : List ℕ) (l : ℕ) (first : Listed t M acts mid l) (short : length t ≤ 65535) where
-  pub listed_lost_first : (x δ k : ℕ) (entry : List ℕ) → passed ≤ l → ListedDerived x δ t M k entry entry (length acts) full
-  listed_lost_first x δ k entry f = record {
-    sound = sound_lost (length t) k (length entry);
-    has_room = λ P E F rest s a b. absurd (omega (arith, f, first.has_room P E (words 1 F ++ rest) s.first (omega (arith, b))));
-    right = λ P E F rest s z. never_full z;
-  }
-
   module _ (ok : l < passed) where
     first_fits : l / 65536 ≤ length mid
     first_fits = omega (arith, first.count_bounded ok, first.same_length)
@@ -86,15 +79,10 @@ module _ (t M acts mid : List ℕ) (l : ℕ) (first : Listed t M acts mid l) (sh
         right = λ P E F rest s z. never_full z;
       }
 
-      module _ (z : r < passed) where
-        pub listed_fits : l / 65536 + r / 65536 ≤ length whole
-        listed_fits = omega (arith, second.count_bounded z, length-drop (l / 65536) mid, first.same_length, first_fits, whole_length)
-
-        abbrev xs : List ℕ
-        xs = slice 0 (l / 65536) whole
-
+      -- the scratch array in two: the left's numbers, and the right's with what was free behind them
+      module _ (z : r < passed) (xs free : List ℕ) (isx : xs ≡ take (l / 65536) whole) (isf : free ≡ drop (l / 65536) whole) where
         abbrev ys : List ℕ
-        ys = slice (l / 65536) (l / 65536 + r / 65536) whole
+        ys = take (r / 65536) free
 
         module _ (P : Scope) (E F : Term) (rest : List ℕ) (s : TwoAt t P E F rest) where
           abbrev cE : List ℕ
@@ -119,13 +107,13 @@ module _ (t M acts mid : List ℕ) (l : ℕ) (first : Listed t M acts mid l) (sh
           front_is = whole_is ∙ ap (λ x. x ++ back) (first_listed P E F rest s)
 
           left_is : xs ≡ cE
-          left_is = ap (take (l / 65536)) front_is ∙ take_at cE back (l / 65536) (sym (first_count P E F rest s))
+          left_is = isx ∙ ap (take (l / 65536)) front_is ∙ take_at cE back (l / 65536) (sym (first_count P E F rest s))
 
           right_is : ys ≡ cF
           right_is =
-              (λ i. drop (first_count P E F rest s i) (take (first_count P E F rest s i + second_count i) (front_is i)))
-              ∙ ap (drop (length cE)) (take-append-add cE back (length cF) ∙ ap (λ x. cE ++ x) second_right.listed)
-              ∙ drop_at cE cF (length cE) refl
+              ap (take (r / 65536)) (isf ∙ (λ i. drop (first_count P E F rest s i) (front_is i)) ∙ drop_at cE back (length cE) refl)
+              ∙ ap (λ n. take n back) second_count
+              ∙ second_right.listed
 
           count_is : (x δ : ℕ) → length (shown_combined x δ xs ys) ≡ combined_count x δ M E F
           count_is x δ = λ i. length (shown_combined x δ (left_is i) (right_is i))

@@ -7,7 +7,6 @@ use native.Mathlib.Omega.{arith}
 use lib.Bits.{bit_or}
 use lib.Dec.{ltb}
 use lib.ListN.{length, length-append}
-use lib.Seq.{slice, length-slice}
 use borrow.Author.Tests.{lt-ltb, le-ltb}
 use Rattle.eb3.specs.Generic.Lists.{filter}
 use Rattle.actions.specs.Sets.{in_set}
@@ -33,9 +32,6 @@ sides_right x h l = later x h ∙ ap (λ b. cond b (right_alone (x - 131072)) (t
 
 pub sides_both : (x : ℕ) → 262144 ≤ x → sides_of x ≡ together ((x - 262144) / 131072) ((x - 262144) % 131072)
 sides_both x h = later x (omega arith) ∙ ap (λ b. cond b (right_alone (x - 131072)) (together ((x - 262144) / 131072) ((x - 262144) % 131072))) (le-ltb x 262144 h)
-
-pub few_slice : (from to : ℕ) (x : List ℕ) → to ≤ length x → length x ≤ 131072 → length (slice from to x) ≤ 131072
-few_slice from to x h l = omega (arith, length-slice from to x h)
 
 -- ── the sides ──
 

@@ -50,13 +50,6 @@ module _ (q : ℕ → Bool) where
   pub place_limit : (i : ℕ) (xs : List ℕ) (k : ℕ) → i + length xs ≤ passed → nth_place q i xs k ≤ passed + k
   place_limit i xs k h = within (placed i xs k) h
 
-  below : {i size count k r : ℕ} {s : Sought} → Placed i size count k r s → r < passed → r < i + size
-  below (here j e l f g) h = omega arith
-  below (past j e f g) h = absurd (omega arith)
-
-  pub place_below : (i : ℕ) (xs : List ℕ) (k : ℕ) → nth_place q i xs k < passed → nth_place q i xs k < i + length xs
-  place_below i xs k h = below (placed i xs k) h
-
 -- ── pairs ──
 
 length_either : (b : Bool) (x y : ℕ) (o u : List ℕ) → length o ≡ length u → length (cond b (x ∷ o) o) ≡ length (cond b (y ∷ u) u)

@@ -38,9 +38,6 @@ module _ (t u M : List ℕ) (i j : ℕ) (entry mid : List ℕ) (n q : ℕ) (righ
     front_is : length (take q mid) ≡ q
     front_is = length-take-le q mid place_in
 
-    pub front_few : length entry ≤ 65535 → length (take q mid) ≤ 65535
-    front_few h = omega (arith, front_is, place_in, same)
-
     module _ (P : Scope) (F : Term) (rest : List ℕ) (y : TermAt u P F rest) (jF : j < shown_count 0 M F) where
       right_path : drop q mid ≡ path 0 (holding M) F j
       right_path = (right.found P F rest y (omega arith) jF).1

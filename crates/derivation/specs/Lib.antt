@@ -5,3 +5,4 @@ pub mod Searching
 pub mod Arms
 pub mod FitLaws
 pub mod AnswerLaws
+pub mod Lending

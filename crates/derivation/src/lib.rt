@@ -4,15 +4,18 @@
 ghost use Rattle.std.specs.Prelude.{◌≡◌, ◌+◌, ◌-◌, ◌≤◌, ◌<◌, [], ◌∷◌, length};
 ghost use Rattle.expressions.specs.Answering.{answer};
 ghost use Rattle.derivation.specs.Derived.{passed, full, Derived, DerivedShown};
+ghost use Rattle.derivation.specs.Lending.{Kept, Over};
 ghost use Rattle.derivation.specs.Searching.{sides_end};
 ghost use Rattle.derivation.specs.Arms.{Decided, ActionDerived, TwoDerived, RightDerived, LeftDerived, ListedDerived, MaskedDerived, SidesDerived, BothDerived};
 
 use actions::{behind_action, code_at, in_set, join, mask_set};
+use arrays::Arrays;
 use expressions::eval_cond;
 use listing::{behind_mask, both_done, idle, list, skip};
 use scan::{behind, first, last};
 use searching::{BOTH, PASSED, RIGHT, locate};
 
+mod arrays;
 mod searching;
 
 // ── answers ──
@@ -90,271 +93,247 @@ pub fn derive(s: &[u16], m: &[u16], k: usize, path: &mut [u16], acts: &mut [u32]
     requires { (length s.now ≤ 65535) × (k < 65536) × (length path.old ≤ 65535) × (length acts.old ≤ 131072) }
     ensures { (length path.new ≡ length path.old) × Derived s.now m.now k path.old path.new (length acts.old) result }
 {
-    walk(s, m, 0, k, path, acts)
+    derive_lent(s, m, k, path, acts)
 }
 
-// The same for every k that is a place in acts, since a side of a parallel may have so many moves, and of the moves that show below masks that hide
-// the labels of x: so nothing need be listed where masks within one another leave one side's moves only.
-#[cycle(derive_both_derive_guard_derive_left_derive_listed_derive_masked_derive_parallel_derive_right_derive_sequence_derive_sides_derive_star_derive_two_walk)]
-fn walk(s: &[u16], m: &[u16], x: u64, k: usize, path: &mut [u16], acts: &mut [u32]) -> usize
+// The same over arrays that are lent one by one, as the part of a path array that is left free; and for every k that is a place in acts, since a side
+// of a parallel may have so many moves.
+#[cycle(deriving)]
+fn derive_lent(s: &[u16], store: &[u16], k: usize, path: &mut [u16], acts: &mut [u32]) -> usize
     requires { (length s.now ≤ 65535) × (k < 131072) × (length path.old ≤ 65535) × (length acts.old ≤ 131072) }
-    ensures { DerivedShown x s.now m.now k path.old path.new (length acts.old) result }
+    ensures { DerivedShown 0 s.now store.now k path.old path.new (length acts.old) result }
 {
-    let w = first(s);
-    let t = behind(s);
-    match w {
-        20 => single(k, t.len(), path.len()),
-        21 => derive_action(t, x, k, path.len()),
-        22 => derive_sequence(t, m, x, k, path, acts),
-        23 => derive_two(t, m, x, k, 0, path, acts),
-        24 => derive_star(t, m, x, k, path, acts),
-        25 => derive_parallel(t, m, x, k, path, acts),
-        26 => derive_guard(t, m, x, k, path, acts),
-        _ => passing(k, t.len()),
-    }
+    let mut arrays = Arrays { store, path, acts };
+    arrays.walk(s, 0, k)
 }
 
-// The left term's path, or the right's where the left is done.
-#[cycle(derive_both_derive_guard_derive_left_derive_listed_derive_masked_derive_parallel_derive_right_derive_sequence_derive_sides_derive_star_derive_two_walk)]
-fn derive_sequence(
-    t: &[u16],
-    m: &[u16],
-    x: u64,
-    k: usize,
-    path: &mut [u16],
-    acts: &mut [u32],
-) -> usize
-    requires { (length t.now ≤ 65535) × (k < 131072) × (length path.old ≤ 65535) × (length acts.old ≤ 131072) }
-    ensures { DerivedShown x (22 ∷ t.now) m.now k path.old path.new (length acts.old) result }
-{
-    if first(t) == 30 {
-        return walk(behind(t), m, x, k, path, acts);
+impl Arrays<'_> {
+    // The path of move k, of those that show below masks that hide the labels of x: so nothing need be listed where masks within one another leave one
+    // side's moves only.
+    #[cycle(deriving)]
+    fn walk(&mut self, s: &[u16], x: u64, k: usize) -> usize
+        requires { (length s.now ≤ 65535) × (k < 131072) }
+        ensures kept { Kept self.old self.new }
+        ensures derived { Over (DerivedShown x s.now) k self.old self.new result }
+    {
+        let w = first(s);
+        let t = behind(s);
+        match w {
+            20 => single(k, t.len(), self.path.len()),
+            21 => derive_action(t, x, k, self.path.len()),
+            22 => self.derive_sequence(t, x, k),
+            23 => self.derive_two(t, x, k, 0),
+            24 => self.derive_star(t, x, k),
+            25 => self.derive_parallel(t, x, k),
+            26 => self.derive_guard(t, x, k),
+            _ => passing(k, t.len()),
+        }
     }
-    let l = walk(t, m, x, k, path, acts);
-    if l < PASSED {
-        return l;
-    }
-    if FULL <= l {
-        return FULL;
-    }
-    let a = l - PASSED;
-    passing(a / 65536, skip(last(t, a % 65536)))
-}
 
-// The path in the first of two terms, or in the second for what the first's moves leave of k.
-#[cycle(derive_both_derive_guard_derive_left_derive_listed_derive_masked_derive_parallel_derive_right_derive_sequence_derive_sides_derive_star_derive_two_walk)]
-fn derive_two(
-    t: &[u16],
-    m: &[u16],
-    x: u64,
-    k: usize,
-    c: u16,
-    path: &mut [u16],
-    acts: &mut [u32],
-) -> usize
-    requires { (length t.now ≤ 65535) × (k < 131072) × (c ≤ 1) × (length path.old ≤ 65535) × (length acts.old ≤ 131072) }
-    ensures { TwoDerived x c t.now m.now k path.old path.new (length acts.old) result }
-{
-    let l = walk(t, m, x, k, path, acts);
-    if l < PASSED {
-        return decide(c, l, path);
+    // The left term's path, or the right's where the left is done.
+    #[cycle(deriving)]
+    fn derive_sequence(&mut self, t: &[u16], x: u64, k: usize) -> usize
+        requires { (length t.now ≤ 65535) × (k < 131072) }
+        ensures kept { Kept self.old self.new }
+        ensures derived { Over (DerivedShown x (22 ∷ t.now)) k self.old self.new result }
+    {
+        if first(t) == 30 {
+            return self.walk(behind(t), x, k);
+        }
+        let l = self.walk(t, x, k);
+        if l < PASSED {
+            return l;
+        }
+        if FULL <= l {
+            return FULL;
+        }
+        let a = l - PASSED;
+        passing(a / 65536, skip(last(t, a % 65536)))
     }
-    if FULL <= l {
-        return FULL;
-    }
-    let a = l - PASSED;
-    let u = last(t, a % 65536);
-    let r = walk(u, m, x, a / 65536, path, acts);
-    decide_right(c + 1, size_before(t, u), r, path)
-}
 
-// The end of a star is its first move, the rounds' moves follow.
-#[cycle(derive_both_derive_guard_derive_left_derive_listed_derive_masked_derive_parallel_derive_right_derive_sequence_derive_sides_derive_star_derive_two_walk)]
-fn derive_star(t: &[u16], m: &[u16], x: u64, k: usize, path: &mut [u16], acts: &mut [u32]) -> usize
-    requires { (length t.now ≤ 65535) × (k < 131072) × (length path.old ≤ 65535) × (length acts.old ≤ 131072) }
-    ensures { DerivedShown x (24 ∷ t.now) m.now k path.old path.new (length acts.old) result }
-{
-    if k == 0 {
-        return decide(0, path.len(), path);
+    // The path in the first of two terms, or in the second for what the first's moves leave of k. In front stands c for the first, c + 1 for the
+    // second: of a choice these are 0 and 1, of a parallel 1 and 2.
+    // Stays: c is the word that is written, so that an enum of the two forms would only be turned back into it.
+    #[cycle(deriving)]
+    fn derive_two(&mut self, t: &[u16], x: u64, k: usize, c: u16) -> usize
+        requires { (length t.now ≤ 65535) × (k < 131072) × (c ≤ 1) }
+        ensures kept { Kept self.old self.new }
+        ensures derived { Over (TwoDerived x c t.now) k self.old self.new result }
+    {
+        let l = self.walk(t, x, k);
+        if l < PASSED {
+            return decide(c, l, self.path);
+        }
+        if FULL <= l {
+            return FULL;
+        }
+        let a = l - PASSED;
+        let u = last(t, a % 65536);
+        let r = self.walk(u, x, a / 65536);
+        decide_right(c + 1, size_before(t, u), r, self.path)
     }
-    let r = walk(t, m, x, k - 1, path, acts);
-    decide(1, r, path)
-}
 
-// Where the mask hides no more than those above, the moves of both sides that show are those of a choice: none is made by both together.
-#[cycle(derive_both_derive_guard_derive_left_derive_listed_derive_masked_derive_parallel_derive_right_derive_sequence_derive_sides_derive_star_derive_two_walk)]
-fn derive_parallel(
-    d: &[u16],
-    m: &[u16],
-    x: u64,
-    k: usize,
-    path: &mut [u16],
-    acts: &mut [u32],
-) -> usize
-    requires { (length d.now ≤ 65535) × (k < 131072) × (length path.old ≤ 65535) × (length acts.old ≤ 131072) }
-    ensures { DerivedShown x (25 ∷ d.now) m.now k path.old path.new (length acts.old) result }
-{
-    let t = behind_mask(d);
-    if both_done(t) {
-        let v = behind(behind(t));
-        return decide(0, single(k, v.len(), path.len()), path);
+    // The end of a star is its first move, the rounds' moves follow.
+    #[cycle(deriving)]
+    fn derive_star(&mut self, t: &[u16], x: u64, k: usize) -> usize
+        requires { (length t.now ≤ 65535) × (k < 131072) }
+        ensures kept { Kept self.old self.new }
+        ensures derived { Over (DerivedShown x (24 ∷ t.now)) k self.old self.new result }
+    {
+        if k == 0 {
+            return decide(0, self.path.len(), self.path);
+        }
+        let r = self.walk(t, x, k - 1);
+        decide(1, r, self.path)
     }
-    let mask = mask_set(d);
-    if join(x, mask) == x {
-        return derive_two(t, m, x, k, 1, path, acts);
-    }
-    derive_masked(t, m, x, mask, k, path, acts)
-}
 
-// A side that can never move leaves the other's moves that show below this mask too, so that nothing need be listed.
-#[cycle(derive_both_derive_guard_derive_left_derive_listed_derive_masked_derive_parallel_derive_right_derive_sequence_derive_sides_derive_star_derive_two_walk)]
-fn derive_masked(
-    t: &[u16],
-    m: &[u16],
-    x: u64,
-    mask: u64,
-    k: usize,
-    path: &mut [u16],
-    acts: &mut [u32],
-) -> usize
-    requires { (length t.now ≤ 65535) × (k < 131072) × (length path.old ≤ 65535) × (length acts.old ≤ 131072) }
-    ensures { MaskedDerived x mask t.now m.now k path.old path.new (length acts.old) result }
-{
-    if idle(t) {
-        return derive_right(t, m, join(x, mask), k, path, acts);
+    // Where the mask hides no more than those above, the moves of both sides that show are those of a choice: none is made by both together.
+    #[cycle(deriving)]
+    fn derive_parallel(&mut self, d: &[u16], x: u64, k: usize) -> usize
+        requires { (length d.now ≤ 65535) × (k < 131072) }
+        ensures kept { Kept self.old self.new }
+        ensures derived { Over (DerivedShown x (25 ∷ d.now)) k self.old self.new result }
+    {
+        let t = behind_mask(d);
+        if both_done(t) {
+            let v = behind(behind(t));
+            return decide(0, single(k, v.len(), self.path.len()), self.path);
+        }
+        let mask = mask_set(d);
+        if join(x, mask) == x {
+            return self.derive_two(t, x, k, 1);
+        }
+        self.derive_masked(t, x, mask, k)
     }
-    if idle(last(t, skip(t))) {
-        return derive_left(t, m, join(x, mask), k, path, acts);
-    }
-    derive_listed(t, m, x, mask, k, path, acts)
-}
 
-// The path of the right side, which moves alone.
-#[cycle(derive_both_derive_guard_derive_left_derive_listed_derive_masked_derive_parallel_derive_right_derive_sequence_derive_sides_derive_star_derive_two_walk)]
-fn derive_right(t: &[u16], m: &[u16], y: u64, k: usize, path: &mut [u16], acts: &mut [u32]) -> usize
-    requires { (length t.now ≤ 65535) × (k < 131072) × (length path.old ≤ 65535) × (length acts.old ≤ 131072) }
-    ensures { RightDerived y t.now m.now k path.old path.new (length acts.old) result }
-{
-    let u = last(t, skip(t));
-    let r = walk(u, m, y, k, path, acts);
-    decide_right(2, size_before(t, u), r, path)
-}
+    // A side that can never move leaves the other's moves that show below this mask too, so that nothing need be listed.
+    #[cycle(deriving)]
+    fn derive_masked(&mut self, t: &[u16], x: u64, mask: u64, k: usize) -> usize
+        requires { (length t.now ≤ 65535) × (k < 131072) }
+        ensures kept { Kept self.old self.new }
+        ensures derived { Over (MaskedDerived x mask t.now) k self.old self.new result }
+    {
+        if idle(t) {
+            return self.derive_right(t, join(x, mask), k);
+        }
+        if idle(last(t, skip(t))) {
+            return self.derive_left(t, join(x, mask), k);
+        }
+        self.derive_listed(t, x, mask, k)
+    }
 
-// The path of the left side, which moves alone.
-#[cycle(derive_both_derive_guard_derive_left_derive_listed_derive_masked_derive_parallel_derive_right_derive_sequence_derive_sides_derive_star_derive_two_walk)]
-fn derive_left(t: &[u16], m: &[u16], y: u64, k: usize, path: &mut [u16], acts: &mut [u32]) -> usize
-    requires { (length t.now ≤ 65535) × (k < 131072) × (length path.old ≤ 65535) × (length acts.old ≤ 131072) }
-    ensures { LeftDerived y t.now m.now k path.old path.new (length acts.old) result }
-{
-    let l = walk(t, m, y, k, path, acts);
-    if l < PASSED {
-        return decide(1, l, path);
+    // The path of the right side, which moves alone.
+    #[cycle(deriving)]
+    fn derive_right(&mut self, t: &[u16], y: u64, k: usize) -> usize
+        requires { (length t.now ≤ 65535) × (k < 131072) }
+        ensures kept { Kept self.old self.new }
+        ensures derived { Over (RightDerived y t.now) k self.old self.new result }
+    {
+        let u = last(t, skip(t));
+        let r = self.walk(u, y, k);
+        decide_right(2, size_before(t, u), r, self.path)
     }
-    if FULL <= l {
-        return FULL;
-    }
-    let a = l - PASSED;
-    passing(a / 65536, skip(last(t, a % 65536)))
-}
 
-// The sides of the move are found among both sides' moves, listed; then acts is free for the sides.
-#[cycle(derive_both_derive_guard_derive_left_derive_listed_derive_masked_derive_parallel_derive_right_derive_sequence_derive_sides_derive_star_derive_two_walk)]
-fn derive_listed(
-    t: &[u16],
-    m: &[u16],
-    x: u64,
-    mask: u64,
-    k: usize,
-    path: &mut [u16],
-    acts: &mut [u32],
-) -> usize
-    requires { (length t.now ≤ 65535) × (k < 131072) × (length path.old ≤ 65535) × (length acts.old ≤ 131072) }
-    ensures { ListedDerived x mask t.now m.now k path.old path.new (length acts.old) result }
-{
-    let l = list(t, m, acts);
-    if PASSED <= l {
-        return FULL;
+    // The path of the left side, which moves alone.
+    // Stays: it ends as derive_sequence does, but a function for these five lines would have a contract longer than they are.
+    #[cycle(deriving)]
+    fn derive_left(&mut self, t: &[u16], y: u64, k: usize) -> usize
+        requires { (length t.now ≤ 65535) × (k < 131072) }
+        ensures kept { Kept self.old self.new }
+        ensures derived { Over (LeftDerived y t.now) k self.old self.new result }
+    {
+        let l = self.walk(t, y, k);
+        if l < PASSED {
+            return decide(1, l, self.path);
+        }
+        if FULL <= l {
+            return FULL;
+        }
+        let a = l - PASSED;
+        passing(a / 65536, skip(last(t, a % 65536)))
     }
-    let n = l / 65536;
-    let u = last(t, l % 65536);
-    let r = list(u, m, &mut acts[n..]);
-    if PASSED <= r {
-        return FULL;
-    }
-    let z = locate(x, mask, n, n + r / 65536, k, acts);
-    if PASSED <= z {
-        let v = last(u, r % 65536);
-        return passing(z - PASSED, v.len());
-    }
-    derive_sides(t, u, m, z, path, acts)
-}
 
-// The path of the left side, of the right, or of both, of all their moves.
-#[cycle(derive_both_derive_guard_derive_left_derive_listed_derive_masked_derive_parallel_derive_right_derive_sequence_derive_sides_derive_star_derive_two_walk)]
-fn derive_sides(
-    t: &[u16],
-    u: &[u16],
-    m: &[u16],
-    z: usize,
-    path: &mut [u16],
-    acts: &mut [u32],
-) -> usize
-    requires { (length t.now ≤ 65535) × (length u.now ≤ length t.now) × (z < sides_end) × (length path.old ≤ 65535) × (length acts.old ≤ 131072) }
-    ensures { SidesDerived t.now u.now m.now z path.old path.new (length acts.old) result }
-{
-    if z < RIGHT {
-        let l = walk(t, m, 0, z, path, acts);
+    // The sides of the move are found among both sides' moves, listed; then acts is free for the sides.
+    #[cycle(deriving)]
+    fn derive_listed(&mut self, t: &[u16], x: u64, mask: u64, k: usize) -> usize
+        requires { (length t.now ≤ 65535) × (k < 131072) }
+        ensures kept { Kept self.old self.new }
+        ensures derived { Over (ListedDerived x mask t.now) k self.old self.new result }
+    {
+        let l = list(t, self.store, self.acts);
         if PASSED <= l {
             return FULL;
         }
-        return decide(1, l, path);
-    }
-    if z < BOTH {
-        let r = walk(u, m, 0, z - RIGHT, path, acts);
+        let n = l / 65536;
+        let u = last(t, l % 65536);
+        let r = list(u, self.store, &mut self.acts[n..]);
         if PASSED <= r {
             return FULL;
         }
-        return decide_right(2, size_before(t, u), r, path);
+        let (left, rest) = self.acts.split_at(n);
+        let z = locate(x, mask, left, &rest[..r / 65536], k);
+        if PASSED <= z {
+            let v = last(u, r % 65536);
+            return passing(z - PASSED, v.len());
+        }
+        self.derive_sides(t, u, z)
     }
-    let p = z - BOTH;
-    derive_both(t, u, m, p / 131072, p % 131072, path, acts)
-}
 
-// The right side's path at the end, the left's in front of it.
-#[cycle(derive_both_derive_guard_derive_left_derive_listed_derive_masked_derive_parallel_derive_right_derive_sequence_derive_sides_derive_star_derive_two_walk)]
-fn derive_both(
-    t: &[u16],
-    u: &[u16],
-    m: &[u16],
-    i: usize,
-    j: usize,
-    path: &mut [u16],
-    acts: &mut [u32],
-) -> usize
-    requires { (length t.now ≤ 65535) × (length u.now ≤ length t.now) × (i < 131072) × (j < 131072) × (length path.old ≤ 65535) × (length acts.old ≤ 131072) }
-    ensures { BothDerived t.now u.now m.now i j path.old path.new (length acts.old) result }
-{
-    let q = walk(u, m, 0, j, path, acts);
-    if PASSED <= q {
-        return FULL;
+    // The path of the left side, of the right, or of both, of all their moves.
+    #[cycle(deriving)]
+    fn derive_sides(&mut self, t: &[u16], u: &[u16], z: usize) -> usize
+        requires { (length t.now ≤ 65535) × (length u.now ≤ length t.now) × (z < sides_end) }
+        ensures kept { Kept self.old self.new }
+        ensures derived { Over (SidesDerived t.now u.now) z self.old self.new result }
+    {
+        if z < RIGHT {
+            let l = self.walk(t, 0, z);
+            if PASSED <= l {
+                return FULL;
+            }
+            return decide(1, l, self.path);
+        }
+        if z < BOTH {
+            let r = self.walk(u, 0, z - RIGHT);
+            if PASSED <= r {
+                return FULL;
+            }
+            return decide_right(2, size_before(t, u), r, self.path);
+        }
+        let p = z - BOTH;
+        self.derive_both(t, u, p / 131072, p % 131072)
     }
-    let p = walk(t, m, 0, i, &mut path[..q], acts);
-    if PASSED <= p {
-        return FULL;
-    }
-    decide_right(3, size_before(t, u), p, path)
-}
 
-// The term's path where the condition holds, else none.
-#[cycle(derive_both_derive_guard_derive_left_derive_listed_derive_masked_derive_parallel_derive_right_derive_sequence_derive_sides_derive_star_derive_two_walk)]
-fn derive_guard(t: &[u16], m: &[u16], x: u64, k: usize, path: &mut [u16], acts: &mut [u32]) -> usize
-    requires { (length t.now ≤ 65535) × (k < 131072) × (length path.old ≤ 65535) × (length acts.old ≤ 131072) }
-    ensures { DerivedShown x (26 ∷ t.now) m.now k path.old path.new (length acts.old) result }
-{
-    let c = eval_cond(t, m);
-    let u = last(t, c / 65536);
-    if c % 65536 == 0 {
-        return passing(k, skip(u));
+    // The right side's path at the end, the left's in front of it.
+    #[cycle(deriving)]
+    fn derive_both(&mut self, t: &[u16], u: &[u16], i: usize, j: usize) -> usize
+        requires { (length t.now ≤ 65535) × (length u.now ≤ length t.now) × (i < 131072) × (j < 131072) }
+        ensures kept { Kept self.old self.new }
+        ensures derived { Over (λ M. BothDerived t.now u.now M i) j self.old self.new result }
+    {
+        let q = self.walk(u, 0, j);
+        if PASSED <= q {
+            return FULL;
+        }
+        let p = derive_lent(t, self.store, i, &mut self.path[..q], self.acts);
+        if PASSED <= p {
+            return FULL;
+        }
+        decide_right(3, size_before(t, u), p, self.path)
     }
-    walk(u, m, x, k, path, acts)
+
+    // The term's path where the condition holds, else none.
+    #[cycle(deriving)]
+    fn derive_guard(&mut self, t: &[u16], x: u64, k: usize) -> usize
+        requires { (length t.now ≤ 65535) × (k < 131072) }
+        ensures kept { Kept self.old self.new }
+        ensures derived { Over (DerivedShown x (26 ∷ t.now)) k self.old self.new result }
+    {
+        let c = eval_cond(t, self.store);
+        let u = last(t, c / 65536);
+        if c % 65536 == 0 {
+            return passing(k, skip(u));
+        }
+        self.walk(u, x, k)
+    }
 }

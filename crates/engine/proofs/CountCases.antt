@@ -19,18 +19,24 @@ use Rattle.listing.specs.Listing.{holding}
 use Rattle.steps.specs.Counting.{Whole}
 use Rattle.steps.specs.Storing.{Ruled, Stored}
 use Rattle.steps.specs.Judging.{whole, moves_judged}
-use Rattle.engine.specs.declared.counting.Counted.TheVariants.{Moves, Refused}
 use Rattle.given.specs.declared.giving.Given.{Given}
-use Rattle.given.specs.declared.giving.Given.TheVariants.{Term as Given_term, Refused as Given_refused}
-use Rattle.given.specs.Giving.{Described, GivenDone, given_in}
+use Rattle.given.specs.Giving.{Described, GivenDone, given_in, found_term}
 use Rattle.given.specs.GivingLaws.{Found, told_refused, told_found, described_few, described_ruled}
 use Rattle.engine.specs.Counting.{counted_as, count_refused, count_short, count_done}
+use Rattle.std.specs.Prelude.{Ok, Err, Result}
+use Rattle.refusals.specs.declared.Refusal.{Refusal}
+use Rattle.refusals.specs.declared.Refusal.TheVariants.{Space}
+use Rattle.refusals.specs.Numbers.{RefusedBy}
 
 -- A file whose blocks are refused gives no rule set, whatever the term.
-pub unopened_given : (rules term : List ℕ) (k : ℕ) → open_blocks rules ≡ refused k → given_in rules term ≡ refused k
+pub unopened_given : (rules term : List ℕ) (k : Refusal) → RefusedBy k (open_blocks rules) → RefusedBy k (given_in rules term)
 unfolding admission and_then
-unopened_given rules term k e =
-    ap (λ a. and_then (and_then (and_then a λ o. ended (read_rules o.edition o.words)) within_limits) λ R. and_then (term_in R term) λ E. answered (R, E)) e
+unopened_given rules term k h = record {
+  code = h.code;
+  named = h.named;
+  is =
+      ap (λ a. and_then (and_then (and_then a λ o. ended (read_rules o.edition o.words)) within_limits) λ R. and_then (term_in R term) λ E. answered (R, E)) h.is;
+}
 
 -- From a loaded store.
 pub counted_at : (s T D B M : List ℕ) (w n c x y : ℕ) → w ≡ 3 + get_or T 17 0 → n ≡ get_or T 210 0 → ((R : RuleSet) (t T : List ℕ) → Ruled R t T D w n c → c ≤ cell_room B → Stored R (cells_given R B) M)
@@ -42,15 +48,15 @@ counted_at s T D B M w n c x y ew en loaded counts ey R E t d ec enough =
     let b : x ≡ length (listed R E B) = a ∙ ap length (moves_judged R d.form E d.term.running.form (cells_given R B) M st) in
     omega (arith, b, ey, moves_below_breadth (holding M) E, a, d.term.running.breadth_limit)
 
-module _ (rules term memory words₀ : List ℕ) (n : ℕ) (r : Given) (words' T D ws : List ℕ) (d : GivenDone rules term words₀ n r words' T D ws) where
-  pub counted_refused : (k : ℕ) → r ≡ Given_refused k → Refused k ≡ counted_as (count rules term memory)
+module _ (rules term memory words₀ : List ℕ) (n : ℕ) (r : Result Given Refusal) (words' T D ws : List ℕ) (d : GivenDone rules term words₀ n r words' T D ws) where
+  pub counted_refused : (k : Refusal) → r ≡ Err k → Err k ≡ counted_as (count rules term memory)
   counted_refused k e = count_refused rules term memory k (told_refused rules term words₀ n r words' T D ws d k e)
 
-  module _ (c g : ℕ) (e : r ≡ Given_term c g) where
+  module _ (c g : ℕ) (e : r ≡ found_term c g) where
     abbrev found : Found (given_in rules term) c g
     found = told_found rules term words₀ n r words' T D ws d c g e
 
-    pub counted_short : cell_room memory < c → Refused 9 ≡ counted_as (count rules term memory)
+    pub counted_short : cell_room memory < c → Err Space ≡ counted_as (count rules term memory)
     counted_short h = count_short rules term memory found.rule_set found.running_term found.given_so (omega (arith, found.cells_are))
 
     module _ (s : List ℕ) (es : s ≡ take (length term / 2) ws) where
@@ -61,7 +67,7 @@ module _ (rules term memory words₀ : List ℕ) (n : ℕ) (r : Given) (words' T
 
       pub counted_done : c ≤ cell_room memory → (y : ℕ)
           → ((R : RuleSet) (E : Term) (t : List ℕ) → Described R E t T D s → c ≡ cells_needed R → c ≤ cell_room memory → y ≡ length (listed R E memory))
-          → Moves y ≡ counted_as (count rules term memory)
+          → Ok y ≡ counted_as (count rules term memory)
       counted_done h y f =
           let x = d.described found.rule_set found.running_term found.given_so in
           count_done rules term memory found.rule_set found.running_term found.given_so (omega (arith, found.cells_are)) y

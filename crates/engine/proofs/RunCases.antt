@@ -15,15 +15,18 @@ use Rattle.declarations.specs.Directory.{Directory}
 use Rattle.mains.specs.Mains.{RunsMain}
 use Rattle.mains.specs.declared.Totals.{Totals}
 use Rattle.weights.specs.declared.Limits.{Limits}
-use Rattle.engine.specs.declared.running.Ran.TheVariants.{Ended, Refused}
 use Rattle.admission.specs.Knowing.{Known}
 use Rattle.engine.specs.Running.{RunDone}
 use Rattle.engine.specs.RunLaws.{run_refused, run_short_term, run_short_memory, run_short_spare_term, run_short_spare_memory, run_done}
+use Rattle.std.specs.Prelude.{Ok, Err}
+use Rattle.refusals.specs.declared.Refusal.{Refusal}
+use Rattle.refusals.specs.declared.Refusal.TheVariants.{Space}
+use Rattle.refusals.specs.Numbers.{RefusedBy}
 
 module _ (rules numbers term memory spare cells : List ℕ) where
-  pub unopened_run : (k : ℕ) → open_blocks rules ≡ refused k → RunDone rules numbers term memory spare cells (Refused k) term memory spare
+  pub unopened_run : (k : Refusal) → RefusedBy k (open_blocks rules) → RunDone rules numbers term memory spare cells (Err k) term memory spare
   unfolding admission and_then
-  unopened_run k e = run_refused rules numbers term memory spare cells k (ap (λ a. and_then (and_then a λ o. ended (read_rules o.edition o.words)) within_limits) e)
+  unopened_run k h = run_refused rules numbers term memory spare cells k (record { code = h.code; named = h.named; is = ap (λ a. and_then (and_then a λ o. ended (read_rules o.edition o.words)) within_limits) h.is })
 
   module _ (T D : List ℕ) (l : Limits) (k : Known rules T D l) (g c : ℕ) (eg : g ≡ l.reach) (ec : c ≡ l.cells) where
     reach_is : g ≡ main_reach k.rule_set
@@ -32,22 +35,22 @@ module _ (rules numbers term memory spare cells : List ℕ) where
     cells_is : c ≡ cells_needed k.rule_set
     cells_is = ec ∙ ap (λ (x : Limits). x.cells) k.sizes
 
-    pub ran_short_term : word_count term < g → RunDone rules numbers term memory spare cells (Refused 9) term memory spare
+    pub ran_short_term : word_count term < g → RunDone rules numbers term memory spare cells (Err Space) term memory spare
     ran_short_term h = run_short_term rules numbers term memory spare cells k.rule_set k.admitted_as (omega (arith, reach_is))
 
-    pub ran_short_memory : g ≤ word_count term → cell_room memory < c → RunDone rules numbers term memory spare cells (Refused 9) term memory spare
+    pub ran_short_memory : g ≤ word_count term → cell_room memory < c → RunDone rules numbers term memory spare cells (Err Space) term memory spare
     ran_short_memory h i = run_short_memory rules numbers term memory spare cells k.rule_set k.admitted_as (omega (arith, reach_is)) (omega (arith, cells_is))
 
     module _ (h : g ≤ word_count term) (i : c ≤ cell_room memory) where
-      pub ran_short_spare : word_count spare < g → RunDone rules numbers term memory spare cells (Refused 9) term memory spare
+      pub ran_short_spare : word_count spare < g → RunDone rules numbers term memory spare cells (Err Space) term memory spare
       ran_short_spare m = run_short_spare_term rules numbers term memory spare cells k.rule_set k.admitted_as (omega (arith, reach_is)) (omega (arith, cells_is)) (omega (arith, reach_is))
 
-      pub ran_short_cells : g ≤ word_count spare → cell_room cells < c → RunDone rules numbers term memory spare cells (Refused 9) term memory spare
+      pub ran_short_cells : g ≤ word_count spare → cell_room cells < c → RunDone rules numbers term memory spare cells (Err Space) term memory spare
       ran_short_cells m n =
           run_short_spare_memory rules numbers term memory spare cells k.rule_set k.admitted_as (omega (arith, reach_is)) (omega (arith, cells_is)) (omega (arith, reach_is)) (omega (arith, cells_is))
 
       pub ran_done : g ≤ word_count spare → c ≤ cell_room cells → (t : List ℕ) (r : Totals) (term' memory' spare' : List ℕ) → t ≡ drop 2 (stream rules) → RunsMain numbers t T D c g 8192 term memory spare r term' memory' spare'
-          → RunDone rules numbers term memory spare cells (Ended r) term' memory' spare'
+          → RunDone rules numbers term memory spare cells (Ok r) term' memory' spare'
       ran_done m n t r term' memory' spare' et f =
           let R = k.rule_set in
           run_done rules numbers term memory spare cells R k.admitted_as (omega (arith, reach_is)) (omega (arith, cells_is)) (omega (arith, reach_is)) (omega (arith, cells_is)) r term' memory' spare'

@@ -23,15 +23,18 @@ use Rattle.weights.specs.declared.Limits.{Limits}
 use Rattle.declarations.specs.Directory.{Directory}
 use Rattle.cells.specs.Readying.{few}
 use Rattle.steps.specs.RuledLaws.{tables_few}
-use Rattle.engine.specs.declared.starting.Started.TheVariants.{Size, Refused}
 use Rattle.admission.specs.Knowing.{Known}
 use Rattle.engine.specs.Memories.{Begun}
 use Rattle.engine.specs.Starting.{StartDone}
 use Rattle.engine.specs.StartLaws.{start_refused, start_short_term, start_short_memory, start_done}
+use Rattle.std.specs.Prelude.{Ok, Err}
+use Rattle.refusals.specs.declared.Refusal.{Refusal}
+use Rattle.refusals.specs.declared.Refusal.TheVariants.{Space}
+use Rattle.refusals.specs.Numbers.{RefusedBy}
 
-pub unopened_start : (rules term memory : List ℕ) (k : ℕ) → open_blocks rules ≡ refused k → StartDone rules term memory (Refused k) term memory
+pub unopened_start : (rules term memory : List ℕ) (k : Refusal) → RefusedBy k (open_blocks rules) → StartDone rules term memory (Err k) term memory
 unfolding admission and_then
-unopened_start rules term memory k e = start_refused rules term memory k (ap (λ a. and_then (and_then a λ o. ended (read_rules o.edition o.words)) within_limits) e)
+unopened_start rules term memory k h = start_refused rules term memory k (record { code = h.code; named = h.named; is = ap (λ a. and_then (and_then a λ o. ended (read_rules o.edition o.words)) within_limits) h.is })
 
 module _ (rules T D : List ℕ) (l : Limits) (k : Known rules T D l) where
   reach_is : l.reach ≡ main_reach k.rule_set
@@ -46,14 +49,14 @@ module _ (rules T D : List ℕ) (l : Limits) (k : Known rules T D l) where
       (omega (arith, e, cells_is, few k.rule_set k.well.form), b.0, b.1)
 
   module _ (term memory : List ℕ) (x c : ℕ) (ex : x ≡ l.reach) (ec : c ≡ l.cells) where
-    pub known_short_term : word_count term < x → StartDone rules term memory (Refused 9) term memory
+    pub known_short_term : word_count term < x → StartDone rules term memory (Err Space) term memory
     known_short_term h = start_short_term rules term memory k.rule_set k.admitted_as (omega (arith, ex, reach_is))
 
-    pub known_short_memory : x ≤ word_count term → cell_room memory < c → StartDone rules term memory (Refused 9) term memory
+    pub known_short_memory : x ≤ word_count term → cell_room memory < c → StartDone rules term memory (Err Space) term memory
     known_short_memory h g = start_short_memory rules term memory k.rule_set k.admitted_as (omega (arith, ex, reach_is)) (omega (arith, ec, cells_is))
 
     pub known_done : x ≤ word_count term → c ≤ cell_room memory → (t term' memory' : List ℕ) → t ≡ drop 2 (stream rules) → Begun t T D c term memory term' memory'
-        → StartDone rules term memory (Size l.size) term' memory'
+        → StartDone rules term memory (Ok l.size) term' memory'
     known_done h g t term' memory' et b =
         let R = k.rule_set in
         let w : R.edition.width ≡ 1 = width_is_1 k.well.form in

@@ -2,11 +2,10 @@
 use mathlib.Core.Path.{◌≡◌, refl, ap, sym, ◌∙◌, subst}
 use mathlib.Core.Bool.{Bool, true, false}
 use mathlib.Core.List.{List}
-use mathlib.Core.Option.{Option, none, some}
+use mathlib.Core.Option.{Option as Maybe, none, some}
 use Prim.Native.Nat.{ℕ, ◌+◌, ◌%◌, ◌≤◌, ◌<◌}
 use native.Mathlib.Omega.{arith}
 use lib.ListN.{length, get_or, get_elem?}
-use denote.Enum.Declared.{tag_of}
 use Rattle.eb3.specs.Refusal
 use Rattle.eb3.specs.Generic.PositionsLaws.{beyond_none}
 use Rattle.eb3.specs.Values.{Value}
@@ -33,21 +32,21 @@ use Rattle.actions.specs.ActionLaws.{action_small}
 use Rattle.listing.specs.Listing.{holding}
 use Rattle.cells.specs.Preparing.{Saved}
 use Rattle.cells.specs.MemoryLaws.{held_words}
-use Rattle.steps.specs.contracts.moving.Taken.{the_type}
 use Rattle.steps.specs.declared.moving.Taken.{Taken}
-use Rattle.steps.specs.declared.moving.Taken.TheVariants.{Made as Taken_made, NotOffered}
-use Rattle.steps.specs.Counting.{Whole, place_of}
+use Rattle.steps.specs.Counting.{Whole, found_at}
 use Rattle.listing.specs.FitLaws.{fits_length}
 use Rattle.steps.specs.Storing.{Ruled, Stored, StoreRenewed}
 use Rattle.steps.specs.Judging.{fits, whole, moves_judged}
 use Rattle.steps.specs.Taking.{taken_as, built_over, SuccessorFits, Took}
 use Rattle.engine.specs.declared.stepping.Step.{Step}
-use Rattle.engine.specs.declared.stepping.Moved.{Moved}
-use Rattle.engine.specs.declared.stepping.Moved.TheVariants.{Made, Refused}
 use Rattle.given.specs.Giving.{Described}
 use Rattle.given.specs.GivingLaws.{described_ruled}
 use Rattle.given.specs.Asking.{Chooses}
-use Rattle.engine.specs.Stepping.{told, moved_as, Done, moved_from}
+use Rattle.engine.specs.Stepping.{move_at, told, moved_as, Done, moved_from}
+use Rattle.std.specs.Prelude.{Ok, Err, Result, Some, None, Option}
+use Rattle.refusals.specs.declared.Refusal.{Refusal}
+use Rattle.refusals.specs.declared.Refusal.TheVariants.{NotOffered}
+use Rattle.refusals.specs.Numbers.{refusal}
 
 -- ── the answer ──
 
@@ -78,27 +77,26 @@ unfolding action_code
 code_below internal h = omega arith
 code_below (visible a) h = omega (arith, h.0, few_arguments a.arguments h.1 h.2)
 
--- Past the end there is no move.
-at_place : (xs : List Move) (o : Option ℕ) (r : ℕ) → length xs ≤ 65535 → r ≡ place_of o → get_elem? xs r ≡ numbered xs o
-unfolding place_of
-at_place xs none r h e = beyond_none xs r (omega arith)
-at_place xs (some k) r h e = ap (get_elem? xs) e
+at_found : (xs : List Move) (o : Maybe ℕ) (r : Option ℕ) → r ≡ found_at o → move_at xs r ≡ numbered xs o
+unfolding found_at
+at_found xs none r e = ap (move_at xs) e
+at_found xs (some k) r e = ap (move_at xs) e
 
-first_wanted : (s M : List ℕ) (x y r : ℕ) → y ≡ x % 4294967296
-    → ((P : Scope) (E : Term) → Whole s P E → (ρ : Action) → Small ρ → y ≡ action_code ρ → r ≡ place_of (first_with ρ (moves (holding M) E)))
-    → (P : Scope) (E : Term) (choose : List Move → Option Move) → Whole s P E → Chooses true x choose → get_elem? (moves (holding M) E) r ≡ choose (moves (holding M) E)
+first_wanted : (s M : List ℕ) (x y : ℕ) (r : Option ℕ) → y ≡ x % 4294967296
+    → ((P : Scope) (E : Term) → Whole s P E → (ρ : Action) → Small ρ → y ≡ action_code ρ → r ≡ found_at (first_with ρ (moves (holding M) E)))
+    → (P : Scope) (E : Term) (choose : List Move → Maybe Move) → Whole s P E → Chooses true x choose → move_at (moves (holding M) E) r ≡ choose (moves (holding M) E)
 first_wanted s M x y r ey first P E choose w (ρ, small, ex, ec) =
     let xs : List Move = moves (holding M) E in
     let e : y ≡ action_code ρ = omega (arith, ey, ex, code_below ρ small) in
-    at_place xs (first_with ρ xs) r (omega (arith, moves_below_breadth (holding M) E, w.narrow)) (first P E w ρ small e) ∙ ap (λ f. f xs) (sym ec)
+    at_found xs (first_with ρ xs) r (first P E w ρ small e) ∙ ap (λ f. f xs) (sym ec)
 
-pub event_wanted : (b : Bool) → b ≡ true → (s M : List ℕ) (x y r : ℕ) → y ≡ x % 4294967296
-    → ((P : Scope) (E : Term) → Whole s P E → (ρ : Action) → Small ρ → y ≡ action_code ρ → r ≡ place_of (first_with ρ (moves (holding M) E)))
-    → (P : Scope) (E : Term) (choose : List Move → Option Move) → Whole s P E → Chooses b x choose → get_elem? (moves (holding M) E) r ≡ choose (moves (holding M) E)
+pub event_wanted : (b : Bool) → b ≡ true → (s M : List ℕ) (x y : ℕ) (r : Option ℕ) → y ≡ x % 4294967296
+    → ((P : Scope) (E : Term) → Whole s P E → (ρ : Action) → Small ρ → y ≡ action_code ρ → r ≡ found_at (first_with ρ (moves (holding M) E)))
+    → (P : Scope) (E : Term) (choose : List Move → Maybe Move) → Whole s P E → Chooses b x choose → move_at (moves (holding M) E) r ≡ choose (moves (holding M) E)
 event_wanted b eb s M x y r ey first P E choose w h = first_wanted s M x y r ey first P E choose w (subst (λ c. Chooses c x choose) eb h)
 
-pub number_wanted : (b : Bool) → b ≡ false → (s M : List ℕ) (x : ℕ) (P : Scope) (E : Term) (choose : List Move → Option Move) → Whole s P E → Chooses b x choose
-    → get_elem? (moves (holding M) E) x ≡ choose (moves (holding M) E)
+pub number_wanted : (b : Bool) → b ≡ false → (s M : List ℕ) (x : ℕ) (P : Scope) (E : Term) (choose : List Move → Maybe Move) → Whole s P E → Chooses b x choose
+    → move_at (moves (holding M) E) (Some x) ≡ choose (moves (holding M) E)
 number_wanted b eb s M x P E choose w h =
     let e : choose ≡ (λ xs. get_elem? xs x) = subst (λ c. Chooses c x choose) eb h in
     ap (λ f. f (moves (holding M) E)) (sym e)
@@ -128,20 +126,23 @@ module _ (R : RuleSet) (E : Term) (cells : List Value) (t T D s M : List ℕ) (d
     size_low : length (words 1 x.successor) % 4294967296 ≡ size 1 x.successor
     size_low = omega (arith, spelled_size, within, move_size 1 (holding M) E k x e)
 
-  successor_fits : (B : List ℕ) → reach 1 E ≤ word_count B → (k : ℕ) (o : Option Move) → get_elem? (moves (holding M) E) k ≡ o → SuccessorFits o B
+  successor_fits : (B : List ℕ) → reach 1 E ≤ word_count B → (k : ℕ) (o : Maybe Move) → get_elem? (moves (holding M) E) k ≡ o → SuccessorFits o B
   successor_fits B h k none e = tt
   successor_fits B h k (some x) e = omega (arith, spelled_size k x e, move_size 1 (holding M) E k x e)
 
 -- Move k as take_move answers it: r, with the successor in the buffer B, which is B' afterwards.
-abbrev pub MoveTaken : List ℕ → List ℕ → ℕ → List ℕ → List ℕ → Taken → Type 0
+abbrev pub made : ℕ → ℕ → Option Taken
+made a z = Some (record { action = a; size = z })
+
+abbrev pub MoveTaken : List ℕ → List ℕ → ℕ → List ℕ → List ℕ → Option Taken → Type 0
 MoveTaken s M k B B' r = (P : Scope) (E : Term) → Whole s P E → size 1 E ≤ 8192 → SuccessorFits (get_elem? (moves (holding M) E) k) B → Took (get_elem? (moves (holding M) E) k) B B' r
 
 -- What a step from a store answers and leaves: of the memory semantics' move k at the cells that the store holds.
-abbrev pub SteppedFrom : List ℕ → List ℕ → List ℕ → List ℕ → List ℕ → ℕ → ℕ → List ℕ → List ℕ → Moved → List ℕ → List ℕ → Type 0
+abbrev pub SteppedFrom : List ℕ → List ℕ → List ℕ → List ℕ → List ℕ → ℕ → ℕ → List ℕ → List ℕ → Result Step Refusal → List ℕ → List ℕ → Type 0
 SteppedFrom t T D s M c k B C r B' C' = (R : RuleSet) (E : Term) (cells : List Value) → Described R E t T D s → c ≡ cells_needed R → Stored R cells M → reach 1 E ≤ word_count B → c ≤ cell_room C
     → Done (writing B C (or_refused Refusal.not_offered (get_elem? (moves ((Sem_M (attributes R)).satisfies cells) E) k)) (moved_from R cells B C)) r B' C'
 
-module _ (R : RuleSet) (E : Term) (cells : List Value) (t T D s M : List ℕ) (d : Described R E t T D s) (stored : Stored R cells M) (k : ℕ) (B B' C : List ℕ) (r : Taken) where
+module _ (R : RuleSet) (E : Term) (cells : List Value) (t T D s M : List ℕ) (d : Described R E t T D s) (stored : Stored R cells M) (k : ℕ) (B B' C : List ℕ) (r : Option Taken) where
   -- What was taken, at the move that there is or is not.
   taken_so : MoveTaken s M k B B' r → reach 1 E ≤ word_count B → Took (get_elem? (moves (holding M) E) k) B B' r
   taken_so taken h =
@@ -149,26 +150,27 @@ module _ (R : RuleSet) (E : Term) (cells : List Value) (t T D s M : List ℕ) (d
       (successor_fits R E cells t T D s M d stored B h k (get_elem? (moves (holding M) E) k) refl)
 
   -- By the store's moves the step is as by those of the cells.
-  by_store : (z : Moved) (C' : List ℕ) → Done (writing B C (or_refused Refusal.not_offered (get_elem? (moves (holding M) E) k)) (moved_from R cells B C)) z B' C'
+  by_store : (z : Result Step Refusal) (C' : List ℕ) → Done (writing B C (or_refused Refusal.not_offered (get_elem? (moves (holding M) E) k)) (moved_from R cells B C)) z B' C'
       → Done (writing B C (or_refused Refusal.not_offered (get_elem? (moves ((Sem_M (attributes R)).satisfies cells) E) k)) (moved_from R cells B C)) z B' C'
   by_store z C' = subst (λ o. Done (writing B C (or_refused Refusal.not_offered o) (moved_from R cells B C)) z B' C') (entry_judged R E cells t T D s M d stored k)
 
   -- no such move
-  refused_so : (o : Option Move) → Took o B B' r → r ≡ NotOffered → Done (writing B C (or_refused Refusal.not_offered o) (moved_from R cells B C)) (Refused 12) B' C
-  unfolding taken_as built_over moved_as
+  refused_so : (o : Maybe Move) → Took o B B' r → r ≡ None → Done (writing B C (or_refused Refusal.not_offered o) (moved_from R cells B C)) (Err NotOffered) B' C
+  unfolding taken_as built_over moved_as refusal
   refused_so none took e = record { answer = refl; term_after = took.buffer; memory_after = refl }
-  refused_so (some x) took e = let f : NotOffered ≡ taken_as (some x) = sym e ∙ took.answer in absurd (let z : ◌≡◌ {A = ℕ} 0 1 = cc in omega arith)
+  refused_so (some x) took e = let f : None ≡ taken_as (some x) = sym e ∙ took.answer in absurd (let z : ◌≡◌ {A = ℕ} 0 1 = cc in omega arith)
 
   -- the successor written, and the renewed cells saved
-  made_so : (M' C' : List ℕ) (w n c a z : ℕ) (y : Step) → Ruled R t T D w n c → c ≤ cell_room C → r ≡ Taken_made a z → length M' ≡ length M → StoreRenewed t D M M' w n c a → Saved M' C C' c
+  made_so : (M' C' : List ℕ) (w n c a z : ℕ) (y : Step) → Ruled R t T D w n c → c ≤ cell_room C → r ≡ made a z → length M' ≡ length M → StoreRenewed t D M M' w n c a → Saved M' C C' c
       → ((ρ : Action) → Small ρ → a ≡ action_code ρ → y ≡ told ρ (z % 4294967296))
-      → (o : Option Move) → get_elem? (moves (holding M) E) k ≡ o → Took o B B' r → Done (writing B C (or_refused Refusal.not_offered o) (moved_from R cells B C)) (Made y) B' C'
+      → (o : Maybe Move) → get_elem? (moves (holding M) E) k ≡ o → Took o B B' r → Done (writing B C (or_refused Refusal.not_offered o) (moved_from R cells B C)) (Ok y) B' C'
   unfolding taken_as built_over moved_as
-  made_so M' C' w n c a z y ruled fits er l renewed saved tells none e took = let f : Taken_made a z ≡ taken_as none = sym er ∙ took.answer in absurd (let q : ◌≡◌ {A = ℕ} 0 1 = cc in omega arith)
+  made_so M' C' w n c a z y ruled fits er l renewed saved tells none e took = let f : made a z ≡ taken_as none = sym er ∙ took.answer in absurd (let q : ◌≡◌ {A = ℕ} 0 1 = cc in omega arith)
   made_so M' C' w n c a z y ruled fits er l renewed saved tells (some x) e took =
-      let f : Taken_made a z ≡ Taken_made (action_code x.action) (length (words 1 x.successor)) = sym er ∙ took.answer in
-      let ea : a ≡ action_code x.action = cc in
-      let ez : z ≡ length (words 1 x.successor) = cc in
+      let f : made a z ≡ made (action_code x.action) (length (words 1 x.successor)) = sym er ∙ took.answer in
+      let fs : ◌≡◌ {A = Taken} (record { action = a; size = z }) (record { action = action_code x.action; size = length (words 1 x.successor) }) = cc in
+      let ea : a ≡ action_code x.action = ap (λ v. v.action) fs in
+      let ez : z ≡ length (words 1 x.successor) = ap (λ v. v.size) fs in
       let good : WellFormedAction R x.action = acted R E cells t T D s M d stored k x e in
       let after : List Value = state_after (Sem_M (attributes R)) cells x.action in
       let st : Stored R after M' = renewed R T ruled x.action good ea cells stored in
@@ -177,25 +179,20 @@ module _ (R : RuleSet) (E : Term) (cells : List Value) (t T D s M : List ℕ) (d
       let ey : y ≡ told x.action (size 1 x.successor) =
       tells x.action (action_small R d.form x.action good) ea ∙ ap (told x.action) (ap (λ u. u % 4294967296) ez ∙ size_low R E cells t T D s M d stored k x e) in
       record {
-        answer = ap Made ey;
+        answer = ap Ok ey;
         term_after = took.buffer;
         memory_after = saved.right room (omega arith) ∙ ap (λ u. written u C) (held_words M' after c (st.counted ∙ sym ec) room st.holds);
       }
 
--- A match on an answer without values says only its number: 1 is that there is no such move.
-second_answer : (r : Taken) → tag_of the_type r ≡ 1 → r ≡ NotOffered
-second_answer (Taken_made a z) e = absurd (let q : ◌≡◌ {A = ℕ} 0 1 = e in omega arith)
-second_answer NotOffered e = refl
-
-pub step_refused : (t T D s M : List ℕ) (c k : ℕ) (B B' C : List ℕ) (r : Taken) → MoveTaken s M k B B' r → tag_of the_type r ≡ 1 → SteppedFrom t T D s M c k B C (Refused 12) B' C
+pub step_refused : (t T D s M : List ℕ) (c k : ℕ) (B B' C : List ℕ) (r : Option Taken) → MoveTaken s M k B B' r → r ≡ None → SteppedFrom t T D s M c k B C (Err NotOffered) B' C
 step_refused t T D s M c k B B' C r taken e R E cells d ec stored h g =
-    by_store R E cells t T D s M d stored k B B' C r (Refused 12) C
-    (refused_so R E cells t T D s M d stored k B B' C r (get_elem? (moves (holding M) E) k) (taken_so R E cells t T D s M d stored k B B' C r taken h) (second_answer r e))
+    by_store R E cells t T D s M d stored k B B' C r (Err NotOffered) C
+    (refused_so R E cells t T D s M d stored k B B' C r (get_elem? (moves (holding M) E) k) (taken_so R E cells t T D s M d stored k B B' C r taken h) e)
 
-pub step_made : (t T D s M M' : List ℕ) (c k : ℕ) (B B' C C' : List ℕ) (r : Taken) (w n a z : ℕ) (y : Step) → MoveTaken s M k B B' r → r ≡ Taken_made a z → w ≡ 3 + get_or T 17 0 → n ≡ get_or T 210 0
-    → length M' ≡ length M → StoreRenewed t D M M' w n c a → Saved M' C C' c → ((ρ : Action) → Small ρ → a ≡ action_code ρ → y ≡ told ρ (z % 4294967296)) → SteppedFrom t T D s M c k B C (Made y) B' C'
+pub step_made : (t T D s M M' : List ℕ) (c k : ℕ) (B B' C C' : List ℕ) (r : Option Taken) (w n a z : ℕ) (y : Step) → MoveTaken s M k B B' r → r ≡ made a z → w ≡ 3 + get_or T 17 0 → n ≡ get_or T 210 0
+    → length M' ≡ length M → StoreRenewed t D M M' w n c a → Saved M' C C' c → ((ρ : Action) → Small ρ → a ≡ action_code ρ → y ≡ told ρ (z % 4294967296)) → SteppedFrom t T D s M c k B C (Ok y) B' C'
 step_made t T D s M M' c k B B' C C' r w n a z y taken e ew en l renewed saved tells R E cells d ec stored h g =
-    by_store R E cells t T D s M d stored k B B' C r (Made y) C'
+    by_store R E cells t T D s M d stored k B B' C r (Ok y) C'
     (made_so R E cells t T D s M d stored k B B' C r M' C' w n c a z y (described_ruled R E t T D s d w n c ew en ec) g e l renewed saved tells (get_elem? (moves (holding M) E) k) refl
     (taken_so R E cells t T D s M d stored k B B' C r taken h))
 
@@ -210,19 +207,36 @@ module _ (R : RuleSet) (memory B C : List ℕ) where
     memory = written (memory_words (state_after (Sem_M (attributes R)) (cells_given R memory) x.action)) C;
   }
 
--- From the store that was loaded, by the move that was wanted there.
-pub step_loaded : (t T D s M memory : List ℕ) (w n c k x : ℕ) (b : Bool) (B C B' C' : List ℕ) (r : Moved) → w ≡ 3 + get_or T 17 0 → n ≡ get_or T 210 0
-    → ((R : RuleSet) (t T : List ℕ) → Ruled R t T D w n c → c ≤ cell_room memory → Stored R (cells_given R memory) M)
-    → ((P : Scope) (E : Term) (choose : List Move → Option Move) → Whole s P E → Chooses b x choose → get_elem? (moves (holding M) E) k ≡ choose (moves (holding M) E))
-    → SteppedFrom t T D s M c k B C r B' C'
-    → (R : RuleSet) (E : Term) (choose : List Move → Option Move) → Described R E t T D s → c ≡ cells_needed R → c ≤ cell_room memory → reach 1 E ≤ word_count B → c ≤ cell_room C → Chooses b x choose
-    → Done (writing B C (or_refused Refusal.not_offered (choose (listed R E memory))) (moved R memory B C)) r B' C'
-step_loaded t T D s M memory w n c k x b B C B' C' r ew en loaded wanted stepped R E choose d ec enough h g asks =
-    let cells : List Value = cells_given R memory in
-    let st : Stored R cells M = loaded R t T (described_ruled R E t T D s d w n c ew en ec) enough in
-    let judged : moves (holding M) E ≡ listed R E memory = moves_judged R d.form E d.term.running.form cells M st in
-    let e : get_elem? (moves (holding M) E) k ≡ choose (moves (holding M) E) = wanted (guard_scope (attributes R) 0) E choose (whole R d.form E d.term.running s d.term.words_are) asks in
-    let o : get_elem? (listed R E memory) k ≡ choose (listed R E memory) = subst (λ xs. get_elem? xs k ≡ choose xs) judged e in
-    let v : 1 ≡ R.edition.width = sym (width_is_1 d.form) in
-    subst (λ u. Done (writing B C (or_refused Refusal.not_offered (choose (listed R E memory))) (moved_wide R memory B C u)) r B' C') v
-    (subst (λ p. Done (writing B C (or_refused Refusal.not_offered p) (moved_from R cells B C)) r B' C') o (stepped R E cells d ec st h g))
+-- From the store that was loaded: by the move that was wanted there, or where none is.
+module _ (t T D s M memory : List ℕ) (w n c x : ℕ) (b : Bool) (q : Option ℕ) (ew : w ≡ 3 + get_or T 17 0) (en : n ≡ get_or T 210 0)
+    (loaded : (R : RuleSet) (t T : List ℕ) → Ruled R t T D w n c → c ≤ cell_room memory → Stored R (cells_given R memory) M)
+    (wanted : (P : Scope) (E : Term) (choose : List Move → Maybe Move) → Whole s P E → Chooses b x choose → move_at (moves (holding M) E) q ≡ choose (moves (holding M) E))
+  where
+    -- What a step answers and leaves, at the listed moves of the cells of the memory.
+    abbrev pub SteppedAt : List ℕ → List ℕ → Result Step Refusal → List ℕ → List ℕ → Type 0
+    SteppedAt B C r B' C' = (R : RuleSet) (E : Term) (choose : List Move → Maybe Move) → Described R E t T D s → c ≡ cells_needed R → c ≤ cell_room memory → reach 1 E ≤ word_count B → c ≤ cell_room C → Chooses b x choose
+        → Done (writing B C (or_refused Refusal.not_offered (choose (listed R E memory))) (moved R memory B C)) r B' C'
+
+    chosen_move : (R : RuleSet) (E : Term) (choose : List Move → Maybe Move) → Described R E t T D s → c ≡ cells_needed R → c ≤ cell_room memory → Chooses b x choose
+        → Stored R (cells_given R memory) M × (move_at (listed R E memory) q ≡ choose (listed R E memory))
+    chosen_move R E choose d ec enough asks =
+        let cells : List Value = cells_given R memory in
+        let st : Stored R cells M = loaded R t T (described_ruled R E t T D s d w n c ew en ec) enough in
+        let judged : moves (holding M) E ≡ listed R E memory = moves_judged R d.form E d.term.running.form cells M st in
+        (st, subst (λ xs. move_at xs q ≡ choose xs) judged (wanted (guard_scope (attributes R) 0) E choose (whole R d.form E d.term.running s d.term.words_are) asks))
+
+    pub step_loaded : (k : ℕ) (B C B' C' : List ℕ) (r : Result Step Refusal) → q ≡ Some k → SteppedFrom t T D s M c k B C r B' C' → SteppedAt B C r B' C'
+    step_loaded k B C B' C' r eq stepped R E choose d ec enough h g asks =
+        let m = chosen_move R E choose d ec enough asks in
+        let cells : List Value = cells_given R memory in
+        let o : get_elem? (listed R E memory) k ≡ choose (listed R E memory) = ap (move_at (listed R E memory)) (sym eq) ∙ m.1 in
+        let v : 1 ≡ R.edition.width = sym (width_is_1 d.form) in
+        subst (λ u. Done (writing B C (or_refused Refusal.not_offered (choose (listed R E memory))) (moved_wide R memory B C u)) r B' C') v
+        (subst (λ p. Done (writing B C (or_refused Refusal.not_offered p) (moved_from R cells B C)) r B' C') o (stepped R E cells d ec m.0 h g))
+
+    pub step_unwanted : (B C : List ℕ) → q ≡ None → SteppedAt B C (Err NotOffered) B C
+    unfolding moved_as refusal
+    step_unwanted B C eq R E choose d ec enough h g asks =
+        let m = chosen_move R E choose d ec enough asks in
+        let o : none ≡ choose (listed R E memory) = ap (move_at (listed R E memory)) (sym eq) ∙ m.1 in
+        subst (λ p. Done (writing B C (or_refused Refusal.not_offered p) (moved R memory B C)) (Err NotOffered) B C) o (record { answer = refl; term_after = refl; memory_after = refl })

@@ -1,6 +1,6 @@
 -- What Count answers, by the specification's operation (document 01, "Operations"): refused as the rule set or the term is, or for want of cells; else the
 -- number of moves.
-use Rattle.std.specs.Prelude.{◌≡◌, List, ℕ, ◌≤◌, ◌<◌, length}
+use Rattle.std.specs.Prelude.{◌≡◌, List, ℕ, ◌≤◌, ◌<◌, length, Ok, Err, Result}
 use Rattle.std.proofs.Math.Path.{refl, ap, sym}
 use Rattle.std.proofs.Common.{◌∙◌, le-leb}
 use Rattle.std.proofs.lemmas.Bool.{lt-leb}
@@ -12,14 +12,15 @@ use Rattle.eb3.specs.Admission.{admission}
 use Rattle.eb3.specs.Memory.{cell_room}
 use Rattle.eb3.specs.Answers.{Answer, refused, answered, and_then}
 use Rattle.eb3.specs.Operations.{cells_needed, memory_fits, term_in, listed, count}
-use Rattle.engine.specs.declared.counting.Counted.{Counted}
-use Rattle.engine.specs.declared.counting.Counted.TheVariants.{Moves, Refused}
 use Rattle.given.specs.Giving.{given_in}
+use Rattle.refusals.specs.declared.Refusal.{Refusal}
+use Rattle.refusals.specs.declared.Refusal.TheVariants.{Space}
+use Rattle.refusals.specs.Numbers.{refusal, RefusedBy}
 
 -- The number of moves, or the refusal's.
-unfoldable pub counted_as : Answer ℕ → Counted
-counted_as (refused k) = Refused k
-counted_as (answered n) = Moves n
+unfoldable pub counted_as : Answer ℕ → Result ℕ Refusal
+counted_as (refused k) = Err (refusal k)
+counted_as (answered n) = Ok n
 
 module _ (rules term memory : List ℕ) where
   abbrev counted_from : RuleSet × Term → Answer ℕ
@@ -40,19 +41,19 @@ module _ (rules term memory : List ℕ) where
   unfolding count
   by_given = by_admitted (admission rules)
 
-  pub count_refused : (k : ℕ) → given_in rules term ≡ refused k → Refused k ≡ counted_as (count rules term memory)
+  pub count_refused : (k : Refusal) → RefusedBy k (given_in rules term) → Err k ≡ counted_as (count rules term memory)
   unfolding counted_as and_then
-  count_refused k e = sym (ap counted_as (by_given ∙ ap (λ a. and_then a counted_from) e))
+  count_refused k h = ap Err h.named ∙ sym (ap counted_as (by_given ∙ ap (λ a. and_then a counted_from) h.is))
 
   module _ (R : RuleSet) (E : Term) (e : given_in rules term ≡ answered (R, E)) where
     known_so : count rules term memory ≡ counted_from (R, E)
     unfolding and_then
     known_so = by_given ∙ ap (λ a. and_then a counted_from) e
 
-    pub count_short : cell_room memory < cells_needed R → Refused 9 ≡ counted_as (count rules term memory)
-    unfolding counted_as
+    pub count_short : cell_room memory < cells_needed R → Err Space ≡ counted_as (count rules term memory)
+    unfolding counted_as refusal
     count_short h = sym (ap counted_as (known_so ∙ ap (λ b. pick b (answered (length (listed R E memory))) (refused Refusal.space)) (lt-leb (cells_needed R) (cell_room memory) h)))
 
-    pub count_done : cells_needed R ≤ cell_room memory → (n : ℕ) → n ≡ length (listed R E memory) → Moves n ≡ counted_as (count rules term memory)
+    pub count_done : cells_needed R ≤ cell_room memory → (n : ℕ) → n ≡ length (listed R E memory) → Ok n ≡ counted_as (count rules term memory)
     unfolding counted_as
-    count_done h n f = ap Moves f ∙ sym (ap counted_as (known_so ∙ ap (λ b. pick b (answered (length (listed R E memory))) (refused Refusal.space)) (le-leb (cells_needed R) (cell_room memory) h)))
+    count_done h n f = ap Ok f ∙ sym (ap counted_as (known_so ∙ ap (λ b. pick b (answered (length (listed R E memory))) (refused Refusal.space)) (le-leb (cells_needed R) (cell_room memory) h)))

@@ -1,22 +1,22 @@
 -- What Run answers and leaves, by the specification's operation, which is the history machine's run (document 01, "Operations"; "Memory and the history
 -- machine").
-use Rattle.std.specs.Prelude.{◌≡◌, List, ℕ}
+use Rattle.std.specs.Prelude.{◌≡◌, List, ℕ, Ok, Err, Result}
 use Rattle.eb3.specs.Answers.{Answer, refused, answered, Ran as Answer_ran}
 use Rattle.eb3.specs.Operations.{run, ScratchAfter}
 use Rattle.mains.specs.declared.Totals.{Totals}
-use Rattle.engine.specs.declared.running.Ran.{Ran}
-use Rattle.engine.specs.declared.running.Ran.TheVariants.{Ended, Refused}
+use Rattle.refusals.specs.declared.Refusal.{Refusal}
+use Rattle.refusals.specs.Numbers.{refusal}
 
 -- The last term's size and the three counts.
 abbrev pub totals : Answer_ran → Totals
 totals m = record { size = m.size; visible = m.visible; internal = m.internal; refused = m.refusals }
 
-unfoldable pub ran_as : Answer Answer_ran → Ran
-ran_as (refused k) = Refused k
-ran_as (answered m) = Ended (totals m)
+unfoldable pub ran_as : Answer Answer_ran → Result Totals Refusal
+ran_as (refused k) = Err (refusal k)
+ran_as (answered m) = Ok (totals m)
 
 -- With the lent buffers afterwards. Of the spare ones only the first is written, and of it, where the run is done, only whole words.
-pub record RunDone (rules numbers term memory spare_term spare_memory : List ℕ) (r : Ran) (term' memory' spare' : List ℕ) : Type 0 where
+pub record RunDone (rules numbers term memory spare_term spare_memory : List ℕ) (r : Result Totals Refusal) (term' memory' spare' : List ℕ) : Type 0 where
   pub answer : r ≡ ran_as (run rules numbers term memory spare_term spare_memory).answer
   pub term_after : term' ≡ (run rules numbers term memory spare_term spare_memory).term
   pub memory_after : memory' ≡ (run rules numbers term memory spare_term spare_memory).memory

@@ -1,5 +1,5 @@
 -- Start, case by case: refused as Admit is, refused for want of space, or done (document 01, "Operations").
-use Rattle.std.specs.Prelude.{◌≡◌, Bool, ◌&&◌, List, ℕ, ◌≤◌, ◌<◌}
+use Rattle.std.specs.Prelude.{◌≡◌, Bool, ◌&&◌, List, ℕ, ◌≤◌, ◌<◌, Ok, Err, Result}
 use Rattle.std.proofs.Math.Path.{refl, ap}
 use Rattle.std.proofs.Common.{sym, ◌∙◌}
 use Rattle.std.proofs.Math.Bool.{true, false}
@@ -16,21 +16,22 @@ use Rattle.eb3.specs.Reading.{pick}
 use Rattle.eb3.specs.Admission.{admission}
 use Rattle.eb3.specs.Answers.{refused, answered, Written, unwritten}
 use Rattle.eb3.specs.Operations.{cells_needed, main_reach, term_fits, memory_fits, writing, started, start}
-use Rattle.engine.specs.declared.starting.Started.{Started}
-use Rattle.engine.specs.declared.starting.Started.TheVariants.{Size, Refused}
 use Rattle.engine.specs.Starting.{started_as, StartDone}
+use Rattle.refusals.specs.declared.Refusal.{Refusal}
+use Rattle.refusals.specs.declared.Refusal.TheVariants.{Space}
+use Rattle.refusals.specs.Numbers.{refusal, RefusedBy}
 
 module _ (rules term memory : List ℕ) where
-  by_whole : (w : Written ℕ) (r : Started) (term' memory' : List ℕ) → start rules term memory ≡ w → r ≡ started_as w.answer → term' ≡ w.term → memory' ≡ w.memory → StartDone rules term memory r term' memory'
+  by_whole : (w : Written ℕ) (r : Result ℕ Refusal) (term' memory' : List ℕ) → start rules term memory ≡ w → r ≡ started_as w.answer → term' ≡ w.term → memory' ≡ w.memory → StartDone rules term memory r term' memory'
   by_whole w r term' memory' e a t m = record {
     answer = a ∙ ap (λ (v : Written ℕ). started_as v.answer) (sym e);
     term_after = t ∙ ap (λ (v : Written ℕ). v.term) (sym e);
     memory_after = m ∙ ap (λ (v : Written ℕ). v.memory) (sym e);
   }
 
-  pub start_refused : (k : ℕ) → admission rules ≡ refused k → StartDone rules term memory (Refused k) term memory
+  pub start_refused : (k : Refusal) → RefusedBy k (admission rules) → StartDone rules term memory (Err k) term memory
   unfolding start started_as
-  start_refused k e = by_whole (unwritten term memory k) (Refused k) term memory (ap (λ a. writing term memory a λ R. pick (term_fits (main_reach R) term && memory_fits R memory) (started term memory R) (unwritten term memory Refusal.space)) e) refl refl refl
+  start_refused k h = by_whole (unwritten term memory h.code) (Err k) term memory (ap (λ a. writing term memory a λ R. pick (term_fits (main_reach R) term && memory_fits R memory) (started term memory R) (unwritten term memory Refusal.space)) h.is) (ap Err h.named) refl refl
 
   module _ (R : RuleSet) (e : admission rules ≡ answered R) where
     by_room : (b : Bool) → (term_fits (main_reach R) term && memory_fits R memory) ≡ b → start rules term memory ≡ pick b (started term memory R) (unwritten term memory Refusal.space)
@@ -38,17 +39,17 @@ module _ (rules term memory : List ℕ) where
     by_room b h = ap (λ a. writing term memory a λ R. pick (term_fits (main_reach R) term && memory_fits R memory) (started term memory R) (unwritten term memory Refusal.space)) e
         ∙ ap (λ x. pick x (started term memory R) (unwritten term memory Refusal.space)) h
 
-    pub start_short_term : word_count term < main_reach R → StartDone rules term memory (Refused 9) term memory
-    unfolding started_as
-    start_short_term h = by_whole (unwritten term memory Refusal.space) (Refused 9) term memory (by_room false (ap (λ b. b && memory_fits R memory) (lt-leb (main_reach R) (word_count term) h))) refl refl refl
+    pub start_short_term : word_count term < main_reach R → StartDone rules term memory (Err Space) term memory
+    unfolding started_as refusal
+    start_short_term h = by_whole (unwritten term memory Refusal.space) (Err Space) term memory (by_room false (ap (λ b. b && memory_fits R memory) (lt-leb (main_reach R) (word_count term) h))) refl refl refl
 
-    pub start_short_memory : main_reach R ≤ word_count term → cell_room memory < cells_needed R → StartDone rules term memory (Refused 9) term memory
-    unfolding started_as
-    start_short_memory h k = by_whole (unwritten term memory Refusal.space) (Refused 9) term memory
+    pub start_short_memory : main_reach R ≤ word_count term → cell_room memory < cells_needed R → StartDone rules term memory (Err Space) term memory
+    unfolding started_as refusal
+    start_short_memory h k = by_whole (unwritten term memory Refusal.space) (Err Space) term memory
         (by_room false (ap (λ b. b && memory_fits R memory) (le-leb (main_reach R) (word_count term) h) ∙ lt-leb (cells_needed R) (cell_room memory) k)) refl refl refl
 
     pub start_done : main_reach R ≤ word_count term → cells_needed R ≤ cell_room memory → (n : ℕ) (term' memory' : List ℕ) → n ≡ size R.edition.width (unfold_main R)
-        → term' ≡ written (words R.edition.width (unfold_main R)) term → memory' ≡ written (memory_words (initial_cells (attributes R))) memory → StartDone rules term memory (Size n) term' memory'
+        → term' ≡ written (words R.edition.width (unfold_main R)) term → memory' ≡ written (memory_words (initial_cells (attributes R))) memory → StartDone rules term memory (Ok n) term' memory'
     unfolding started_as
-    start_done h k n term' memory' s t m = by_whole (started term memory R) (Size n) term' memory'
-        (by_room true (ap (λ b. b && memory_fits R memory) (le-leb (main_reach R) (word_count term) h) ∙ le-leb (cells_needed R) (cell_room memory) k)) (ap Size s) t m
+    start_done h k n term' memory' s t m = by_whole (started term memory R) (Ok n) term' memory'
+        (by_room true (ap (λ b. b && memory_fits R memory) (le-leb (main_reach R) (word_count term) h) ∙ le-leb (cells_needed R) (cell_room memory) k)) (ap Ok s) t m

@@ -2,9 +2,9 @@
 -- (document 01, "Operations").
 use Rattle.std.proofs.Math.Path.{◌≡◌, refl, ap, subst}
 use Rattle.std.proofs.Common.{sym, ◌∙◌, arith, le-leb}
-use Rattle.std.specs.Prelude.{Bool, ◌&&◌, List, ℕ, ◌≤◌, ◌<◌}
+use Rattle.std.specs.Prelude.{Bool, ◌&&◌, List, ℕ, ◌≤◌, ◌<◌, Err, Result, Some, None}
 use Rattle.std.proofs.Math.Bool.{true, false}
-use Rattle.std.proofs.Math.Option.{Option, none, some}
+use Rattle.std.proofs.Math.Option.{Option as Maybe, none, some}
 use Rattle.std.proofs.Math.ListN.{get_elem?}
 use Rattle.std.proofs.lemmas.Bool.{lt-leb}
 use Rattle.eb3.specs.Refusal
@@ -25,12 +25,13 @@ use Rattle.eb3.specs.Answers.{or_refused}
 use Rattle.eb3.proofs.Laws.Editions.{width_is_1}
 use Rattle.actions.specs.Codes.{action_code, Small}
 use Rattle.actions.specs.ActionLaws.{action_small}
-use Rattle.given.specs.declared.asking.Asked.TheVariants.{Wanted, Stranger}
-use Rattle.engine.specs.declared.stepping.Moved.{Moved}
-use Rattle.engine.specs.declared.stepping.Moved.TheVariants.{Refused}
 use Rattle.given.specs.Giving.{given_in}
 use Rattle.given.specs.Asking.{asked_of, asked_as, Chooses}
 use Rattle.engine.specs.Stepping.{moved_as, Done, stepped_from, stepped}
+use Rattle.refusals.specs.declared.Refusal.{Refusal}
+use Rattle.refusals.specs.declared.Refusal.TheVariants.{Space, Stranger}
+use Rattle.refusals.specs.Numbers.{refusal, RefusedBy}
+use Rattle.engine.specs.declared.stepping.Step.{Step}
 
 -- ── one operation ──
 
@@ -70,13 +71,13 @@ module _ (rules term memory : List ℕ) (next_term next_memory : List ℕ) where
   -- ── by what was given ──
 
   module _ (by_event : Bool) (k : ℕ) (event : List ℕ) where
-    pub step_refused : (j : ℕ) → given_in rules term ≡ refused j → Done (stepped rules term memory by_event k event next_term next_memory) (Refused j) next_term next_memory
+    pub step_refused : (j : Refusal) → RefusedBy j (given_in rules term) → Done (stepped rules term memory by_event k event next_term next_memory) (Err j) next_term next_memory
     unfolding stepped moved_as
-    step_refused j e =
-        let f : stepped rules term memory by_event k event next_term next_memory ≡ unwritten next_term next_memory j = ap (λ a. writing next_term next_memory a (stepped_from by_event k event memory next_term next_memory)) e in
-        subst (λ w. Done w (Refused j) next_term next_memory) (sym f) (record { answer = refl; term_after = refl; memory_after = refl })
+    step_refused j h =
+        let f : stepped rules term memory by_event k event next_term next_memory ≡ unwritten next_term next_memory h.code = ap (λ a. writing next_term next_memory a (stepped_from by_event k event memory next_term next_memory)) h.is in
+        subst (λ w. Done w (Err j) next_term next_memory) (sym f) (record { answer = ap Err h.named; term_after = refl; memory_after = refl })
 
-    pub step_given : (R : RuleSet) (E : Term) → given_in rules term ≡ answered (R, E) → (r : Moved) (term' memory' : List ℕ)
+    pub step_given : (R : RuleSet) (E : Term) → given_in rules term ≡ answered (R, E) → (r : Result Step Refusal) (term' memory' : List ℕ)
         → Done (stepped_from by_event k event memory next_term next_memory (R, E)) r term' memory' → Done (stepped rules term memory by_event k event next_term next_memory) r term' memory'
     unfolding stepped
     step_given R E e r term' memory' d =
@@ -86,7 +87,7 @@ module _ (rules term memory : List ℕ) (next_term next_memory : List ℕ) where
 -- ── what is asked for ──
 
 -- An event that is none is refused 11.
-stranger_number : (b : Bool) (o : Option Action) (j : ℕ) → pick b (or_refused Refusal.stranger o) (refused Refusal.stranger) ≡ refused j → j ≡ 11
+stranger_number : (b : Bool) (o : Maybe Action) (j : ℕ) → pick b (or_refused Refusal.stranger o) (refused Refusal.stranger) ≡ refused j → j ≡ 11
 stranger_number true none j e = let z : 11 ≡ j = cc in sym z
 stranger_number true (some ρ) j e = absurd (let z : ◌≡◌ {A = ℕ} 0 1 = cc in omega arith)
 stranger_number false o j e = let z : 11 ≡ j = cc in sym z
@@ -95,34 +96,34 @@ module _ (R : RuleSet) (form : Form R) (k : ℕ) (event : List ℕ) where
   event_so : (ρ : Action) → event_in R event ≡ answered ρ → Small ρ
   event_so ρ e = go (even event) (given_event R (words_in event)) refl e
     where
-      go : (b : Bool) (o : Option Action) → given_event R (words_in event) ≡ o → pick b (or_refused Refusal.stranger o) (refused Refusal.stranger) ≡ answered ρ → Small ρ
+      go : (b : Bool) (o : Maybe Action) → given_event R (words_in event) ≡ o → pick b (or_refused Refusal.stranger o) (refused Refusal.stranger) ≡ answered ρ → Small ρ
       go true none q f = absurd (let z : ◌≡◌ {A = ℕ} 0 1 = cc in omega arith)
       go true (some σ) q f =
           let h : σ ≡ ρ = cc in
           subst Small h (action_small R form σ ((given_event_exact R (omega (arith, width_is_1 form)) (words_in event) σ).0 q).1)
       go false o q f = absurd (let z : ◌≡◌ {A = ℕ} 0 1 = cc in omega arith)
 
-  pub asked_stranger : (b : Bool) → Stranger ≡ asked_as b k (event_in R event) → asked_of b k event R ≡ refused 11
+  pub asked_stranger : (b : Bool) → None ≡ asked_as b k (event_in R event) → asked_of b k event R ≡ refused 11
   unfolding asked_of asked_as and_then
   asked_stranger false e = absurd (let z : ◌≡◌ {A = ℕ} 0 1 = cc in omega arith)
   asked_stranger true e = go (event_in R event) refl e
     where
-      go : (a : Answer Action) → event_in R event ≡ a → Stranger ≡ asked_as true k a → (and_then a λ ρ. answered (at_first ρ)) ≡ refused 11
+      go : (a : Answer Action) → event_in R event ≡ a → None ≡ asked_as true k a → (and_then a λ ρ. answered (at_first ρ)) ≡ refused 11
       go (refused j) q f = ap refused (stranger_number (even event) (given_event R (words_in event)) j q)
       go (answered ρ) q f = absurd (let z : ◌≡◌ {A = ℕ} 0 1 = cc in omega arith)
 
   -- A choice that is wanted, by the number that stands for it.
   pub record Choosing (b : Bool) (x : ℕ) : Type 0 where
-    pub choose : List Move → Option Move
+    pub choose : List Move → Maybe Move
     pub asked_so : asked_of b k event R ≡ answered choose
     pub chooses : Chooses b x choose
 
-  pub asked_wanted : (b : Bool) (x : ℕ) → Wanted x ≡ asked_as b k (event_in R event) → Choosing b x
+  pub asked_wanted : (b : Bool) (x : ℕ) → Some x ≡ asked_as b k (event_in R event) → Choosing b x
   unfolding asked_of asked_as and_then
   asked_wanted false x e = let z : x ≡ k = cc in record { choose = λ xs. get_elem? xs k; asked_so = refl; chooses = λ i xs. get_elem? xs (sym z i) }
   asked_wanted true x e = go (event_in R event) refl e
     where
-      go : (a : Answer Action) → event_in R event ≡ a → Wanted x ≡ asked_as true k a → Choosing true x
+      go : (a : Answer Action) → event_in R event ≡ a → Some x ≡ asked_as true k a → Choosing true x
       go (refused j) q f = absurd (let z : ◌≡◌ {A = ℕ} 0 1 = cc in omega arith)
       go (answered ρ) q f =
           let z : x ≡ action_code ρ = cc in
@@ -134,13 +135,13 @@ module _ (R : RuleSet) (E : Term) (memory next_term next_memory : List ℕ) (by_
   abbrev given : Written Answer_moved
   given = stepped_from by_event k event memory next_term next_memory (R, E)
 
-  pub stranger_done : asked_of by_event k event R ≡ refused 11 → Done given (Refused 11) next_term next_memory
-  unfolding moved_as
+  pub stranger_done : asked_of by_event k event R ≡ refused 11 → Done given (Err Stranger) next_term next_memory
+  unfolding moved_as refusal
   stranger_done e =
       let f : given ≡ unwritten next_term next_memory 11 = ap (λ a. writing next_term next_memory a λ choose. chosen R E memory next_term next_memory choose) e in
-      subst (λ w. Done w (Refused 11) next_term next_memory) (sym f) (record { answer = refl; term_after = refl; memory_after = refl })
+      subst (λ w. Done w (Err Stranger) next_term next_memory) (sym f) (record { answer = refl; term_after = refl; memory_after = refl })
 
-  module _ (choose : List Move → Option Move) (e : asked_of by_event k event R ≡ answered choose) where
+  module _ (choose : List Move → Maybe Move) (e : asked_of by_event k event R ≡ answered choose) where
     abbrev choice : Written Answer_moved
     choice = writing next_term next_memory (or_refused Refusal.not_offered (choose (listed R E memory))) (moved R memory next_term next_memory)
 
@@ -149,22 +150,22 @@ module _ (R : RuleSet) (E : Term) (memory next_term next_memory : List ℕ) (by_
         ap (λ a. writing next_term next_memory a λ f. chosen R E memory next_term next_memory f) e
         ∙ (λ i. pick (p i && (q i && r i)) choice (unwritten next_term next_memory Refusal.space))
 
-    lacking : given ≡ unwritten next_term next_memory Refusal.space → Done given (Refused 9) next_term next_memory
-    unfolding moved_as
-    lacking f = subst (λ w. Done w (Refused 9) next_term next_memory) (sym f) (record { answer = refl; term_after = refl; memory_after = refl })
+    lacking : given ≡ unwritten next_term next_memory Refusal.space → Done given (Err Space) next_term next_memory
+    unfolding moved_as refusal
+    lacking f = subst (λ w. Done w (Err Space) next_term next_memory) (sym f) (record { answer = refl; term_after = refl; memory_after = refl })
 
-    pub short_term : word_count next_term < reach R.edition.width E → Done given (Refused 9) next_term next_memory
+    pub short_term : word_count next_term < reach R.edition.width E → Done given (Err Space) next_term next_memory
     short_term h = lacking (by_room false (memory_fits R memory) (memory_fits R next_memory) (lt-leb (reach R.edition.width E) (word_count next_term) h) refl refl)
 
-    pub short_memory : reach R.edition.width E ≤ word_count next_term → cell_room memory < cells_needed R → Done given (Refused 9) next_term next_memory
+    pub short_memory : reach R.edition.width E ≤ word_count next_term → cell_room memory < cells_needed R → Done given (Err Space) next_term next_memory
     short_memory h l =
         lacking (by_room true false (memory_fits R next_memory) (le-leb (reach R.edition.width E) (word_count next_term) h) (lt-leb (cells_needed R) (cell_room memory) l) refl)
 
-    pub short_next_memory : reach R.edition.width E ≤ word_count next_term → cells_needed R ≤ cell_room memory → cell_room next_memory < cells_needed R → Done given (Refused 9) next_term next_memory
+    pub short_next_memory : reach R.edition.width E ≤ word_count next_term → cells_needed R ≤ cell_room memory → cell_room next_memory < cells_needed R → Done given (Err Space) next_term next_memory
     short_next_memory h l m =
         lacking (by_room true true false (le-leb (reach R.edition.width E) (word_count next_term) h) (le-leb (cells_needed R) (cell_room memory) l) (lt-leb (cells_needed R) (cell_room next_memory) m))
 
-    pub with_room : reach R.edition.width E ≤ word_count next_term → cells_needed R ≤ cell_room memory → cells_needed R ≤ cell_room next_memory → (r : Moved) (term' memory' : List ℕ)
+    pub with_room : reach R.edition.width E ≤ word_count next_term → cells_needed R ≤ cell_room memory → cells_needed R ≤ cell_room next_memory → (r : Result Step Refusal) (term' memory' : List ℕ)
         → Done choice r term' memory' → Done given r term' memory'
     with_room h l m r term' memory' d =
         subst (λ w. Done w r term' memory')

@@ -1,6 +1,8 @@
 -- What Move and Present answer and leave, by the specification's operations (document 01, "Operations"). Both are one operation, asked in two ways: for
 -- the move of a number, or for the first whose action is an event.
-use Rattle.std.specs.Prelude.{◌≡◌, Bool, List, ℕ, length, get_or}
+use Rattle.std.specs.Prelude.{◌≡◌, Bool, List, ℕ, length, get_or, Ok, Err, Result, Some, None, Option}
+use Rattle.std.proofs.Math.Option.{Option as Maybe, none}
+use Rattle.std.proofs.Math.ListN.{get_elem?}
 use Rattle.eb3.specs.Values.{Value}
 use Rattle.eb3.specs.Terms.{Term, Action, internal, visible}
 use Rattle.eb3.specs.Moves.{Move}
@@ -14,10 +16,10 @@ use Rattle.eb3.specs.Memory.{memory_words}
 use Rattle.eb3.specs.Answers.{Answer, refused, answered, Moved as Answer_moved, Written}
 use Rattle.eb3.specs.Operations.{writing, chosen}
 use Rattle.engine.specs.declared.stepping.Step.{Step}
-use Rattle.engine.specs.declared.stepping.Moved.{Moved}
-use Rattle.engine.specs.declared.stepping.Moved.TheVariants.{Made, Refused}
 use Rattle.given.specs.Giving.{given_in}
 use Rattle.given.specs.Asking.{asked_of}
+use Rattle.refusals.specs.declared.Refusal.{Refusal}
+use Rattle.refusals.specs.Numbers.{refusal}
 
 -- ── the answer ──
 
@@ -26,12 +28,12 @@ unfoldable pub told : Action → ℕ → Step
 told internal n = record { size = n; visible = 0; label = 0; arguments = 0; first = 0; second = 0 }
 told (visible a) n = record { size = n; visible = 1; label = a.label; arguments = length a.arguments; first = get_or a.arguments 0 0; second = get_or a.arguments 1 0 }
 
-unfoldable pub moved_as : Answer Answer_moved → Moved
-moved_as (refused k) = Refused k
-moved_as (answered m) = Made (told m.action m.size)
+unfoldable pub moved_as : Answer Answer_moved → Result Step Refusal
+moved_as (refused k) = Err (refusal k)
+moved_as (answered m) = Ok (told m.action m.size)
 
 -- With the lent buffers afterwards.
-pub record Done (w : Written Answer_moved) (r : Moved) (term' memory' : List ℕ) : Type 0 where
+pub record Done (w : Written Answer_moved) (r : Result Step Refusal) (term' memory' : List ℕ) : Type 0 where
   pub answer : r ≡ moved_as w.answer
   pub term_after : term' ≡ w.term
   pub memory_after : memory' ≡ w.memory
@@ -58,3 +60,8 @@ moved_from R cells next_term next_memory x = record {
   term = written (words 1 x.successor) next_term;
   memory = written (memory_words (state_after (Sem_M (attributes R)) cells x.action)) next_memory;
 }
+
+-- The move that a number stands for, or none where there is none.
+abbrev pub move_at : List Move → Option ℕ → Maybe Move
+move_at xs (Some k) = get_elem? xs k
+move_at xs None = none

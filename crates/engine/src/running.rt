@@ -4,17 +4,10 @@ ghost use Rattle.std.specs.Prelude.{◌≡◌, ℕ, ◌*◌, ◌/◌, ◌≤◌,
 ghost use Rattle.admission.specs.Knowing.{Opens};
 ghost use Rattle.engine.specs.Running.{RunDone};
 
-use admission::{Admitted, admit_in};
-use arguments::wide32;
-use blocks::{Opened, open};
+use admission::admit_in;
+use blocks::open;
 use mains::{Totals, run_main};
-
-// What a run ended with, or the number of a refusal.
-#[derive(Clone, Copy)]
-pub enum Ran {
-    Ended(Totals),
-    Refused(u8),
-}
+use refusals::Refusal;
 
 // n opened blocks, decoded into lent words.
 fn run_in(
@@ -26,63 +19,44 @@ fn run_in(
     memory: &mut [u8],
     spare: &mut [u8],
     cells: &[u8],
-) -> Ran
+) -> Result<Totals, Refusal>
     requires { (length rules.now ≡ 512 * n) × (254 * n ≤ length words.old) × (1 ≤ n) × (n ≤ 64) × Opens rules.now }
     ensures { RunDone rules.now numbers.now term.old memory.old spare.old cells.now result term.new memory.new spare.new }
 {
     let mut tables = [0u32; 500];
     let mut dir = [0u32; 1072];
-    match admit_in(rules, words, &mut tables, &mut dir, n) {
-        Admitted::Sizes(l) => {
-            let c = wide32(l.cells);
-            let reach = wide32(l.reach);
-            if term.len() / 2 < reach {
-                return Ran::Refused(9);
-            }
-            if memory.len() / 2 < c {
-                return Ran::Refused(9);
-            }
-            if spare.len() / 2 < reach {
-                return Ran::Refused(9);
-            }
-            if cells.len() / 2 < c {
-                return Ran::Refused(9);
-            }
-            let end = 254 * n;
-            Ran::Ended(run_main(
-                numbers,
-                &words[2..end],
-                &tables,
-                &dir,
-                c,
-                reach,
-                term,
-                memory,
-                spare,
-            ))
-        }
-        Admitted::Refused(k) => Ran::Refused(k),
+    let sizes = admit_in(rules, words, &mut tables, &mut dir, n)?;
+    let c = sizes.cells as usize;
+    let reach = sizes.reach as usize;
+    if term.len() / 2 < reach {
+        return Err(Refusal::Space);
     }
+    if memory.len() / 2 < c {
+        return Err(Refusal::Space);
+    }
+    if spare.len() / 2 < reach {
+        return Err(Refusal::Space);
+    }
+    if cells.len() / 2 < c {
+        return Err(Refusal::Space);
+    }
+    let end = 254 * n;
+    let totals = run_main(
+        numbers,
+        &words[2..end],
+        &tables,
+        &dir,
+        c,
+        reach,
+        term,
+        memory,
+        spare,
+    );
+    Ok(totals)
 }
 
 // Local words for one block, or for as many as there may be.
-fn run_one(
-    rules: &[u8],
-    numbers: &[u8],
-    term: &mut [u8],
-    memory: &mut [u8],
-    spare: &mut [u8],
-    cells: &[u8],
-) -> Ran
-    requires { (length rules.now ≡ 512) × Opens rules.now }
-    ensures { RunDone rules.now numbers.now term.old memory.old spare.old cells.now result term.new memory.new spare.new }
-{
-    let mut words = [0u16; 254];
-    let r = run_in(rules, 1, &mut words, numbers, term, memory, spare, cells);
-    r
-}
-
-fn run_many(
+fn run_sized<const WORDS: usize>(
     rules: &[u8],
     n: usize,
     numbers: &[u8],
@@ -90,11 +64,11 @@ fn run_many(
     memory: &mut [u8],
     spare: &mut [u8],
     cells: &[u8],
-) -> Ran
-    requires { (length rules.now ≡ 512 * n) × (1 ≤ n) × (n ≤ 64) × Opens rules.now }
+) -> Result<Totals, Refusal>
+    requires { (length rules.now ≡ 512 * n) × (254 * n ≤ WORDS) × (1 ≤ n) × (n ≤ 64) × Opens rules.now × (WORDS ≤ 16256) }
     ensures { RunDone rules.now numbers.now term.old memory.old spare.old cells.now result term.new memory.new spare.new }
 {
-    let mut words = [0u16; 16256];
+    let mut words = [0u16; WORDS];
     let r = run_in(rules, n, &mut words, numbers, term, memory, spare, cells);
     r
 }
@@ -108,16 +82,12 @@ pub fn run(
     memory: &mut [u8],
     spare: &mut [u8],
     cells: &[u8],
-) -> Ran
+) -> Result<Totals, Refusal>
     ensures { RunDone rules.now numbers.now term.old memory.old spare.old cells.now result term.new memory.new spare.new }
 {
-    match open(rules) {
-        Opened::Blocks(n) => {
-            if n <= 1 {
-                return run_one(rules, numbers, term, memory, spare, cells);
-            }
-            run_many(rules, n, numbers, term, memory, spare, cells)
-        }
-        Opened::Refused(k) => Ran::Refused(k),
+    let n = open(rules)?;
+    if n <= 1 {
+        return run_sized::<254>(rules, n, numbers, term, memory, spare, cells);
     }
+    run_sized::<16256>(rules, n, numbers, term, memory, spare, cells)
 }

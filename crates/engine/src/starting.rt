@@ -5,28 +5,27 @@ ghost use Rattle.engine.specs.Memories.{MemoryStarted, Begun};
 ghost use Rattle.admission.specs.Knowing.{Opens};
 ghost use Rattle.engine.specs.Starting.{StartDone};
 
-use admission::{Admitted, admit_in};
-use arguments::{entry, wide32};
-use blocks::{Opened, open};
-use cells::{fill, lay, save};
+use admission::admit_in;
+use arguments::entry;
+use blocks::open;
+use cells::{Functions, fill, lay, save};
+use refusals::Refusal;
 use unfold::unfold_main;
-
-// The start term's size, or the number of a refusal.
-#[derive(Clone, Copy)]
-pub enum Started {
-    Size(u32),
-    Refused(u8),
-}
 
 // The cells of the start, made in a lent store.
 fn start_store(t: &[u16], tb: &[u32], dir: &[u32], m: &mut [u16], c: usize, memory: &mut [u8])
     requires { (length t.now ≤ 65535) × (c ≤ 1024) × (get_or tb.now 17 0 ≤ 64) × (get_or tb.now 210 0 ≤ 16) }
     ensures { MemoryStarted t.now tb.now dir.now (length m.old) c memory.old memory.new }
 {
-    let w = 3 + wide32(entry(tb, 17));
-    let n = wide32(entry(tb, 210));
-    lay(dir, m, w, n, c);
-    fill(t, dir, m, w, 2, n);
+    let functions = Functions {
+        words: t,
+        directory: dir,
+        width: 3 + entry(tb, 17) as usize,
+        count: entry(tb, 210) as usize,
+        cells: c,
+    };
+    lay(&functions, m);
+    fill(&functions, m, 2);
     save(m, memory, c);
 }
 
@@ -60,56 +59,46 @@ fn start_in(
     n: usize,
     term: &mut [u8],
     memory: &mut [u8],
-) -> Started
+) -> Result<u32, Refusal>
     requires { (length rules.now ≡ 512 * n) × (254 * n ≤ length words.old) × (1 ≤ n) × (n ≤ 64) × Opens rules.now }
     ensures { StartDone rules.now term.old memory.old result term.new memory.new }
 {
     let mut tables = [0u32; 500];
     let mut dir = [0u32; 1072];
-    match admit_in(rules, words, &mut tables, &mut dir, n) {
-        Admitted::Sizes(l) => {
-            let c = wide32(l.cells);
-            if term.len() / 2 < wide32(l.reach) {
-                return Started::Refused(9);
-            }
-            if memory.len() / 2 < c {
-                return Started::Refused(9);
-            }
-            let end = 254 * n;
-            begin(&words[2..end], &tables, &dir, c, term, memory);
-            Started::Size(l.size)
-        }
-        Admitted::Refused(k) => Started::Refused(k),
+    let sizes = admit_in(rules, words, &mut tables, &mut dir, n)?;
+    let c = sizes.cells as usize;
+    if term.len() / 2 < sizes.reach as usize {
+        return Err(Refusal::Space);
     }
+    if memory.len() / 2 < c {
+        return Err(Refusal::Space);
+    }
+    let end = 254 * n;
+    begin(&words[2..end], &tables, &dir, c, term, memory);
+    Ok(sizes.size)
 }
 
-fn start_one(rules: &[u8], term: &mut [u8], memory: &mut [u8]) -> Started
-    requires { (length rules.now ≡ 512) × Opens rules.now }
+// Local words for one block, or for as many as there may be.
+fn start_sized<const WORDS: usize>(
+    rules: &[u8],
+    n: usize,
+    term: &mut [u8],
+    memory: &mut [u8],
+) -> Result<u32, Refusal>
+    requires { (length rules.now ≡ 512 * n) × (254 * n ≤ WORDS) × (1 ≤ n) × (n ≤ 64) × Opens rules.now × (WORDS ≤ 16256) }
     ensures { StartDone rules.now term.old memory.old result term.new memory.new }
 {
-    let mut words = [0u16; 254];
-    start_in(rules, &mut words, 1, term, memory)
-}
-
-fn start_many(rules: &[u8], n: usize, term: &mut [u8], memory: &mut [u8]) -> Started
-    requires { (length rules.now ≡ 512 * n) × (1 ≤ n) × (n ≤ 64) × Opens rules.now }
-    ensures { StartDone rules.now term.old memory.old result term.new memory.new }
-{
-    let mut words = [0u16; 16256];
+    let mut words = [0u16; WORDS];
     start_in(rules, &mut words, n, term, memory)
 }
 
 // Start: main's unfolding and the memory at the start; or the first refusal of 1 to 9, and nothing is written.
-pub fn start(rules: &[u8], term: &mut [u8], memory: &mut [u8]) -> Started
+pub fn start(rules: &[u8], term: &mut [u8], memory: &mut [u8]) -> Result<u32, Refusal>
     ensures { StartDone rules.now term.old memory.old result term.new memory.new }
 {
-    match open(rules) {
-        Opened::Blocks(n) => {
-            if n <= 1 {
-                return start_one(rules, term, memory);
-            }
-            start_many(rules, n, term, memory)
-        }
-        Opened::Refused(k) => Started::Refused(k),
+    let n = open(rules)?;
+    if n <= 1 {
+        return start_sized::<254>(rules, n, term, memory);
     }
+    start_sized::<16256>(rules, n, term, memory)
 }

@@ -1,9 +1,9 @@
 // Move and Present: one step from a given term and memory, into lent buffers (document 01, "Operations"). Both are one operation, asked
 // for the move of a number or for the first whose action is an event.
-ghost use Rattle.std.specs.Prelude.{◌≡◌, Bool, List, ℕ, ◌*◌, ◌/◌, ◌%◌, ◌≤◌, length, get_or};
+ghost use Rattle.std.specs.Prelude.{◌≡◌, Bool, List, ℕ, ◌+◌, ◌*◌, ◌/◌, ◌%◌, ◌≤◌, length, get_or};
 ghost use Rattle.std.proofs.Math.Option.{Option};
 ghost use Rattle.std.proofs.Math.ListN.{get_elem?};
-ghost use Rattle.eb3.specs.Refusal;
+ghost use Rattle.eb3.specs.Refusal.{not_offered};
 ghost use Rattle.eb3.specs.Values.{Value};
 ghost use Rattle.eb3.specs.Terms.{Term, Action};
 ghost use Rattle.eb3.specs.Moves.{Move, moves};
@@ -22,17 +22,18 @@ ghost use Rattle.steps.specs.Storing.{Stored};
 ghost use Rattle.admission.specs.Knowing.{Opens};
 ghost use Rattle.given.specs.Giving.{Described};
 ghost use Rattle.given.specs.Asking.{Chooses};
-ghost use Rattle.engine.specs.Stepping.{told, Done, moved_from, reach_in_words, stepped_from, stepped};
+ghost use Rattle.engine.specs.Stepping.{told, Done, moved_from, move_at, reach_in_words, stepped_from, stepped};
 
 use actions::{argument_at, argument_count, label_of};
-use arguments::{entry, low32, wide32};
-use blocks::{Opened, open};
-use cells::save;
-use given::asking::{Asked, ask};
-use given::giving::{Given, given_in};
+use arguments::entry;
+use blocks::open;
+use cells::{Functions, save};
+use given::asking::ask;
+use given::giving::given_in;
+use refusals::Refusal;
 use scan::front;
 use steps::counting::first_move;
-use steps::moving::{Taken, take_move};
+use steps::moving::take_move;
 use steps::renewing::renew;
 use steps::storing::load_store;
 
@@ -47,13 +48,6 @@ pub struct Step {
     pub second: u32,
 }
 
-// What a move did, or the number of a refusal.
-#[derive(Clone, Copy)]
-pub enum Moved {
-    Made(Step),
-    Refused(u8),
-}
-
 // ── the answer ──
 
 fn tell(code: u32, size: usize) -> Step
@@ -61,7 +55,7 @@ fn tell(code: u32, size: usize) -> Step
 {
     if code == 0 {
         return Step {
-            size: low32(size),
+            size: (size % 4294967296) as u32,
             visible: 0,
             label: 0,
             arguments: 0,
@@ -70,7 +64,7 @@ fn tell(code: u32, size: usize) -> Step
         };
     }
     Step {
-        size: low32(size),
+        size: (size % 4294967296) as u32,
         visible: 1,
         label: label_of(code),
         arguments: argument_count(code),
@@ -83,46 +77,36 @@ fn tell(code: u32, size: usize) -> Step
 
 // Move k from a loaded store, into buffers with room.
 fn step_from(
-    t: &[u16],
+    functions: &Functions,
     s: &[u16],
     tb: &[u32],
-    dir: &[u32],
     m: &mut [u16],
-    c: usize,
     k: usize,
     next_term: &mut [u8],
     next_memory: &mut [u8],
-) -> Moved
-    requires { (length t.now ≤ 65535) × (length s.now ≤ 65535) × (c ≤ 1024) × (get_or tb.now 17 0 ≤ 64) × (get_or tb.now 210 0 ≤ 16) }
-    ensures { (R : RuleSet) (E : Term) (cells : List Value) → Described R E t.now tb.now dir.now s.now → c ≡ cells_needed R → Stored R cells m.old → reach 1 E ≤ word_count next_term.old → c ≤ cell_room next_memory.old → Done (writing next_term.old next_memory.old (or_refused Refusal.not_offered (get_elem? (moves ((Sem_M (attributes R)).satisfies cells) E) k)) (moved_from R cells next_term.old next_memory.old)) result next_term.new next_memory.new }
+) -> Result<Step, Refusal>
+    requires { (length s.now ≤ 65535) × (functions.now.width ≡ 3 + get_or tb.now 17 0) × (functions.now.count ≡ get_or tb.now 210 0) }
+    ensures { (R : RuleSet) (E : Term) (cells : List Value) → Described R E functions.now.words.now tb.now functions.now.directory.now s.now → functions.now.cells ≡ cells_needed R → Stored R cells m.old → reach 1 E ≤ word_count next_term.old → functions.now.cells ≤ cell_room next_memory.old → Done (writing next_term.old next_memory.old (or_refused not_offered (get_elem? (moves ((Sem_M (attributes R)).satisfies cells) E) k)) (moved_from R cells next_term.old next_memory.old)) result next_term.new next_memory.new }
 {
     match take_move(s, m, k, next_term) {
-        Taken::Made(action, size) => {
-            renew(
-                t,
-                dir,
-                m,
-                3 + wide32(entry(tb, 17)),
-                wide32(entry(tb, 210)),
-                c,
-                action,
-            );
-            save(m, next_memory, c);
-            Moved::Made(tell(action, size))
+        Some(taken) => {
+            renew(functions, m, taken.action);
+            save(m, next_memory, functions.cells);
+            Ok(tell(taken.action, taken.size))
         }
-        Taken::NotOffered => Moved::Refused(12),
+        None => Err(Refusal::NotOffered),
     }
 }
 
-// The number of the move that is wanted, at a loaded store: x is it, or the number of an action.
-fn wanted(s: &[u16], m: &[u16], by_event: bool, x: usize) -> usize
+// The number of the move that is wanted, at a loaded store, or none where there is none: x is it, or the number of an action.
+fn wanted(s: &[u16], m: &[u16], by_event: bool, x: usize) -> Option<usize>
     requires { length s.now ≤ 65535 }
-    ensures { (P : Scope) (E : Term) (choose : List Move → Option Move) → Whole s.now P E → Chooses by_event x choose → get_elem? (moves (holding m.now) E) result ≡ choose (moves (holding m.now) E) }
+    ensures { (P : Scope) (E : Term) (choose : List Move → Option Move) → Whole s.now P E → Chooses by_event x choose → move_at (moves (holding m.now) E) result ≡ choose (moves (holding m.now) E) }
 {
     if by_event {
-        return first_move(s, m, low32(x));
+        return first_move(s, m, (x % 4294967296) as u32);
     }
-    x
+    Some(x)
 }
 
 // From the cells of a memory, into buffers with room.
@@ -137,22 +121,23 @@ fn step_at(
     x: usize,
     next_term: &mut [u8],
     next_memory: &mut [u8],
-) -> Moved
+) -> Result<Step, Refusal>
     requires { (length t.now ≤ 65535) × (length s.now ≤ 65535) × (c ≤ 1024) × (get_or tb.now 17 0 ≤ 64) × (get_or tb.now 210 0 ≤ 16) }
-    ensures { (R : RuleSet) (E : Term) (choose : List Move → Option Move) → Described R E t.now tb.now dir.now s.now → c ≡ cells_needed R → c ≤ cell_room memory.now → reach 1 E ≤ word_count next_term.old → c ≤ cell_room next_memory.old → Chooses by_event x choose → Done (writing next_term.old next_memory.old (or_refused Refusal.not_offered (choose (listed R E memory.now))) (moved R memory.now next_term.old next_memory.old)) result next_term.new next_memory.new }
+    ensures { (R : RuleSet) (E : Term) (choose : List Move → Option Move) → Described R E t.now tb.now dir.now s.now → c ≡ cells_needed R → c ≤ cell_room memory.now → reach 1 E ≤ word_count next_term.old → c ≤ cell_room next_memory.old → Chooses by_event x choose → Done (writing next_term.old next_memory.old (or_refused not_offered (choose (listed R E memory.now))) (moved R memory.now next_term.old next_memory.old)) result next_term.new next_memory.new }
 {
+    let functions = Functions {
+        words: t,
+        directory: dir,
+        width: 3 + entry(tb, 17) as usize,
+        count: entry(tb, 210) as usize,
+        cells: c,
+    };
     let mut m = [0u16; 2084];
-    load_store(
-        dir,
-        &mut m,
-        3 + wide32(entry(tb, 17)),
-        wide32(entry(tb, 210)),
-        c,
-        memory,
-    );
-    let k = wanted(s, &m, by_event, x);
-    let r = step_from(t, s, tb, dir, &mut m, c, k, next_term, next_memory);
-    r
+    load_store(&functions, &mut m, memory);
+    match wanted(s, &m, by_event, x) {
+        Some(k) => step_from(&functions, s, tb, &mut m, k, next_term, next_memory),
+        None => Err(Refusal::NotOffered),
+    }
 }
 
 // Refusal 11, then 9, then 12.
@@ -169,36 +154,34 @@ fn step_given(
     event: &[u8],
     next_term: &mut [u8],
     next_memory: &mut [u8],
-) -> Moved
+) -> Result<Step, Refusal>
     requires { (length t.now ≤ 65535) × (length s.now ≤ 65535) × (c ≤ 1024) × (get_or tb.now 17 0 ≤ 64) × (get_or tb.now 210 0 ≤ 16) }
     ensures { (R : RuleSet) (E : Term) → Described R E t.now tb.now dir.now s.now → c ≡ cells_needed R → reach ≡ reach_in_words E → Done (stepped_from by_event k event.now memory.now next_term.old next_memory.old (R, E)) result next_term.new next_memory.new }
 {
-    match ask(tb, by_event, k, event) {
-        Asked::Wanted(x) => {
-            if next_term.len() / 2 < reach {
-                return Moved::Refused(9);
-            }
-            if memory.len() / 2 < c {
-                return Moved::Refused(9);
-            }
-            if next_memory.len() / 2 < c {
-                return Moved::Refused(9);
-            }
-            step_at(
-                t,
-                s,
-                tb,
-                dir,
-                c,
-                memory,
-                by_event,
-                x,
-                next_term,
-                next_memory,
-            )
-        }
-        Asked::Stranger => Moved::Refused(11),
+    let Some(x) = ask(tb, by_event, k, event) else {
+        return Err(Refusal::Stranger);
+    };
+    if next_term.len() / 2 < reach {
+        return Err(Refusal::Space);
     }
+    if memory.len() / 2 < c {
+        return Err(Refusal::Space);
+    }
+    if next_memory.len() / 2 < c {
+        return Err(Refusal::Space);
+    }
+    step_at(
+        t,
+        s,
+        tb,
+        dir,
+        c,
+        memory,
+        by_event,
+        x,
+        next_term,
+        next_memory,
+    )
 }
 
 // n opened blocks and a term, decoded into lent words.
@@ -214,67 +197,32 @@ fn step_in(
     event: &[u8],
     next_term: &mut [u8],
     next_memory: &mut [u8],
-) -> Moved
+) -> Result<Step, Refusal>
     requires { (length rules.now ≡ 512 * n) × (254 * n ≤ length words.old) × (1 ≤ n) × (n ≤ 64) × Opens rules.now × (length term.now / 2 ≤ 8192 → length term.now / 2 ≤ length ws.old) }
     ensures { Done (stepped rules.now term.now memory.now by_event k event.now next_term.old next_memory.old) result next_term.new next_memory.new }
 {
     let mut tables = [0u32; 500];
     let mut dir = [0u32; 1072];
-    match given_in(rules, n, words, &mut tables, &mut dir, term, ws) {
-        Given::Term(c, reach) => {
-            let end = 254 * n;
-            step_given(
-                &words[2..end],
-                front(ws, term.len() / 2),
-                &tables,
-                &dir,
-                c,
-                reach,
-                memory,
-                by_event,
-                k,
-                event,
-                next_term,
-                next_memory,
-            )
-        }
-        Given::Refused(j) => Moved::Refused(j),
-    }
-}
-
-// A rule set of one block and a term of at most 256 words do not pay for clearing large arrays.
-fn step_small(
-    rules: &[u8],
-    term: &[u8],
-    memory: &[u8],
-    by_event: bool,
-    k: usize,
-    event: &[u8],
-    next_term: &mut [u8],
-    next_memory: &mut [u8],
-) -> Moved
-    requires { (length rules.now ≡ 512) × Opens rules.now × (length term.now ≤ 512) }
-    ensures { Done (stepped rules.now term.now memory.now by_event k event.now next_term.old next_memory.old) result next_term.new next_memory.new }
-{
-    let mut words = [0u16; 254];
-    let mut ws = [0u16; 256];
-    let r = step_in(
-        rules,
-        1,
-        &mut words,
-        &mut ws,
-        term,
+    let given = given_in(rules, n, words, &mut tables, &mut dir, term, ws)?;
+    let end = 254 * n;
+    step_given(
+        &words[2..end],
+        front(ws, term.len() / 2),
+        &tables,
+        &dir,
+        given.cells,
+        given.reach,
         memory,
         by_event,
         k,
         event,
         next_term,
         next_memory,
-    );
-    r
+    )
 }
 
-fn step_large(
+// Local words for the blocks and for the term: a rule set of one block and a term of at most 256 words do not pay for clearing large arrays.
+fn step_sized<const WORDS: usize, const TERM: usize>(
     rules: &[u8],
     n: usize,
     term: &[u8],
@@ -284,12 +232,12 @@ fn step_large(
     event: &[u8],
     next_term: &mut [u8],
     next_memory: &mut [u8],
-) -> Moved
-    requires { (length rules.now ≡ 512 * n) × (1 ≤ n) × (n ≤ 64) × Opens rules.now }
+) -> Result<Step, Refusal>
+    requires { (length rules.now ≡ 512 * n) × (254 * n ≤ WORDS) × (1 ≤ n) × (n ≤ 64) × Opens rules.now × (length term.now / 2 ≤ 8192 → length term.now / 2 ≤ TERM) × (WORDS ≤ 16256) × (TERM ≤ 8192) }
     ensures { Done (stepped rules.now term.now memory.now by_event k event.now next_term.old next_memory.old) result next_term.new next_memory.new }
 {
-    let mut words = [0u16; 16256];
-    let mut ws = [0u16; 8192];
+    let mut words = [0u16; WORDS];
+    let mut ws = [0u16; TERM];
     let r = step_in(
         rules,
         n,
@@ -315,39 +263,34 @@ fn step_by(
     event: &[u8],
     next_term: &mut [u8],
     next_memory: &mut [u8],
-) -> Moved
+) -> Result<Step, Refusal>
     ensures { Done (stepped rules.now term.now memory.now by_event k event.now next_term.old next_memory.old) result next_term.new next_memory.new }
 {
-    match open(rules) {
-        Opened::Blocks(n) => {
-            if n <= 1 {
-                if term.len() <= 512 {
-                    return step_small(
-                        rules,
-                        term,
-                        memory,
-                        by_event,
-                        k,
-                        event,
-                        next_term,
-                        next_memory,
-                    );
-                }
-            }
-            step_large(
-                rules,
-                n,
-                term,
-                memory,
-                by_event,
-                k,
-                event,
-                next_term,
-                next_memory,
-            )
-        }
-        Opened::Refused(j) => Moved::Refused(j),
+    let n = open(rules)?;
+    if n <= 1 && term.len() <= 512 {
+        return step_sized::<254, 256>(
+            rules,
+            n,
+            term,
+            memory,
+            by_event,
+            k,
+            event,
+            next_term,
+            next_memory,
+        );
     }
+    step_sized::<16256, 8192>(
+        rules,
+        n,
+        term,
+        memory,
+        by_event,
+        k,
+        event,
+        next_term,
+        next_memory,
+    )
 }
 
 // ── the operations ──
@@ -360,7 +303,7 @@ pub fn make_move(
     k: usize,
     next_term: &mut [u8],
     next_memory: &mut [u8],
-) -> Moved
+) -> Result<Step, Refusal>
     ensures { Done (move rules.now term.now memory.now k next_term.old next_memory.old) result next_term.new next_memory.new }
 {
     let none = [0u8; 0];
@@ -375,7 +318,7 @@ pub fn present(
     event: &[u8],
     next_term: &mut [u8],
     next_memory: &mut [u8],
-) -> Moved
+) -> Result<Step, Refusal>
     ensures { Done (present rules.now term.now memory.now event.now next_term.old next_memory.old) result next_term.new next_memory.new }
 {
     step_by(rules, term, memory, true, 0, event, next_term, next_memory)

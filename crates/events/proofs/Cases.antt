@@ -1,7 +1,8 @@
 -- A case for each way that the reading of an event returns; the premises have the form of what the code tells there, so that `search` finds them.
 use mathlib.Core.Path.{◌≡◌, refl, sym, ap, ◌∙◌, subst}
 use mathlib.Core.List.{List, [], ◌∷◌, append-nil}
-use mathlib.Core.Option.{Option, none, some}
+use mathlib.Core.Option.{Option as Optional, none, some}
+use Rattle.std.specs.Prelude.{Option, Some, None}
 use Prim.Native.Nat.{ℕ}
 use native.Mathlib.Omega.{arith}
 use lib.ListN.{drop, get_or}
@@ -16,31 +17,29 @@ use Rattle.arguments.specs.Tables.{declared}
 use Rattle.declarations.specs.Declaring.{Declares}
 use Rattle.declarations.specs.DeclaringLaws.{declared_alike}
 use Rattle.terms.specs.declared.Given.{Given}
-use Rattle.terms.specs.declared.Given.TheVariants.{Running, Wrong}
 use Rattle.terms.specs.Given.{given}
 use Rattle.terms.specs.Alike.{given_term_alike}
 use Rattle.actions.specs.Codes.{action_code, ActionAt}
 use Rattle.actions.specs.ActionLaws.{action_small}
-use Rattle.events.specs.declared.Event.TheVariants.{Action as Event_action, Stranger}
 use Rattle.events.specs.Events.{event_as}
 use Rattle.events.proofs.Leaves.{positive, event_of, event_is_leaf, internal_first, action_first, other_first}
 
 -- Which answers are those of a running term.
-abbrev Runs : Given → Type 0
-Runs (Running r b) = Unit
-Runs Wrong = ⊥
+abbrev Runs : Option Given → Type 0
+Runs (Some g) = Unit
+Runs None = ⊥
 
 module _ (T s : List ℕ) (R : RuleSet) (form : Form R) (d : Declares T R) where
   -- The tables read a given term as the rule set does.
-  at_rules : (g : Given) → g ≡ given (given_term (declared T) s) → g ≡ given (given_term R s)
+  at_rules : (g : Option Given) → g ≡ given (given_term (declared T) s) → g ≡ given (given_term R s)
   at_rules g e = e ∙ ap given (given_term_alike (declared T) R (declared_alike T R d) s)
 
   -- No term is no event.
-  none_given : Wrong ≡ given (given_term R s) → given_event R s ≡ none
+  none_given : None ≡ given (given_term R s) → given_event R s ≡ none
   unfolding given event_of
   none_given e = event_is_leaf R form s ∙ go (given_term R s) e
     where
-      go : (o : Option Term) → Wrong ≡ given o → event_of o ≡ none
+      go : (o : Optional Term) → None ≡ given o → event_of o ≡ none
       go none f = refl
       go (some E) f = absurd (subst Runs (sym f) tt)
 
@@ -50,22 +49,22 @@ module _ (T s : List ℕ) (R : RuleSet) (form : Form R) (d : Declares T R) where
     pub running : RunningTerm R E
     pub event : given_event R s ≡ leaf_of E
 
-  some_given : (r b : ℕ) → Running r b ≡ given (given_term R s) → (E : Term) × Spelt E
+  some_given : (x : Given) → Some x ≡ given (given_term R s) → (E : Term) × Spelt E
   unfolding given event_of
-  some_given r b e = go (given_term R s) refl
+  some_given x e = go (given_term R s) refl
     where
-      go : (o : Option Term) → given_term R s ≡ o → (E : Term) × Spelt E
+      go : (o : Optional Term) → given_term R s ≡ o → (E : Term) × Spelt E
       go none f = absurd (subst Runs (e ∙ ap given f) tt)
       go (some E) f =
-          let x : (s ≡ words R.edition.width E) × RunningTerm R E = (given_term_exact R (positive R form s) s E).0 f in
-          (E, record { spelled = x.0 ∙ ap (λ w. words w E) (width_is_1 form); running = x.1; event = event_is_leaf R form s ∙ ap event_of f })
+          let z : (s ≡ words R.edition.width E) × RunningTerm R E = (given_term_exact R (positive R form s) s E).0 f in
+          (E, record { spelled = z.0 ∙ ap (λ w. words w E) (width_is_1 form); running = z.1; event = event_is_leaf R form s ∙ ap event_of f })
 
   module _ (E : Term) (t : Spelt E) where
-    internal_event : get_or s 0 0 ≡ 20 → Event_action 0 ≡ event_as (given_event R s)
+    internal_event : get_or s 0 0 ≡ 20 → Some 0 ≡ event_as (given_event R s)
     unfolding event_as action_code
     internal_event w = sym (ap event_as (t.event ∙ internal_first E (sym (ap (λ u. get_or u 0 0) t.spelled) ∙ w)))
 
-    other_event : (get_or s 0 0 ≡ 20 → ⊥) → (get_or s 0 0 ≡ 21 → ⊥) → Stranger ≡ event_as (given_event R s)
+    other_event : (get_or s 0 0 ≡ 20 → ⊥) → (get_or s 0 0 ≡ 21 → ⊥) → None ≡ event_as (given_event R s)
     unfolding event_as
     other_event h k = sym (ap event_as (t.event ∙ other_first E (λ w. h (ap (λ u. get_or u 0 0) t.spelled ∙ w)) (λ w. k (ap (λ u. get_or u 0 0) t.spelled ∙ w))))
 
@@ -77,34 +76,34 @@ module _ (T s : List ℕ) (R : RuleSet) (form : Form R) (d : Declares T R) where
     closed = λ z. let w : ⊥ = omega arith in w;
   }
 
-  action_event : (E : Term) → Spelt E → get_or s 0 0 ≡ 21 → (code : ℕ) → ((a : VisibleAction) (rest : List ℕ) → ActionAt (drop 1 s) a rest → code ≡ action_code (visible a)) → Event_action code ≡ event_as (given_event R s)
+  action_event : (E : Term) → Spelt E → get_or s 0 0 ≡ 21 → (code : ℕ) → ((a : VisibleAction) (rest : List ℕ) → ActionAt (drop 1 s) a rest → code ≡ action_code (visible a)) → Some code ≡ event_as (given_event R s)
   unfolding event_as
   action_event E t w code h = go (action_first E (sym (ap (λ u. get_or u 0 0) t.spelled) ∙ w))
     where
-      go : (a : VisibleAction) × (E ≡ Perform a) → Event_action code ≡ event_as (given_event R s)
+      go : (a : VisibleAction) × (E ≡ Perform a) → Some code ≡ event_as (given_event R s)
       go x =
           let u : Spelt (Perform x.0) = subst Spelt x.1 t in
-          ap Event_action (h x.0 [] (action_there x.0 u)) ∙ sym (ap event_as u.event)
+          ap Some (h x.0 [] (action_there x.0 u)) ∙ sym (ap event_as u.event)
 
 -- ── the ways of returning ──
 
-module _ (T s : List ℕ) (g : Given) (e : g ≡ given (given_term (declared T) s)) where
-  pub given_none : g ≡ Wrong → (R : RuleSet) → Form R → Declares T R → Stranger ≡ event_as (given_event R s)
+module _ (T s : List ℕ) (g : Option Given) (e : g ≡ given (given_term (declared T) s)) where
+  pub given_none : g ≡ None → (R : RuleSet) → Form R → Declares T R → None ≡ event_as (given_event R s)
   unfolding event_as
   given_none f R form d = sym (ap event_as (none_given T s R form d (sym f ∙ at_rules T s R form d g e)))
 
-  module _ (r b : ℕ) (f : g ≡ Running r b) (w : ℕ) (h : w ≡ get_or s 0 0) where
+  module _ (y : Given) (f : g ≡ Some y) (w : ℕ) (h : w ≡ get_or s 0 0) where
     term_given : (R : RuleSet) (form : Form R) (d : Declares T R) → (E : Term) × Spelt T s R form d E
-    term_given R form d = some_given T s R form d r b (sym f ∙ at_rules T s R form d g e)
+    term_given R form d = some_given T s R form d y (sym f ∙ at_rules T s R form d g e)
 
-    pub given_internal : w ≡ 20 → (R : RuleSet) → Form R → Declares T R → Event_action 0 ≡ event_as (given_event R s)
+    pub given_internal : w ≡ 20 → (R : RuleSet) → Form R → Declares T R → Some 0 ≡ event_as (given_event R s)
     given_internal k R form d = let x : (E : Term) × Spelt T s R form d E = term_given R form d in internal_event T s R form d x.0 x.1 (sym h ∙ k)
 
-    pub given_other : (Unit {0} × (w ≡ 20 → ⊥)) × (w ≡ 21 → ⊥) → (R : RuleSet) → Form R → Declares T R → Stranger ≡ event_as (given_event R s)
+    pub given_other : (Unit {0} × (w ≡ 20 → ⊥)) × (w ≡ 21 → ⊥) → (R : RuleSet) → Form R → Declares T R → None ≡ event_as (given_event R s)
     given_other k R form d = let x : (E : Term) × Spelt T s R form d E = term_given R form d in other_event T s R form d x.0 x.1 (λ z. k.0.1 (h ∙ z)) (λ z. k.1 (h ∙ z))
 
     pub given_action : w ≡ 21 → (t : List ℕ) → t ≡ drop 1 s → (code : ℕ) → ((a : VisibleAction) (rest : List ℕ) → ActionAt t a rest → code ≡ action_code (visible a))
-        → (R : RuleSet) → Form R → Declares T R → Event_action code ≡ event_as (given_event R s)
+        → (R : RuleSet) → Form R → Declares T R → Some code ≡ event_as (given_event R s)
     given_action k t i code c R form d =
         let x : (E : Term) × Spelt T s R form d E = term_given R form d in
         action_event T s R form d x.0 x.1 (sym h ∙ k) code (λ a rest z. c a rest (subst (λ u. ActionAt u a rest) (sym i) z))

@@ -1,10 +1,9 @@
 -- What the words of an event say: the action's number, or that they are no event (document 01, refusal 11).
-use Rattle.std.proofs.Math.Option.{Option, none, some}
+use Rattle.std.proofs.Math.Option.{Option as Optional, none, some}
+use Rattle.std.specs.Prelude.{ℕ, Option, Some, None}
 use Rattle.eb3.specs.Terms.{Action}
 use Rattle.actions.specs.Codes.{action_code}
-use Rattle.events.specs.declared.Event.{Event}
-use Rattle.events.specs.declared.Event.TheVariants.{Action as Event_action, Stranger}
 
-unfoldable pub event_as : Option Action → Event
-event_as none = Stranger
-event_as (some ρ) = Event_action (action_code ρ)
+unfoldable pub event_as : Optional Action → Option ℕ
+event_as none = None
+event_as (some ρ) = Some (action_code ρ)

@@ -1,4 +1,4 @@
-// An event given to Present: one running leaf of the rule set, whose action's number is told (document 01, "Operations"; refusal 11).
+// An event given to Present: one running leaf of the rule set, whose action has a number (document 01, "Operations"; refusal 11).
 #![tactic(auto)]
 
 ghost use Rattle.std.specs.Prelude.{◌≡◌};
@@ -10,25 +10,17 @@ ghost use Rattle.events.specs.Events.{event_as};
 
 use actions::code_at;
 use scan::{behind, first};
-use terms::{Given, given_term};
+use terms::given_term;
 
-// The action's number, or that the words are no event of this rule set.
-#[derive(Clone, Copy)]
-pub enum Event {
-    Action(u32),
-    Stranger,
-}
-
-// A running term that begins with the code of a leaf is that leaf.
-pub fn given_event(s: &[u16], tb: &[u32]) -> Event
+// The number of the event's action, or none where the words are no event of this rule set. A running term that begins with
+// the code of a leaf is that leaf.
+pub fn given_event(s: &[u16], tb: &[u32]) -> Option<u32>
     ensures { (R : RuleSet) → Form R → Declares tb.now R → result ≡ event_as (given_event R s.now) }
 {
-    match given_term(s, tb) {
-        Given::Running(reach, breadth) => match first(s) {
-            20 => Event::Action(0),
-            21 => Event::Action(code_at(behind(s))),
-            _ => Event::Stranger,
-        },
-        Given::Wrong => Event::Stranger,
+    given_term(s, tb)?;
+    match first(s) {
+        20 => Some(0),
+        21 => Some(code_at(behind(s))),
+        _ => None,
     }
 }

@@ -1,29 +1,27 @@
 -- A case for each way that a helper of the evaluators returns, over its operands; the premises have the form of what the code tells there.
-use mathlib.Core.Path.{◌≡◌, sym, ap, ◌∙◌, subst}
-use mathlib.Core.Bool.{Bool, true, false, not, ◌&&◌, ◌||◌, cond}
+use mathlib.Core.Path.{◌≡◌, refl, sym, ap, ◌∙◌}
+use mathlib.Core.Bool.{Bool, true, false, not, cond}
 use mathlib.Core.List.{List, [], ◌∷◌, ◌++◌}
-use Prim.Native.Nat.{ℕ, ◌/◌, ◌%◌, ◌<◌}
+use Prim.Native.Nat.{ℕ, ◌/◌, ◌%◌}
 use native.Mathlib.Omega.{arith}
-use lib.ListN.{length, drop, get_or}
+use lib.Dec.{eqb}
+use mir.Val.{bool_byte}
+use lib.ListN.{drop, get_or}
 use Rattle.eb3.specs.Values.{Value, encode, decode}
 use Rattle.eb3.specs.Expressions.{evaluate_data, evaluate_cond}
 use Rattle.eb3.specs.Spelling.{data_words, cond_words}
 use Rattle.scan.specs.Checking.{last_of}
-use Rattle.expressions.specs.Stores.{stored, reading_in, environment_in}
+use Rattle.expressions.specs.Stores.{reading_in, environment_in}
 use Rattle.expressions.specs.Answering.{value_word, truth, answer, DataAt, CondAt, Evaluated, Judged}
-use Rattle.expressions.specs.Operands.{Valued, Paired, Selected, Named, Joined, Negated}
+use Rattle.expressions.specs.Operands.{Paired, Selected, Named, Joined, Negated}
 use Rattle.expressions.specs.Laws.{data_parted, cond_parted, data_value}
 
+negated_word : (c : Bool) → bool_byte (eqb (truth c) 0) ≡ truth (not c)
+unfolding truth
+negated_word true = refl
+negated_word false = refl
+
 -- ── operands ──
-
--- v is the constant, or the variable's word; u are the words behind it
-pub constant_case : (t u : List ℕ) (v r : ℕ) → v ≡ get_or t 0 0 → u ≡ drop 1 t → r ≡ answer v (length u) → r ≡ answer (get_or t 0 0) (length (drop 1 t))
-constant_case t u v r e k h = h ∙ (λ j. answer (e j) (length (k j)))
-
-pub variable_case : (t u M : List ℕ) (i v r : ℕ) → i ≡ get_or t 0 0 → v ≡ stored M i → v < 65536 → u ≡ drop 1 t → r ≡ answer v (length u) → Valued t M r
-variable_case t u M i v r e f s k h =
-    let n : v ≡ stored M (get_or t 0 0) = f ∙ ap (stored M) e in
-    record { value = h ∙ (λ j. answer (n j) (length (k j))); small = subst (λ x. x < 65536) n s }
 
 -- t are the words, x what the first operand answers, u the words behind it, y what the next answers there
 module _ (t u M : List ℕ) (x y : ℕ) where
@@ -37,68 +35,20 @@ module _ (t u M : List ℕ) (x y : ℕ) where
       let w : decode 65534 (y % 65536) ≡ evaluate_data b (environment_in M) = data_value u M y P rest h b next in
       q ∙ (λ j. answer ((e ∙ (λ i. g (v i) (w i))) j) (n.left j))
 
-  module _ (f : Judged t M x) (k : u ≡ last_of (x / 65536) t) (h : Judged u M y) where
-    -- the two conditions' words, and what is left
-    joined : (g : Bool → Bool → Bool) (r : ℕ) → ((c d : Bool) → x % 65536 ≡ truth c → y ≡ answer (truth d) (y / 65536) → r ≡ answer (truth (g c d)) (y / 65536)) → Joined g t M r
-    joined g r q P c d rest at s =
-        let p = cond_parted t M x P (cond_words 1 d ++ rest) f c at in
-        let next : CondAt u P d rest = record { plain = at.plain; in_scope = s; spelled = p.behind u k } in
-        let n = cond_parted u M y P rest h d next in
-        q (evaluate_cond c (environment_in M)) (evaluate_cond d (environment_in M)) p.word (h P d rest next ∙ ap (answer _) (sym n.left)) ∙ ap (answer _) n.left
-
-    pub and_false : (r : ℕ) → x % 65536 ≡ 0 → r ≡ answer 0 (y / 65536) → Joined ◌&&◌ t M r
-    unfolding truth
-    and_false r z e = joined ◌&&◌ r go
-      where
-        go : (c d : Bool) → x % 65536 ≡ truth c → y ≡ answer (truth d) (y / 65536) → r ≡ answer (truth (c && d)) (y / 65536)
-        go true d i j = absurd (omega arith)
-        go false d i j = e
-
-    pub and_other : (x % 65536 ≡ 0 → ⊥) → Joined ◌&&◌ t M y
-    unfolding truth
-    and_other z = joined ◌&&◌ y go
-      where
-        go : (c d : Bool) → x % 65536 ≡ truth c → y ≡ answer (truth d) (y / 65536) → y ≡ answer (truth (c && d)) (y / 65536)
-        go true d i j = j
-        go false d i j = absurd (z i)
-
-    pub or_other : x % 65536 ≡ 0 → Joined ◌||◌ t M y
-    unfolding truth
-    or_other z = joined ◌||◌ y go
-      where
-        go : (c d : Bool) → x % 65536 ≡ truth c → y ≡ answer (truth d) (y / 65536) → y ≡ answer (truth (c || d)) (y / 65536)
-        go true d i j = absurd (omega arith)
-        go false d i j = j
-
-    pub or_true : (r : ℕ) → (x % 65536 ≡ 0 → ⊥) → r ≡ answer 1 (y / 65536) → Joined ◌||◌ t M r
-    unfolding truth
-    or_true r z e = joined ◌||◌ r go
-      where
-        go : (c d : Bool) → x % 65536 ≡ truth c → y ≡ answer (truth d) (y / 65536) → r ≡ answer (truth (c || d)) (y / 65536)
-        go true d i j = e
-        go false d i j = absurd (z i)
+  -- z is what is made of the two conditions' words
+  pub joined : (g : Bool → Bool → Bool) (z r : ℕ) → Judged t M x → u ≡ last_of (x / 65536) t → Judged u M y
+      → ((c d : Bool) → x % 65536 ≡ truth c → y % 65536 ≡ truth d → z ≡ truth (g c d)) → r ≡ answer z (y / 65536) → Joined g t M r
+  joined g z r f k h e q P c d rest at s =
+      let p = cond_parted t M x P (cond_words 1 d ++ rest) f c at in
+      let next : CondAt u P d rest = record { plain = at.plain; in_scope = s; spelled = p.behind u k } in
+      let n = cond_parted u M y P rest h d next in
+      q ∙ (λ j. answer (e (evaluate_cond c (environment_in M)) (evaluate_cond d (environment_in M)) p.word n.word j) (n.left j))
 
 module _ (t M : List ℕ) (x : ℕ) (f : Judged t M x) where
-  negated : (r : ℕ) → ((c : Bool) → x % 65536 ≡ truth c → r ≡ answer (truth (not c)) (x / 65536)) → Negated t M r
-  negated r q P c rest at =
+  pub negated : (z r : ℕ) → z ≡ bool_byte (eqb (x % 65536) 0) → r ≡ answer z (x / 65536) → Negated t M r
+  negated z r e q P c rest at =
       let p = cond_parted t M x P rest f c at in
-      q (evaluate_cond c (environment_in M)) p.word ∙ ap (answer _) p.left
-
-  pub not_false : (r : ℕ) → x % 65536 ≡ 0 → r ≡ answer 1 (x / 65536) → Negated t M r
-  unfolding truth
-  not_false r z e = negated r go
-    where
-      go : (c : Bool) → x % 65536 ≡ truth c → r ≡ answer (truth (not c)) (x / 65536)
-      go true i = absurd (omega arith)
-      go false i = e
-
-  pub not_true : (r : ℕ) → (x % 65536 ≡ 0 → ⊥) → r ≡ answer 0 (x / 65536) → Negated t M r
-  unfolding truth
-  not_true r z e = negated r go
-    where
-      go : (c : Bool) → x % 65536 ≡ truth c → r ≡ answer (truth (not c)) (x / 65536)
-      go true i = e
-      go false i = absurd (z i)
+      q ∙ (λ j. answer ((e ∙ ap (λ w. bool_byte (eqb w 0)) p.word ∙ negated_word (evaluate_cond c (environment_in M))) j) (p.left j))
 
 -- c is what the condition answers, x and y what the data do
 module _ (t u v M : List ℕ) (c x y : ℕ) (f : Judged t M c) (k : u ≡ last_of (c / 65536) t) (h : Evaluated u M x) (l : v ≡ last_of (x / 65536) u) (i : Evaluated v M y) where

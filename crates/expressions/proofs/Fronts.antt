@@ -3,7 +3,7 @@
 use mathlib.Core.Path.{◌≡◌, sym, ap, ◌∙◌, subst}
 use mathlib.Core.Bool.{◌&&◌, ◌||◌, cond}
 use mathlib.Core.List.{List, [], ◌∷◌, ◌++◌, append_assoc}
-use Prim.Native.Nat.{ℕ, ◌*◌, ◌≤◌, ◌<◌}
+use Prim.Native.Nat.{ℕ}
 use native.Mathlib.Omega.{arith}
 use lib.ListN.{length, drop, get_or}
 use lib.Dec.{eqb}
@@ -216,8 +216,3 @@ module _ (s t M : List ℕ) (r : ℕ) (q : t ≡ drop 1 s) where
 
     pub cond_truism : OtherCond w → r ≡ answer 1 (length t) → Judged s M r
     cond_truism o h = cond_arm truism (other_cond w o) h
-
--- A word in front that is not 0 is there, so the words behind it are fewer.
-pub first_there : (s : List ℕ) (w : ℕ) → (w ≡ get_or s 0 0) × (w < 65536) → w ≤ 65536 * length s
-first_there [] w h = omega arith
-first_there (x ∷ s) w h = omega arith

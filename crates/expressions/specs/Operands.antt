@@ -1,10 +1,14 @@
 -- What an evaluation of operands answers: for all operands that stand at the front of the words, one behind the other, in a scope of edition 1.
 -- `Valued`, `Paired`, `Selected` and `Named` are the operands of data, `Joined` and `Negated` those of conditions (document 01, "Values and conditions").
-use Rattle.std.specs.Prelude.{◌≡◌, Bool, not, cond, List, [], ◌∷◌, ◌++◌, ℕ, ◌<◌, length, drop, get_or}
+use Rattle.std.specs.Prelude.{◌≡◌, Bool, ◌&&◌, ◌||◌, not, cond, List, [], ◌∷◌, ◌++◌, ℕ, ◌<◌, length, drop, get_or}
 use Rattle.eb3.specs.Values.{Value, encode, add, subtract, equal, less}
 use Rattle.eb3.specs.Expressions.{Data, Cond, evaluate_data, evaluate_cond}
 use Rattle.eb3.specs.Scopes.{Scope, DataInScope, CondInScope}
 use Rattle.eb3.specs.Spelling.{data_words, cond_words}
+use Rattle.expressions.specs.declared.Operation.{Operation}
+use Rattle.expressions.specs.declared.Operation.TheVariants.{Add, Subtract, Equal, Less}
+use Rattle.expressions.specs.declared.Connective.{Connective}
+use Rattle.expressions.specs.declared.Connective.TheVariants.{And, Or}
 use Rattle.expressions.specs.Stores.{stored, environment_in, reading_in}
 use Rattle.expressions.specs.Answering.{value_word, truth, answer, DataAt, CondAt}
 
@@ -21,6 +25,18 @@ equal_word v w = truth (equal v w)
 
 abbrev pub less_word : Value → Value → ℕ
 less_word v w = truth (less v w)
+
+abbrev pub operated : Operation → Value → Value → ℕ
+operated Add v w = sum_word v w
+operated Subtract v w = difference_word v w
+operated Equal v w = equal_word v w
+operated Less v w = less_word v w
+
+-- ── what is made of two conditions ──
+
+abbrev pub connected : Connective → Bool → Bool → Bool
+connected And c d = c && d
+connected Or c d = c || d
 
 -- ── the operands of a code ──
 

@@ -3,13 +3,13 @@
 // alike; each answers its value and the words left behind the expression, so that nothing is scanned twice.
 #![tactic(auto)]
 
-ghost use Rattle.std.specs.Prelude.{◌≡◌, ◌&&◌, ◌||◌, [], ◌∷◌, ◌≤◌, ◌<◌, length, drop, get_or};
+ghost use Rattle.std.specs.Prelude.{◌≡◌, Bool, [], ◌∷◌, ◌≤◌, ◌<◌, length, drop, get_or};
 ghost use Rattle.eb3.specs.Values.{decode, encode, add, subtract, equal, less};
 ghost use Rattle.expressions.specs.Stores.{stored, reading_in, before_place};
 ghost use Rattle.expressions.specs.Answering.{truth, answer, Evaluated, Judged};
-ghost use Rattle.expressions.specs.Operands.{sum_word, difference_word, equal_word, less_word, Valued, Paired, Selected, Named, Joined, Negated};
+ghost use Rattle.expressions.specs.Operands.{operated, connected, Valued, Paired, Selected, Named, Joined, Negated};
 
-use scan::{behind, first, last, wide};
+use scan::{behind, first, last};
 
 const UNDEFINED: usize = 65535;
 
@@ -29,24 +29,18 @@ fn add(a: usize, b: usize) -> usize
     requires { (a < 65536) × (b < 65536) }
     ensures { (result ≡ encode 65535 (add 65534 (decode 65534 a) (decode 65534 b))) × (result < 65536) }
 {
-    let c = a + b;
-    if c < UNDEFINED {
-        return c;
-    }
-    UNDEFINED
+    (a + b).min(UNDEFINED)
 }
 
 fn subtract(a: usize, b: usize) -> usize
     requires { (a < 65536) × (b < 65536) }
     ensures { (result ≡ encode 65535 (subtract (decode 65534 a) (decode 65534 b))) × (result < 65536) }
 {
-    if a < UNDEFINED {
-        if b <= a {
-            return a - b;
-        }
-        return UNDEFINED;
+    if a < UNDEFINED && b <= a {
+        a - b
+    } else {
+        UNDEFINED
     }
-    UNDEFINED
 }
 
 // Undefined equals undefined and no number: so do their words.
@@ -54,34 +48,61 @@ fn equal(a: usize, b: usize) -> usize
     requires { (a < 65536) × (b < 65536) }
     ensures { (result ≡ truth (equal (decode 65534 a) (decode 65534 b))) × (result < 65536) }
 {
-    if a == b {
-        return 1;
-    }
-    0
+    usize::from(a == b)
 }
 
 fn less(a: usize, b: usize) -> usize
     requires { (a < 65536) × (b < 65536) }
     ensures { (result ≡ truth (less (decode 65534 a) (decode 65534 b))) × (result < 65536) }
 {
-    if a < b {
-        if b < UNDEFINED {
-            return 1;
-        }
-        return 0;
+    usize::from(a < b && b < UNDEFINED)
+}
+
+// What is made of two values. An enum, since the check states no theorem of a cycle of calls in which one function takes a closure.
+#[derive(Clone, Copy)]
+enum Operation {
+    Add,
+    Subtract,
+    Equal,
+    Less,
+}
+
+fn operate(operation: Operation, a: usize, b: usize) -> usize
+    requires { (a < 65536) × (b < 65536) }
+    ensures { (result ≡ operated operation (decode 65534 a) (decode 65534 b)) × (result < 65536) }
+{
+    match operation {
+        Operation::Add => add(a, b),
+        Operation::Subtract => subtract(a, b),
+        Operation::Equal => equal(a, b),
+        Operation::Less => less(a, b),
     }
-    0
+}
+
+// What is made of two conditions.
+#[derive(Clone, Copy)]
+enum Connective {
+    And,
+    Or,
+}
+
+fn connect(connective: Connective, a: usize, b: usize) -> usize
+    requires { (a < 65536) × (b < 65536) }
+    ensures { ((c d : Bool) → a ≡ truth c → b ≡ truth d → result ≡ truth (connected connective c d)) × (result < 65536) }
+{
+    match connective {
+        Connective::And => a.min(b),
+        Connective::Or => a.max(b),
+    }
 }
 
 // ── the store ──
 
+// A word of the store; past its end, the word of undefined.
 pub fn word(m: &[u16], i: usize) -> usize
     ensures { (result ≡ stored m.now i) × (result < 65536) }
 {
-    if i < m.len() {
-        return wide(m[i]);
-    }
-    UNDEFINED
+    usize::from(m.get(i).copied().unwrap_or(u16::MAX))
 }
 
 // The cell of function f for an argument, the cells beginning at a place.
@@ -90,9 +111,10 @@ fn cell(m: &[u16], at: usize, f: usize, x: usize) -> usize
     ensures { (result ≡ encode 65535 (reading_in m.now at f (decode 65534 x ∷ []))) × (result < 65536) }
 {
     if x < word(m, 4 + 2 * f) {
-        return word(m, at + (word(m, 4 + 2 * f + 1) + x));
+        word(m, at + (word(m, 4 + 2 * f + 1) + x))
+    } else {
+        UNDEFINED
     }
-    UNDEFINED
 }
 
 // Where the cells that before reads begin.
@@ -120,7 +142,7 @@ fn variable(t: &[u16], m: &[u16]) -> usize
 }
 
 // As eval_data, but a constant or a variable costs no call: most operands are one of these.
-#[cycle(added_attribute_compared_equal_compared_less_eval_cond_eval_data_joined_and_joined_or_negated_operand_selected_subtracted)]
+#[cycle(evaluators)]
 fn operand(s: &[u16], m: &[u16]) -> usize
     requires { length s.now ≤ 65535 }
     ensures { Evaluated s.now m.now result × (result < 4294967296) }
@@ -134,28 +156,20 @@ fn operand(s: &[u16], m: &[u16]) -> usize
     }
 }
 
-#[cycle(added_attribute_compared_equal_compared_less_eval_cond_eval_data_joined_and_joined_or_negated_operand_selected_subtracted)]
-fn added(t: &[u16], m: &[u16]) -> usize
+// Two data, one behind the other, and what an operation makes of them. Inlined, since its frame would come on top of the evaluator's at each level.
+#[cycle(evaluators)]
+#[inline(always)]
+fn paired(operation: Operation, t: &[u16], m: &[u16]) -> usize
     requires { length t.now < 65535 }
-    ensures { Paired sum_word t.now m.now result × (result < 4294967296) }
+    ensures { Paired (operated operation) t.now m.now result × (result < 4294967296) }
 {
     let x = operand(t, m);
     let y = operand(last(t, x / 65536), m);
-    pack(add(x % 65536, y % 65536), y / 65536)
-}
-
-#[cycle(added_attribute_compared_equal_compared_less_eval_cond_eval_data_joined_and_joined_or_negated_operand_selected_subtracted)]
-fn subtracted(t: &[u16], m: &[u16]) -> usize
-    requires { length t.now < 65535 }
-    ensures { Paired difference_word t.now m.now result × (result < 4294967296) }
-{
-    let x = operand(t, m);
-    let y = operand(last(t, x / 65536), m);
-    pack(subtract(x % 65536, y % 65536), y / 65536)
+    pack(operate(operation, x % 65536, y % 65536), y / 65536)
 }
 
 // Both data are evaluated: the words left must be known, and there is no other effect.
-#[cycle(added_attribute_compared_equal_compared_less_eval_cond_eval_data_joined_and_joined_or_negated_operand_selected_subtracted)]
+#[cycle(evaluators)]
 fn selected(t: &[u16], m: &[u16]) -> usize
     requires { length t.now < 65535 }
     ensures { Selected t.now m.now result × (result < 4294967296) }
@@ -165,13 +179,14 @@ fn selected(t: &[u16], m: &[u16]) -> usize
     let x = operand(u, m);
     let y = operand(last(u, x / 65536), m);
     if c % 65536 == 0 {
-        return y;
+        y
+    } else {
+        pack(x % 65536, y / 65536)
     }
-    pack(x % 65536, y / 65536)
 }
 
 // A function's number, and its argument; its cells begin at a place.
-#[cycle(added_attribute_compared_equal_compared_less_eval_cond_eval_data_joined_and_joined_or_negated_operand_selected_subtracted)]
+#[cycle(evaluators)]
 fn attribute(t: &[u16], m: &[u16], at: usize) -> usize
     requires { (length t.now < 65535) × (at < 65536) }
     ensures { Named at t.now m.now result × (result < 4294967296) }
@@ -181,7 +196,7 @@ fn attribute(t: &[u16], m: &[u16], at: usize) -> usize
 }
 
 // The value of the data expression at the front.
-#[cycle(added_attribute_compared_equal_compared_less_eval_cond_eval_data_joined_and_joined_or_negated_operand_selected_subtracted)]
+#[cycle(evaluators)]
 pub fn eval_data(s: &[u16], m: &[u16]) -> usize
     requires { length s.now ≤ 65535 }
     ensures { Evaluated s.now m.now result × (result < 4294967296) }
@@ -191,8 +206,8 @@ pub fn eval_data(s: &[u16], m: &[u16]) -> usize
     match w {
         1 => constant(t),
         2 => variable(t, m),
-        3 => added(t, m),
-        4 => subtracted(t, m),
+        3 => paired(Operation::Add, t, m),
+        4 => paired(Operation::Subtract, t, m),
         5 => selected(t, m),
         6 => attribute(t, m, 36),
         7 => attribute(t, m, old_cells(m)),
@@ -202,66 +217,28 @@ pub fn eval_data(s: &[u16], m: &[u16]) -> usize
 
 // ── conditions ──
 
-#[cycle(added_attribute_compared_equal_compared_less_eval_cond_eval_data_joined_and_joined_or_negated_operand_selected_subtracted)]
-fn compared_equal(t: &[u16], m: &[u16]) -> usize
+// Two conditions, one behind the other, and what a connective makes of them: of 0 and 1, the least is `and`, and the largest `or`.
+#[cycle(evaluators)]
+fn joined(connective: Connective, t: &[u16], m: &[u16]) -> usize
     requires { length t.now < 65535 }
-    ensures { Paired equal_word t.now m.now result × (result < 4294967296) }
-{
-    let x = operand(t, m);
-    let y = operand(last(t, x / 65536), m);
-    pack(equal(x % 65536, y % 65536), y / 65536)
-}
-
-#[cycle(added_attribute_compared_equal_compared_less_eval_cond_eval_data_joined_and_joined_or_negated_operand_selected_subtracted)]
-fn compared_less(t: &[u16], m: &[u16]) -> usize
-    requires { length t.now < 65535 }
-    ensures { Paired less_word t.now m.now result × (result < 4294967296) }
-{
-    let x = operand(t, m);
-    let y = operand(last(t, x / 65536), m);
-    pack(less(x % 65536, y % 65536), y / 65536)
-}
-
-#[cycle(added_attribute_compared_equal_compared_less_eval_cond_eval_data_joined_and_joined_or_negated_operand_selected_subtracted)]
-fn joined_and(t: &[u16], m: &[u16]) -> usize
-    requires { length t.now < 65535 }
-    ensures { Joined ◌&&◌ t.now m.now result × (result < 4294967296) }
+    ensures { Joined (connected connective) t.now m.now result × (result < 4294967296) }
 {
     let x = eval_cond(t, m);
     let y = eval_cond(last(t, x / 65536), m);
-    if x % 65536 == 0 {
-        return pack(0, y / 65536);
-    }
-    y
+    pack(connect(connective, x % 65536, y % 65536), y / 65536)
 }
 
-#[cycle(added_attribute_compared_equal_compared_less_eval_cond_eval_data_joined_and_joined_or_negated_operand_selected_subtracted)]
-fn joined_or(t: &[u16], m: &[u16]) -> usize
-    requires { length t.now < 65535 }
-    ensures { Joined ◌||◌ t.now m.now result × (result < 4294967296) }
-{
-    let x = eval_cond(t, m);
-    let y = eval_cond(last(t, x / 65536), m);
-    if x % 65536 == 0 {
-        return y;
-    }
-    pack(1, y / 65536)
-}
-
-#[cycle(added_attribute_compared_equal_compared_less_eval_cond_eval_data_joined_and_joined_or_negated_operand_selected_subtracted)]
+#[cycle(evaluators)]
 fn negated(t: &[u16], m: &[u16]) -> usize
     requires { length t.now < 65535 }
     ensures { Negated t.now m.now result × (result < 4294967296) }
 {
     let x = eval_cond(t, m);
-    if x % 65536 == 0 {
-        return pack(1, x / 65536);
-    }
-    pack(0, x / 65536)
+    pack(usize::from(x % 65536 == 0), x / 65536)
 }
 
 // Whether the condition at the front holds: 1 or 0.
-#[cycle(added_attribute_compared_equal_compared_less_eval_cond_eval_data_joined_and_joined_or_negated_operand_selected_subtracted)]
+#[cycle(evaluators)]
 pub fn eval_cond(s: &[u16], m: &[u16]) -> usize
     requires { length s.now ≤ 65535 }
     ensures { Judged s.now m.now result × (result < 4294967296) }
@@ -269,10 +246,10 @@ pub fn eval_cond(s: &[u16], m: &[u16]) -> usize
     let w = first(s);
     let t = behind(s);
     match w {
-        8 => compared_equal(t, m),
-        9 => compared_less(t, m),
-        10 => joined_and(t, m),
-        11 => joined_or(t, m),
+        8 => paired(Operation::Equal, t, m),
+        9 => paired(Operation::Less, t, m),
+        10 => joined(Connective::And, t, m),
+        11 => joined(Connective::Or, t, m),
         12 => negated(t, m),
         _ => pack(1, t.len()),
     }

@@ -2,7 +2,8 @@
 use mathlib.Core.Path.{◌≡◌, refl, ap, sym, ◌∙◌}
 use mathlib.Core.Bool.{Bool, true, false}
 use mathlib.Core.List.{List}
-use mathlib.Core.Option.{Option, none, some}
+use mathlib.Core.Option.{Option as Optional, none, some}
+use Rattle.std.specs.Prelude.{Option, Some, None}
 use Prim.Native.Nat.{ℕ, ◌*◌, ◌%◌, ◌≤◌, ◌<◌}
 use native.Mathlib.Omega.{arith}
 use lib.ListN.{length, take}
@@ -30,10 +31,6 @@ use Rattle.cells.specs.Preparing.{Loaded}
 use Rattle.cells.specs.MemoryLaws.{loaded_words}
 use Rattle.actions.specs.Codes.{action_code}
 use Rattle.events.specs.Events.{event_as}
-use Rattle.events.specs.declared.Event.{Event}
-use Rattle.events.specs.declared.Event.TheVariants.{Action as Event_action, Stranger as Event_stranger}
-use Rattle.given.specs.declared.asking.Asked.{Asked}
-use Rattle.given.specs.declared.asking.Asked.TheVariants.{Wanted, Stranger}
 use Rattle.given.specs.Asking.{asked_as}
 
 -- ── an event is short ──
@@ -51,7 +48,7 @@ module _ (R : RuleSet) (form : Form R) where
   long_stranger : (s : List ℕ) → 6 < length s → given_event R s ≡ none
   long_stranger s h = go (given_event R s) refl
     where
-      go : (o : Option Action) → given_event R s ≡ o → given_event R s ≡ none
+      go : (o : Optional Action) → given_event R s ≡ o → given_event R s ≡ none
       go none e = e
       go (some ρ) e =
           let p = (given_event_exact R (omega (arith, width_is_1 form)) s ρ).0 e in
@@ -59,70 +56,70 @@ module _ (R : RuleSet) (form : Form R) where
 
 -- ── what the reading says ──
 
-stranger_from : (o : Option Action) → Event_stranger ≡ event_as o → o ≡ none
+stranger_from : (o : Optional Action) → None ≡ event_as o → o ≡ none
 unfolding event_as
 stranger_from none e = refl
 stranger_from (some ρ) e = absurd (let z : ◌≡◌ {A = ℕ} 0 1 = cc in omega arith)
 
-action_from : (o : Option Action) (code : ℕ) → Event_action code ≡ event_as o → (ρ : Action) × (o ≡ some ρ) × (code ≡ action_code ρ)
+action_from : (o : Optional Action) (code : ℕ) → Some code ≡ event_as o → (ρ : Action) × (o ≡ some ρ) × (code ≡ action_code ρ)
 unfolding event_as
 action_from none code e = absurd (let z : ◌≡◌ {A = ℕ} 0 1 = cc in omega arith)
 action_from (some ρ) code e = (ρ, refl, cc)
 
 module _ (event : List ℕ) (R : RuleSet) (k : ℕ) where
   -- What is asked for, where the number of bytes is even or odd.
-  asked_at : Bool → Asked
+  asked_at : Bool → Option ℕ
   asked_at b = asked_as true k (pick b (or_refused Refusal.stranger (given_event R (words_in event))) (refused Refusal.stranger))
 
-  odd_stranger : (length event % 2 ≡ 0 → ⊥) → Stranger ≡ asked_as true k (event_in R event)
+  odd_stranger : (length event % 2 ≡ 0 → ⊥) → None ≡ asked_as true k (event_in R event)
   unfolding asked_as asked_at
   odd_stranger h = sym (ap asked_at (ne_eqb (length event % 2) 0 h))
 
   -- Words that are no event are none with an odd byte behind them either.
-  none_asked : given_event R (words_in event) ≡ none → Stranger ≡ asked_as true k (event_in R event)
+  none_asked : given_event R (words_in event) ≡ none → None ≡ asked_as true k (event_in R event)
   unfolding asked_as asked_at
   none_asked e = go (even event)
     where
-      go : (b : Bool) → Stranger ≡ asked_at b
+      go : (b : Bool) → None ≡ asked_at b
       go true = sym (ap (λ o. asked_as true k (or_refused Refusal.stranger o)) e)
       go false = refl
 
-  some_asked : length event % 2 ≡ 0 → (code z : ℕ) → Event_action code ≡ event_as (given_event R (words_in event)) → z ≡ code → Wanted z ≡ asked_as true k (event_in R event)
+  some_asked : length event % 2 ≡ 0 → (code z : ℕ) → Some code ≡ event_as (given_event R (words_in event)) → z ≡ code → Some z ≡ asked_as true k (event_in R event)
   unfolding asked_as asked_at
   some_asked ev code z e ez =
       let p = action_from (given_event R (words_in event)) code e in
-      ap Wanted (ez ∙ p.2) ∙ sym (ap asked_at (eq-eqb (length event % 2) 0 ev) ∙ ap (λ o. asked_as true k (or_refused Refusal.stranger o)) p.1)
+      ap Some (ez ∙ p.2) ∙ sym (ap asked_at (eq-eqb (length event % 2) 0 ev) ∙ ap (λ o. asked_as true k (or_refused Refusal.stranger o)) p.1)
 
 -- ── the ways of returning ──
 
 module _ (T event : List ℕ) where
   -- What is asked for by the event, at each rule set that the tables declare.
-  abbrev EventAsked : Asked → Type 0
+  abbrev EventAsked : Option ℕ → Type 0
   EventAsked r = (R : RuleSet) → Form R → Declares T R → (k : ℕ) → r ≡ asked_as true k (event_in R event)
 
-  pub asked_odd : (length event % 2 ≡ 0 → ⊥) → EventAsked Stranger
+  pub asked_odd : (length event % 2 ≡ 0 → ⊥) → EventAsked None
   asked_odd h R form d k = odd_stranger event R k h
 
-  pub asked_long : 6 < word_count event → EventAsked Stranger
+  pub asked_long : 6 < word_count event → EventAsked None
   asked_long h R form d k = none_asked event R k (long_stranger R form (words_in event) (omega (arith, words_counted event)))
 
   -- The words loaded into an array with room for them, and what was told of its front.
-  module _ (M M' s : List ℕ) (room : word_count event ≤ length M) (l : Loaded event M M' 0 (word_count event)) (es : s ≡ take (word_count event) M') (g : Event) (told : (R : RuleSet) → Form R → Declares T R → g ≡ event_as (given_event R s)) where
+  module _ (M M' s : List ℕ) (room : word_count event ≤ length M) (l : Loaded event M M' 0 (word_count event)) (es : s ≡ take (word_count event) M') (g : Option ℕ) (told : (R : RuleSet) → Form R → Declares T R → g ≡ event_as (given_event R s)) where
     told_event : (R : RuleSet) → Form R → Declares T R → g ≡ event_as (given_event R (words_in event))
     told_event R form d = told R form d ∙ ap (λ u. event_as (given_event R u)) (es ∙ loaded_words event M M' (word_count event) refl room l)
 
-    pub asked_stranger : g ≡ Event_stranger → EventAsked Stranger
+    pub asked_stranger : g ≡ None → EventAsked None
     asked_stranger f R form d k = none_asked event R k (stranger_from (given_event R (words_in event)) (sym f ∙ told_event R form d))
 
-    pub asked_action : length event % 2 ≡ 0 → (code z : ℕ) → g ≡ Event_action code → z ≡ code → EventAsked (Wanted z)
+    pub asked_action : length event % 2 ≡ 0 → (code z : ℕ) → g ≡ Some code → z ≡ code → EventAsked (Some z)
     asked_action ev code z f ez R form d k = some_asked event R k ev code z (sym f ∙ told_event R form d) ez
 
   -- By a number, or by an event.
   module _ (b : Bool) (k : ℕ) where
-    pub asked_by_event : (r : Asked) → b ≡ true → EventAsked r → (R : RuleSet) → Form R → Declares T R → r ≡ asked_as b k (event_in R event)
+    pub asked_by_event : (r : Option ℕ) → b ≡ true → EventAsked r → (R : RuleSet) → Form R → Declares T R → r ≡ asked_as b k (event_in R event)
     asked_by_event r e h R form d = h R form d k ∙ ap (λ x. asked_as x k (event_in R event)) (sym e)
 
-    pub asked_by_number : b ≡ false → (R : RuleSet) → Form R → Declares T R → Wanted k ≡ asked_as b k (event_in R event)
+    pub asked_by_number : b ≡ false → (R : RuleSet) → Form R → Declares T R → Some k ≡ asked_as b k (event_in R event)
     unfolding asked_as
     asked_by_number e R form d = sym (ap (λ x. asked_as x k (event_in R event)) e)
 

@@ -1,7 +1,8 @@
 -- A case for each way that the check of a given term returns.
 use mathlib.Core.Path.{◌≡◌, refl, ap, sym, ◌∙◌, subst}
 use mathlib.Core.List.{List}
-use mathlib.Core.Option.{Option, none, some}
+use mathlib.Core.Option.{Option as Optional, none, some}
+use Rattle.std.specs.Prelude.{Option, Some, None, Err, Result}
 use Prim.Native.Nat.{ℕ, ◌-◌, ◌%◌, ◌≤◌, ◌<◌}
 use native.Mathlib.Omega.{arith}
 use native.Mathlib.Decide.{dec_lt}
@@ -9,7 +10,8 @@ use lib.ListN.{length, take, drop}
 use borrow.Author.Tests.{eq-eqb, ne_eqb}
 use Rattle.eb3.specs.Refusal
 use Rattle.eb3.specs.Terms.{Term}
-use Rattle.eb3.specs.Sizes.{reach}
+use Rattle.refusals.specs.declared.Refusal.TheVariants as Why
+use Rattle.eb3.specs.Sizes.{reach, breadth}
 use Rattle.eb3.proofs.Laws.Sizes.{size_below_reach}
 use Rattle.eb3.specs.Spelling.{words}
 use Rattle.eb3.proofs.Laws.Spelling.{words_length}
@@ -33,10 +35,10 @@ use Rattle.cells.specs.MemoryLaws.{loaded_words}
 use Rattle.terms.specs.Given.{given}
 use Rattle.terms.specs.Alike.{given_term_alike}
 use Rattle.terms.specs.declared.Given.{Given as Weighed}
-use Rattle.terms.specs.declared.Given.TheVariants.{Running as Weighed_running, Wrong}
 use Rattle.given.specs.declared.giving.Given.{Given}
-use Rattle.given.specs.declared.giving.Given.TheVariants.{Term as Given_term, Refused}
-use Rattle.given.specs.Giving.{checked_as, Spelled, TermChecked}
+use Rattle.given.specs.Giving.{checked_as, Spelled, TermChecked, found_term}
+use Rattle.refusals.specs.declared.Refusal.{Refusal}
+use Rattle.refusals.specs.Numbers.{refusal}
 
 -- Loaded from a buffer's front, all its words: as a part that begins there.
 pub loaded_part : (B M M' : List ℕ) (n : ℕ) → n ≡ word_count B → n ≤ length M → Loaded B M M' 0 n → take (n - 0) (drop 0 M') ≡ words_in B
@@ -52,29 +54,31 @@ over_limit n m f h = go (dec_lt 8192 n)
 
 -- ── what the reading says ──
 
-given_wrong : (o : Option Term) → Wrong ≡ given o → o ≡ none
+given_wrong : (o : Optional Term) → None ≡ given o → o ≡ none
 unfolding given
 given_wrong none e = refl
 given_wrong (some E) e = absurd (let z : ◌≡◌ {A = ℕ} 0 1 = cc in omega arith)
 
-given_running : (o : Option Term) (g b : ℕ) → Weighed_running g b ≡ given o → (E : Term) × (o ≡ some E) × (g ≡ reach 1 E)
+given_running : (o : Optional Term) (x : Weighed) → Some x ≡ given o → (E : Term) × (o ≡ some E) × (x.reach ≡ reach 1 E)
 unfolding given
-given_running none g b e = absurd (let z : ◌≡◌ {A = ℕ} 0 1 = cc in omega arith)
-given_running (some E) g b e = (E, refl, cc)
+given_running none x e = absurd (let z : ◌≡◌ {A = ℕ} 0 1 = cc in omega arith)
+given_running (some E) x e =
+    let q : ◌≡◌ {A = Weighed} x (record { reach = reach 1 E; breadth = breadth E }) = cc in
+    (E, refl, ap (λ y. y.reach) q)
 
 module _ (R : RuleSet) (form : Form R) (c : ℕ) (term ws : List ℕ) where
-  by_answer : (a : Answer Term) (r : Given) → term_in R term ≡ a → r ≡ checked_as c a → ((E : Term) → a ≡ answered E → Spelled R E (take (word_count term) ws)) → TermChecked R c term ws r
+  by_answer : (a : Answer Term) (r : Result Given Refusal) → term_in R term ≡ a → r ≡ checked_as c a → ((E : Term) → a ≡ answered E → Spelled R E (take (word_count term) ws)) → TermChecked R c term ws r
   by_answer a r e h s = record { answer = h ∙ ap (checked_as c) (sym e); spelled = λ E f. s E (sym e ∙ f) }
 
-  refused_so : term_in R term ≡ refused Refusal.term → TermChecked R c term ws (Refused 10)
-  unfolding checked_as
-  refused_so e = by_answer (refused Refusal.term) (Refused 10) e refl (λ E f. absurd (not_both 10 E f))
+  refused_so : term_in R term ≡ refused Refusal.term → TermChecked R c term ws (Err Why.Term)
+  unfolding checked_as refusal
+  refused_so e = by_answer (refused Refusal.term) (Err Why.Term) e refl (λ E f. absurd (not_both 10 E f))
 
-  pub checked_odd : (length term % 2 ≡ 0 → ⊥) → TermChecked R c term ws (Refused 10)
+  pub checked_odd : (length term % 2 ≡ 0 → ⊥) → TermChecked R c term ws (Err Why.Term)
   checked_odd h = refused_so (ap (λ b. pick b (or_refused Refusal.term (given_term R (words_in term))) (refused Refusal.term)) (ne_eqb (length term % 2) 0 h))
 
   module _ (ev : length term % 2 ≡ 0) where
-    by_term : (o : Option Term) → given_term R (words_in term) ≡ o → term_in R term ≡ or_refused Refusal.term o
+    by_term : (o : Optional Term) → given_term R (words_in term) ≡ o → term_in R term ≡ or_refused Refusal.term o
     by_term o e =
         ap (λ b. pick b (or_refused Refusal.term (given_term R (words_in term))) (refused Refusal.term)) (eq-eqb (length term % 2) 0 ev)
         ∙ ap (or_refused Refusal.term) e
@@ -84,26 +88,26 @@ module _ (R : RuleSet) (form : Form R) (c : ℕ) (term ws : List ℕ) where
         let p = (given_term_exact R (omega (arith, width_is_1 form)) (words_in term) E).0 e in
         (p.0 ∙ ap (λ w. words w E) (width_is_1 form), p.1)
 
-    pub checked_long : 8192 < word_count term → TermChecked R c term ws (Refused 10)
+    pub checked_long : 8192 < word_count term → TermChecked R c term ws (Err Why.Term)
     checked_long h = refused_so (by_term none (go (given_term R (words_in term)) refl))
       where
-        go : (o : Option Term) → given_term R (words_in term) ≡ o → given_term R (words_in term) ≡ none
+        go : (o : Optional Term) → given_term R (words_in term) ≡ o → given_term R (words_in term) ≡ none
         go none e = e
         go (some E) e =
             let p = (given_term_exact R (omega (arith, width_is_1 form)) (words_in term) E).0 e in
             absurd (let z : ⊥ = omega (arith, words_counted term, ap length p.0, words_length R E p.1.form, size_below_reach R.edition.width E, p.1.reach_limit) in z)
 
-    module _ (T : List ℕ) (d : Declares T R) (s : List ℕ) (same : s ≡ words_in term) (g : Weighed) (e : g ≡ given (given_term (declared T) s)) where
+    module _ (T : List ℕ) (d : Declares T R) (s : List ℕ) (same : s ≡ words_in term) (g : Option Weighed) (e : g ≡ given (given_term (declared T) s)) where
       told : g ≡ given (given_term R (words_in term))
       told = e ∙ ap given (given_term_alike (declared T) R (declared_alike T R d) s ∙ ap (given_term R) same)
 
-      pub checked_wrong : g ≡ Wrong → TermChecked R c term ws (Refused 10)
+      pub checked_wrong : g ≡ None → TermChecked R c term ws (Err Why.Term)
       checked_wrong f = refused_so (by_term none (given_wrong (given_term R (words_in term)) (sym f ∙ told)))
 
-      pub checked_running : (x y z : ℕ) → g ≡ Weighed_running x y → z ≡ x → take (word_count term) ws ≡ s → TermChecked R c term ws (Given_term c z)
+      pub checked_running : (x : Weighed) (z : ℕ) → g ≡ Some x → z ≡ x.reach → take (word_count term) ws ≡ s → TermChecked R c term ws (found_term c z)
       unfolding checked_as
-      checked_running x y z f ez l =
-          let p = given_running (given_term R (words_in term)) x y (sym f ∙ told) in
+      checked_running x z f ez l =
+          let p = given_running (given_term R (words_in term)) x (sym f ∙ told) in
           let q = read_so p.0 p.1 in
-          by_answer (answered p.0) (Given_term c z) (by_term (some p.0) p.1) (ap (Given_term c) (ez ∙ p.2))
+          by_answer (answered p.0) (found_term c z) (by_term (some p.0) p.1) (ap (found_term c) (ez ∙ p.2))
           (λ E h. subst (λ F. Spelled R F (take (word_count term) ws)) (answered_injective p.0 E h) (record { words_are = l ∙ same ∙ q.0; running = q.1 }))

@@ -1,5 +1,5 @@
 -- What was admitted and read of a rule set and a term, put together (document 01, "Operations").
-use Rattle.std.specs.Prelude.{◌≡◌, List, ◌++◌, ℕ, ◌+◌, ◌*◌, ◌≤◌, length, take, drop, get_or}
+use Rattle.std.specs.Prelude.{◌≡◌, List, ◌++◌, ℕ, ◌+◌, ◌*◌, ◌≤◌, length, take, drop, get_or, Err, Result}
 use Rattle.std.proofs.Math.Path.{refl, ap, sym}
 use Rattle.std.proofs.Common.{◌∙◌, subst, arith}
 use Rattle.eb3.specs.Terms.{Term}
@@ -22,16 +22,17 @@ use Rattle.cells.specs.Readying.{few}
 use Rattle.steps.specs.Storing.{Ruled}
 use Rattle.steps.specs.RuledLaws.{tables_few, ruled_there}
 use Rattle.given.specs.declared.giving.Given.{Given}
-use Rattle.given.specs.declared.giving.Given.TheVariants.{Term as Given_term, Refused}
 use Rattle.admission.specs.Knowing.{Known}
-use Rattle.given.specs.Giving.{checked_as, TermChecked, given_in, given_as, Described, GivenDone}
+use Rattle.given.specs.Giving.{checked_as, TermChecked, given_in, given_as, Described, GivenDone, found_term}
+use Rattle.refusals.specs.declared.Refusal.{Refusal}
+use Rattle.refusals.specs.Numbers.{RefusedBy}
 
 module _ (rules term words₀ : List ℕ) (n : ℕ) (words' T D ws : List ℕ) (decoded : words' ≡ stream rules ++ drop (254 * n) words₀) where
-  pub given_refused : (k : ℕ) → admission rules ≡ refused k → GivenDone rules term words₀ n (Refused k) words' T D ws
+  pub given_refused : (k : Refusal) → RefusedBy k (admission rules) → GivenDone rules term words₀ n (Err k) words' T D ws
   unfolding given_as and_then
-  given_refused k e =
-      let f : given_in rules term ≡ refused k = ap (λ a. and_then a λ R. and_then (term_in R term) λ E. answered (R, E)) e in
-      record { answer = sym (ap given_as f); decoded = decoded; described = λ R E h. absurd (not_both k (R, E) (sym f ∙ h)) }
+  given_refused k h =
+      let f : given_in rules term ≡ refused h.code = ap (λ a. and_then a λ R. and_then (term_in R term) λ E. answered (R, E)) h.is in
+      record { answer = ap Err h.named ∙ sym (ap given_as f); decoded = decoded; described = λ R E g. absurd (not_both h.code (R, E) (sym f ∙ g)) }
 
   module _ (l : Limits) (k : Known rules T D l) where
     abbrev R : RuleSet
@@ -53,7 +54,7 @@ module _ (rules term words₀ : List ℕ) (n : ℕ) (words' T D ws : List ℕ) (
         subst (λ (x : RuleSet × Term). Described x.0 x.1 (drop 2 (stream rules)) T D (take (word_count term) ws)) q
         (record { form = k.well.form; directory = k.directory; term = h.spelled p.0 p.1 })
 
-    pub given_checked : (c : ℕ) (r : Given) → c ≡ l.cells → ((Q : RuleSet) → Form Q → Declares T Q → TermChecked Q c term ws r) → GivenDone rules term words₀ n r words' T D ws
+    pub given_checked : (c : ℕ) (r : Result Given Refusal) → c ≡ l.cells → ((Q : RuleSet) → Form Q → Declares T Q → TermChecked Q c term ws r) → GivenDone rules term words₀ n r words' T D ws
     given_checked c r ec check =
         let h : TermChecked R c term ws r = check R k.well.form k.directory.declares in
         let cells_is : l.cells ≡ cells_needed R = ap (λ (x : Limits). x.cells) k.sizes in
@@ -67,9 +68,9 @@ module _ (rules term words₀ : List ℕ) (n : ℕ) (words' T D ws : List ℕ) (
 
 -- ── what an answer says ──
 
-refused_from : (a : Answer (RuleSet × Term)) (k : ℕ) → Refused k ≡ given_as a → a ≡ refused k
+refused_from : (a : Answer (RuleSet × Term)) (k : Refusal) → Err k ≡ given_as a → RefusedBy k a
 unfolding given_as
-refused_from (refused j) k e = let z : j ≡ k = cc in ap refused z
+refused_from (refused j) k e = record { code = j; is = refl; named = cc }
 refused_from (answered p) k e = absurd (let z : ◌≡◌ {A = ℕ} 0 1 = cc in omega arith)
 
 -- The rule set and the term that an answer stands for.
@@ -80,16 +81,18 @@ pub record Found (a : Answer (RuleSet × Term)) (c g : ℕ) : Type 0 where
   pub cells_are : c ≡ cells_needed rule_set
   pub reach_is : g ≡ reach 1 running_term
 
-found_from : (a : Answer (RuleSet × Term)) (c g : ℕ) → Given_term c g ≡ given_as a → Found a c g
+found_from : (a : Answer (RuleSet × Term)) (c g : ℕ) → found_term c g ≡ given_as a → Found a c g
 unfolding given_as
 found_from (refused j) c g e = absurd (let z : ◌≡◌ {A = ℕ} 0 1 = cc in omega arith)
-found_from (answered p) c g e = record { rule_set = p.0; running_term = p.1; given_so = refl; cells_are = cc; reach_is = cc }
+found_from (answered p) c g e =
+    let q : ◌≡◌ {A = Given} (record { cells = c; reach = g }) (record { cells = cells_needed p.0; reach = reach 1 p.1 }) = cc in
+    record { rule_set = p.0; running_term = p.1; given_so = refl; cells_are = ap (λ x. x.cells) q; reach_is = ap (λ x. x.reach) q }
 
-module _ (rules term words₀ : List ℕ) (n : ℕ) (r : Given) (words' T D ws : List ℕ) (d : GivenDone rules term words₀ n r words' T D ws) where
-  pub told_refused : (k : ℕ) → r ≡ Refused k → given_in rules term ≡ refused k
+module _ (rules term words₀ : List ℕ) (n : ℕ) (r : Result Given Refusal) (words' T D ws : List ℕ) (d : GivenDone rules term words₀ n r words' T D ws) where
+  pub told_refused : (k : Refusal) → r ≡ Err k → RefusedBy k (given_in rules term)
   told_refused k e = refused_from (given_in rules term) k (sym e ∙ d.answer)
 
-  pub told_found : (c g : ℕ) → r ≡ Given_term c g → Found (given_in rules term) c g
+  pub told_found : (c g : ℕ) → r ≡ found_term c g → Found (given_in rules term) c g
   told_found c g e = found_from (given_in rules term) c g (sym e ∙ d.answer)
 
 -- ── what is described ──

@@ -7,35 +7,38 @@ ghost use Rattle.declarations.specs.Declaring.{Declares};
 ghost use Rattle.admission.specs.Knowing.{Opens};
 ghost use Rattle.given.specs.Giving.{TermChecked, GivenDone};
 
-use admission::{Admitted, admit_in};
-use arguments::wide32;
+use admission::admit_in;
 use cells::load;
+use refusals::Refusal;
 use terms::given_term;
 
-// The cells of the rule set and the reach of the term, or the number of a refusal.
+// The cells of the rule set and the reach of the term.
 #[derive(Clone, Copy)]
-pub enum Given {
-    Term(usize, usize),
-    Refused(u8),
+pub struct Given {
+    pub cells: usize,
+    pub reach: usize,
 }
 
 // The term's words in a lent array, which has room for a term within the limit.
-fn check_term(tb: &[u32], c: usize, term: &[u8], ws: &mut [u16]) -> Given
+fn check_term(tb: &[u32], c: usize, term: &[u8], ws: &mut [u16]) -> Result<Given, Refusal>
     requires { length term.now / 2 ≤ 8192 → length term.now / 2 ≤ length ws.old }
     ensures { (length ws.new ≡ length ws.old) × ((R : RuleSet) → Form R → Declares tb.now R → TermChecked R c term.now ws.new result) }
 {
     if term.len() % 2 != 0 {
-        return Given::Refused(10);
+        return Err(Refusal::Term);
     }
     let n = term.len() / 2;
     // more words than a term within the limit has
     if ws.len() < n {
-        return Given::Refused(10);
+        return Err(Refusal::Term);
     }
     load(term, ws, 0, n);
     match given_term(&ws[0..n], tb) {
-        terms::Given::Running(reach, breadth) => Given::Term(c, wide32(reach)),
-        terms::Given::Wrong => Given::Refused(10),
+        Some(term) => Ok(Given {
+            cells: c,
+            reach: term.reach as usize,
+        }),
+        None => Err(Refusal::Term),
     }
 }
 
@@ -48,12 +51,10 @@ pub fn given_in(
     dir: &mut [u32],
     term: &[u8],
     ws: &mut [u16],
-) -> Given
+) -> Result<Given, Refusal>
     requires { (length rules.now ≡ 512 * n) × (254 * n ≤ length words.old) × (1 ≤ n) × (n ≤ 64) × (length tables.old ≡ 500) × (length dir.old ≡ 1072) × Opens rules.now × (length term.now / 2 ≤ 8192 → length term.now / 2 ≤ length ws.old) }
     ensures { (length ws.new ≡ length ws.old) × GivenDone rules.now term.now words.old n result words.new tables.new dir.new ws.new }
 {
-    match admit_in(rules, words, tables, dir, n) {
-        Admitted::Sizes(l) => check_term(tables, wide32(l.cells), term, ws),
-        Admitted::Refused(k) => Given::Refused(k),
-    }
+    let sizes = admit_in(rules, words, tables, dir, n)?;
+    check_term(tables, sizes.cells as usize, term, ws)
 }

@@ -17,29 +17,37 @@ use Rattle.eb3.specs.ExpressionReading.{DataKind, CondKind, data_kind, cond_kind
 use Rattle.scan.specs.Checking.{checked}
 use Rattle.scan.specs.Laws.{then_checked}
 use Rattle.grammar.specs.declared.Front.{Front}
-use Rattle.grammar.specs.declared.Front.TheVariants.{On, Other, Wrong}
+use Rattle.grammar.specs.declared.Front.TheVariants.{On, Other}
 use Rattle.grammar.specs.Fronts.{Behind, Operand, Facing, DataFront, CondFront}
 use Rattle.grammar.specs.Laws.{whole, data_case, cond_case, two_ways}
 use Rattle.grammar.specs.RowLaws.{forget, forget_giving, then_then, then_left, then_ended, row_step, row_join, row_more, one_left, two_left, led}
+use Rattle.std.specs.Prelude.{Ok, Err, Result}
+use Rattle.refusals.specs.declared.Refusal.{Refusal}
+use Rattle.refusals.specs.declared.Refusal.TheVariants.{Form, Reference}
+use Rattle.refusals.specs.Numbers.{refusal, number, refusal_number}
 
 -- ── a number in front ──
 
-pub operand_none : (k limit : ℕ) (s : List ℕ) (at m : ℕ) → length s ≤ at → Operand k limit s at m (Wrong 4)
-unfolding number_of
-operand_none k limit s at m h = rw (drop_of_length-le s {i = at} h)
+pub operand_none : (k : Refusal) (limit : ℕ) (s : List ℕ) (at m : ℕ) → length s ≤ at → Operand k limit s at m (Err Form)
+unfolding number_of refusal
+operand_none k limit s at m h = record { code = 4; read = rw (drop_of_length-le s {i = at} h); named = refl }
 
-pub operand_some : (k limit : ℕ) (s : List ℕ) (at m x : ℕ) → at < length s → x ≡ get_or s at 0 → x < limit → Operand k limit s at m (On (at + 1) m)
+pub operand_some : (k : Refusal) (limit : ℕ) (s : List ℕ) (at m x : ℕ) → at < length s → x ≡ get_or s at 0 → x < limit → Operand k limit s at m (Ok (On (at + 1) m))
 unfolding number_of
 operand_some k limit s at m x h e l =
     let i : ltb (get_or s at 0) limit ≡ true = lt-ltb (get_or s at 0) limit (rw (← e) l) in
     let j : suc at ≡ at + 1 = omega arith in
-    (refl, h, refl, (get_or s at 0, ap (number_of k limit) (drop-cons s at 0 h) ∙ ap (λ b. pick b (taken (get_or s at 0) (drop (suc at) s)) (refused k)) i ∙ ap (λ i. taken (get_or s at 0) (drop i s)) j))
+    (refl, h, refl, (get_or s at 0, ap (number_of (number k) limit) (drop-cons s at 0 h) ∙ ap (λ b. pick b (taken (get_or s at 0) (drop (suc at) s)) (refused (number k))) i ∙ ap (λ i. taken (get_or s at 0) (drop i s)) j))
 
-pub operand_over : (k limit : ℕ) (s : List ℕ) (at m x : ℕ) → at < length s → x ≡ get_or s at 0 → limit ≤ x → Operand k limit s at m (Wrong k)
+pub operand_over : (k : Refusal) (limit : ℕ) (s : List ℕ) (at m x : ℕ) → at < length s → x ≡ get_or s at 0 → limit ≤ x → Operand k limit s at m (Err k)
 unfolding number_of
 operand_over k limit s at m x h e l =
     let i : ltb (get_or s at 0) limit ≡ false = le-ltb (get_or s at 0) limit (rw (← e) l) in
-    ap (number_of k limit) (drop-cons s at 0 h) ∙ ap (λ b. pick b (taken (get_or s at 0) (drop (suc at) s)) (refused k)) i
+    record {
+      code = number k;
+      read = ap (number_of (number k) limit) (drop-cons s at 0 h) ∙ ap (λ b. pick b (taken (get_or s at 0) (drop (suc at) s)) (refused (number k))) i;
+      named = sym (refusal_number k);
+    }
 
 -- ── edition 1: a constant is one word, a function has one parameter ──
 
@@ -85,23 +93,23 @@ cond_other w a b c d h = simp (ne_eqb w 8 a, ne_eqb w 9 b, ne_eqb w 10 c, ne_eqb
 
 -- ── no word ──
 
-pub data_none : (P : Scope) (s : List ℕ) (at rest : ℕ) → length s ≤ at → DataFront P s at rest (Wrong 4)
-unfolding read_data readers checked repeat both giving then
+pub data_none : (P : Scope) (s : List ℕ) (at rest : ℕ) → length s ≤ at → DataFront P s at rest (Err Form)
+unfolding read_data readers checked repeat both giving then refusal
 data_none P s at rest h = rw (drop_of_length-le s {i = at} h)
 
-pub cond_none : (P : Scope) (s : List ℕ) (at rest : ℕ) → length s ≤ at → CondFront P s at rest (Wrong 4)
-unfolding read_cond readers checked repeat both giving then
+pub cond_none : (P : Scope) (s : List ℕ) (at rest : ℕ) → length s ≤ at → CondFront P s at rest (Err Form)
+unfolding read_cond readers checked repeat both giving then refusal
 cond_none P s at rest h = rw (drop_of_length-le s {i = at} h)
 
 -- ── a word at the place `at` ──
 
 -- A number behind it, and m of f's behind that.
-faced : {A B : Type 0} (f : Reader A) (g : Reader B) (after : ℕ) (s : List ℕ) (at rest m k limit : ℕ) (r : Front) → m ≤ at + 2
-    → checked (repeat (suc rest) f (drop at s)) ≡ checked (then (number_of k limit (drop (at + 1) s)) (λ w. repeat m f)) → Operand k limit s (at + 1) m r → Facing f g after s at rest r
+faced : {A B : Type 0} (f : Reader A) (g : Reader B) (after : ℕ) (s : List ℕ) (at rest m : ℕ) (k : Refusal) (limit : ℕ) (r : Result Front Refusal) → m ≤ at + 2
+    → checked (repeat (suc rest) f (drop at s)) ≡ checked (then (number_of (number k) limit (drop (at + 1) s)) (λ w. repeat m f)) → Operand k limit s (at + 1) m r → Facing f g after s at rest r
 unfolding then checked
-faced f g after s at rest m k limit (On d o) l e (x, y, z, n) = ((omega (arith, x), omega (arith, x, y), omega (arith, x, z, l)), e ∙ ap (λ r. checked (then r (λ v. repeat m f))) n.1 ∙ ap (λ i. checked (repeat i f (drop d s))) (sym z))
-faced f g after s at rest m k limit (Other d) l e n = absurd n
-faced f g after s at rest m k limit (Wrong j) l e n = sym (e ∙ ap (λ r. checked (then r (λ v. repeat m f))) n)
+faced f g after s at rest m k limit (Ok (On d o)) l e (x, y, z, n) = ((omega (arith, x), omega (arith, x, y), omega (arith, x, z, l)), e ∙ ap (λ r. checked (then r (λ v. repeat m f))) n.1 ∙ ap (λ i. checked (repeat i f (drop d s))) (sym z))
+faced f g after s at rest m k limit (Ok (Other d)) l e n = absurd n
+faced f g after s at rest m k limit (Err j) l e n = sym (e ∙ ap (λ r. checked (then r (λ v. repeat m f))) n.read ∙ ap Err (sym n.named))
 
 module _ (P : Scope) (s : List ℕ) (at rest : ℕ) (h : at < length s) (few : rest ≤ at + 1) where
   abbrev rd : Reader Data
@@ -140,23 +148,23 @@ module _ (P : Scope) (s : List ℕ) (at rest : ℕ) (h : at < length s) (few : r
   by_cond : {B : Type 0} (k : CondKind) (r : Read B) → cond_kind (get_or s at 0) ≡ k → forget (cond_by (whole 1 P) k t) ≡ forget r → checked (repeat (suc rest) rc (drop at s)) ≡ checked (then r (λ a. repeat rest rc))
   by_cond k r e f = row_step rc r rest (drop at s) (ap forget (cond_at k e) ∙ f)
 
-  pub data_undefined : get_or s at 0 ≡ 0 → DataFront P s at rest (On (at + 1) rest)
+  pub data_undefined : get_or s at 0 ≡ 0 → DataFront P s at rest (Ok (On (at + 1) rest))
   unfolding then
   data_undefined e = (behind rest (omega arith), by_data DataKind.undefined (taken Undefined t) (ap (data_kind P) e) refl)
 
-  pub data_constant : (r : Front) → get_or s at 0 ≡ 1 → P.top ≡ 65534 → Operand 4 65535 s (at + 1) rest r → DataFront P s at rest r
-  data_constant r e o = faced rd (repeat 1 rc) (rest + 2) s at rest rest 4 65535 r (omega (arith, few)) (by_data DataKind.constant (number_of 4 65535 t) (ap (data_kind P) e) (ap (λ m. forget (giving Constant (constant_of 1 m t))) o ∙ one_constant t))
+  pub data_constant : (r : Result Front Refusal) → get_or s at 0 ≡ 1 → P.top ≡ 65534 → Operand Form 65535 s (at + 1) rest r → DataFront P s at rest r
+  data_constant r e o = faced rd (repeat 1 rc) (rest + 2) s at rest rest Form 65535 r (omega (arith, few)) (by_data DataKind.constant (number_of 4 65535 t) (ap (data_kind P) e) (ap (λ m. forget (giving Constant (constant_of 1 m t))) o ∙ one_constant t))
 
-  pub data_variable : (r : Front) → get_or s at 0 ≡ 2 → Operand 5 P.variables s (at + 1) rest r → DataFront P s at rest r
-  data_variable r e = faced rd (repeat 1 rc) (rest + 2) s at rest rest 5 P.variables r (omega (arith, few)) (by_data DataKind.variable (number_of 5 P.variables t) (ap (data_kind P) e) (forget_giving Variable (number_of 5 P.variables t)))
+  pub data_variable : (r : Result Front Refusal) → get_or s at 0 ≡ 2 → Operand Reference P.variables s (at + 1) rest r → DataFront P s at rest r
+  data_variable r e = faced rd (repeat 1 rc) (rest + 2) s at rest rest Reference P.variables r (omega (arith, few)) (by_data DataKind.variable (number_of 5 P.variables t) (ap (data_kind P) e) (forget_giving Variable (number_of 5 P.variables t)))
 
-  paired : (k : Data → Data → Data) → data_kind P (get_or s at 0) ≡ DataKind.pair k → DataFront P s at rest (On (at + 1) (rest + 2))
+  paired : (k : Data → Data → Data) → data_kind P (get_or s at 0) ≡ DataKind.pair k → DataFront P s at rest (Ok (On (at + 1) (rest + 2)))
   paired k e = (behind (rest + 2) (omega arith), by_data (DataKind.pair k) (both rd rd t) e (forget_giving _ (both rd rd t)) ∙ row_join rd rd rest t ∙ row_more rd (suc rest) t ∙ ap (λ n. checked (repeat n rd t)) two)
 
-  pub data_pair : OtherD (get_or s at 0) → get_or s at 0 < 5 → DataFront P s at rest (On (at + 1) (rest + 2))
+  pub data_pair : OtherD (get_or s at 0) → get_or s at 0 < 5 → DataFront P s at rest (Ok (On (at + 1) (rest + 2)))
   data_pair o u = ⊎_elim (λ e. paired Add (ap (data_kind P) e)) (λ e. paired Subtract (ap (data_kind P) e)) (two_ways (get_or s at 0) 3 (omega arith) (omega arith))
 
-  pub data_select : get_or s at 0 ≡ 5 → DataFront P s at rest (Other (at + 1))
+  pub data_select : get_or s at 0 ≡ 5 → DataFront P s at rest (Ok (Other (at + 1)))
   unfolding both
   data_select e = (
     behind (rest + 2) (omega arith),
@@ -167,56 +175,56 @@ module _ (P : Scope) (s : List ℕ) (at rest : ℕ) (h : at < length s) (few : r
         ∙ led rc (repeat 1 rc) (repeat (rest + 2) rd) t (sym (one_left rc t)),
   )
 
-  named : (k : ℕ → Args → Data) (limit : ℕ) (r : Front) → P.arity ≡ (λ f. 1) → data_kind P (get_or s at 0) ≡ DataKind.attribute k limit → Operand 5 limit s (at + 1) (rest + 1) r → DataFront P s at rest r
+  named : (k : ℕ → Args → Data) (limit : ℕ) (r : Result Front Refusal) → P.arity ≡ (λ f. 1) → data_kind P (get_or s at 0) ≡ DataKind.attribute k limit → Operand Reference limit s (at + 1) (rest + 1) r → DataFront P s at rest r
   named k limit r a e =
-      faced rd (repeat 1 rc) (rest + 2) s at rest (rest + 1) 5 limit r (omega (arith, few))
+      faced rd (repeat 1 rc) (rest + 2) s at rest (rest + 1) Reference limit r (omega (arith, few))
       (by_data (DataKind.attribute k limit) (both (number_of 5 limit) rd t) e (one_named limit P.arity k rd t (λ n. ap (λ g. g n) a))
       ∙ row_join (number_of 5 limit) rd rest t
       ∙ ap (λ n. checked (then (number_of 5 limit t) (λ w. repeat n rd))) one)
 
-  pub data_now : (r : Front) → get_or s at 0 ≡ 6 → P.arity ≡ (λ f. 1) → Operand 5 P.now s (at + 1) (rest + 1) r → DataFront P s at rest r
+  pub data_now : (r : Result Front Refusal) → get_or s at 0 ≡ 6 → P.arity ≡ (λ f. 1) → Operand Reference P.now s (at + 1) (rest + 1) r → DataFront P s at rest r
   data_now r e a = named Now P.now r a (ap (data_kind P) e)
 
-  pub data_before : (r : Front) → get_or s at 0 ≡ 7 → P.arity ≡ (λ f. 1) → 0 < P.before → Operand 5 P.before s (at + 1) (rest + 1) r → DataFront P s at rest r
+  pub data_before : (r : Result Front Refusal) → get_or s at 0 ≡ 7 → P.arity ≡ (λ f. 1) → 0 < P.before → Operand Reference P.before s (at + 1) (rest + 1) r → DataFront P s at rest r
   data_before r e a l = named Before P.before r a (ap (data_kind P) e ∙ rw (lt-ltb 0 P.before l))
 
-  wrong : data_kind P (get_or s at 0) ≡ DataKind.wrong → DataFront P s at rest (Wrong 4)
-  unfolding then checked
+  wrong : data_kind P (get_or s at 0) ≡ DataKind.wrong → DataFront P s at rest (Err Form)
+  unfolding then checked refusal
   wrong e = sym (by_data {B = Data} DataKind.wrong (refused 4) e refl)
 
-  pub data_barred : get_or s at 0 ≡ 7 → P.before ≤ 0 → DataFront P s at rest (Wrong 4)
+  pub data_barred : get_or s at 0 ≡ 7 → P.before ≤ 0 → DataFront P s at rest (Err Form)
   data_barred e l = wrong (ap (data_kind P) e ∙ rw (le-ltb 0 P.before l))
 
-  pub data_high : OtherD (get_or s at 0) → 5 ≤ get_or s at 0 → DataFront P s at rest (Wrong 4)
+  pub data_high : OtherD (get_or s at 0) → 5 ≤ get_or s at 0 → DataFront P s at rest (Err Form)
   data_high o l = wrong (data_other P (get_or s at 0) o (λ e. omega arith) (λ e. omega arith))
 
-  compared : (k : Data → Data → Cond) → cond_kind (get_or s at 0) ≡ CondKind.compare k → CondFront P s at rest (Other (at + 1))
+  compared : (k : Data → Data → Cond) → cond_kind (get_or s at 0) ≡ CondKind.compare k → CondFront P s at rest (Ok (Other (at + 1)))
   compared k e = (behind rest (omega arith), by_cond (CondKind.compare k) (both rd rd t) e (forget_giving _ (both rd rd t)) ∙ led (both rd rd) (repeat 2 rd) (repeat rest rc) t (sym (two_left rd t)))
 
-  pub cond_compare : 8 ≤ get_or s at 0 → get_or s at 0 < 10 → CondFront P s at rest (Other (at + 1))
+  pub cond_compare : 8 ≤ get_or s at 0 → get_or s at 0 < 10 → CondFront P s at rest (Ok (Other (at + 1)))
   cond_compare l u = ⊎_elim (λ e. compared Equal (ap cond_kind e)) (λ e. compared Less (ap cond_kind e)) (two_ways (get_or s at 0) 8 l (omega arith))
 
-  joined : (k : Cond → Cond → Cond) → cond_kind (get_or s at 0) ≡ CondKind.join k → CondFront P s at rest (On (at + 1) (rest + 2))
+  joined : (k : Cond → Cond → Cond) → cond_kind (get_or s at 0) ≡ CondKind.join k → CondFront P s at rest (Ok (On (at + 1) (rest + 2)))
   joined k e = (behind (rest + 2) (omega arith), by_cond (CondKind.join k) (both rc rc t) e (forget_giving _ (both rc rc t)) ∙ row_join rc rc rest t ∙ row_more rc (suc rest) t ∙ ap (λ n. checked (repeat n rc t)) two)
 
-  pub cond_join : 10 ≤ get_or s at 0 → get_or s at 0 < 12 → CondFront P s at rest (On (at + 1) (rest + 2))
+  pub cond_join : 10 ≤ get_or s at 0 → get_or s at 0 < 12 → CondFront P s at rest (Ok (On (at + 1) (rest + 2)))
   cond_join l u = ⊎_elim (λ e. joined And (ap cond_kind e)) (λ e. joined Or (ap cond_kind e)) (two_ways (get_or s at 0) 10 l (omega arith))
 
-  pub cond_negate : get_or s at 0 ≡ 12 → CondFront P s at rest (On (at + 1) (rest + 1))
+  pub cond_negate : get_or s at 0 ≡ 12 → CondFront P s at rest (Ok (On (at + 1) (rest + 1)))
   cond_negate e = (behind (rest + 1) (omega arith), by_cond CondKind.negate (rc t) (ap cond_kind e) (forget_giving Not (rc t)) ∙ row_more rc rest t ∙ ap (λ n. checked (repeat n rc t)) one)
 
-  pub cond_always : get_or s at 0 ≡ 13 → CondFront P s at rest (On (at + 1) rest)
+  pub cond_always : get_or s at 0 ≡ 13 → CondFront P s at rest (Ok (On (at + 1) rest))
   unfolding then
   cond_always e = (behind rest (omega arith), by_cond CondKind.always (taken True t) (ap cond_kind e) refl)
 
-  astray : cond_kind (get_or s at 0) ≡ CondKind.wrong → CondFront P s at rest (Wrong 4)
-  unfolding then checked
+  astray : cond_kind (get_or s at 0) ≡ CondKind.wrong → CondFront P s at rest (Err Form)
+  unfolding then checked refusal
   astray e = sym (by_cond {B = Cond} CondKind.wrong (refused 4) e refl)
 
-  pub cond_low : get_or s at 0 < 8 → CondFront P s at rest (Wrong 4)
+  pub cond_low : get_or s at 0 < 8 → CondFront P s at rest (Err Form)
   cond_low l = astray (cond_other (get_or s at 0) (λ e. omega arith) (λ e. omega arith) (λ e. omega arith) (λ e. omega arith) ((tt, λ e. omega arith), λ e. omega arith))
 
-  pub cond_high : OtherC (get_or s at 0) → 12 ≤ get_or s at 0 → CondFront P s at rest (Wrong 4)
+  pub cond_high : OtherC (get_or s at 0) → 12 ≤ get_or s at 0 → CondFront P s at rest (Err Form)
   cond_high o l = astray (cond_other (get_or s at 0) (λ e. omega arith) (λ e. omega arith) (λ e. omega arith) (λ e. omega arith) o)
 
 pub ruleset fronts =

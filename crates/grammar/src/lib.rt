@@ -11,7 +11,8 @@ ghost use Rattle.scan.specs.Checking.{checked};
 ghost use Rattle.grammar.specs.Scoping.{scope};
 ghost use Rattle.grammar.specs.Fronts.{Operand, DataFront, CondFront};
 
-use scan::{Checked, wide};
+use refusals::Refusal;
+use scan::wide;
 
 // How many variables there are, and how many functions now and before may name.
 // Where before may name none, its code itself is refused.
@@ -22,78 +23,77 @@ pub struct Scope {
     pub before: usize,
 }
 
-// What stands in front of a row: the row goes on at a place, with so many expressions; an expression of the other sort
-// stands at a place; or a refusal.
+// What stands in front of a row: the row goes on at a place, with a number of expressions; or an expression of the other
+// sort stands at a place.
 #[derive(Clone, Copy)]
 enum Front {
     On(usize, usize),
     Other(usize),
-    Wrong(u8),
 }
 
-// A number below a limit, else refused k, with m expressions behind it.
-fn operand(s: &[u16], at: usize, k: u8, limit: usize, m: usize) -> Front
-    ensures { Operand k limit s.now at m result }
+// A number below a limit with m expressions behind it, else the refusal given.
+fn operand(s: &[u16], at: usize, refusal: Refusal, limit: usize, m: usize) -> Result<Front, Refusal>
+    ensures { Operand refusal limit s.now at m result }
 {
     if s.len() <= at {
-        return Front::Wrong(4);
+        return Err(Refusal::Form);
     }
     if wide(s[at]) < limit {
-        return Front::On(at + 1, m);
+        return Ok(Front::On(at + 1, m));
     }
-    Front::Wrong(k)
+    Err(refusal)
 }
 
 // A data expression with `rest` more behind it.
-fn data_front(s: &[u16], at: usize, rest: usize, c: Scope) -> Front
+fn data_front(s: &[u16], at: usize, rest: usize, c: Scope) -> Result<Front, Refusal>
     requires { rest ≤ at + 1 }
     ensures { DataFront (scope c) s.now at rest result }
 {
     if s.len() <= at {
-        return Front::Wrong(4);
+        return Err(Refusal::Form);
     }
     let w = s[at];
     let b = at + 1;
     match w {
-        0 => Front::On(b, rest),
-        1 => operand(s, b, 4, 65535, rest),
-        2 => operand(s, b, 5, c.variables, rest),
-        3..=4 => Front::On(b, rest + 2),
-        5 => Front::Other(b),
-        6 => operand(s, b, 5, c.now, rest + 1),
+        0 => Ok(Front::On(b, rest)),
+        1 => operand(s, b, Refusal::Form, 65535, rest),
+        2 => operand(s, b, Refusal::Reference, c.variables, rest),
+        3..=4 => Ok(Front::On(b, rest + 2)),
+        5 => Ok(Front::Other(b)),
+        6 => operand(s, b, Refusal::Reference, c.now, rest + 1),
         7 => {
             if 0 < c.before {
-                operand(s, b, 5, c.before, rest + 1)
+                operand(s, b, Refusal::Reference, c.before, rest + 1)
             } else {
-                Front::Wrong(4)
+                Err(Refusal::Form)
             }
         }
-        _ => Front::Wrong(4),
+        _ => Err(Refusal::Form),
     }
 }
 
 // A condition with `rest` more behind it. No code of a condition depends on the scope; the contract names it for the data in it.
-fn cond_front(s: &[u16], at: usize, rest: usize, c: Scope) -> Front
+fn cond_front(s: &[u16], at: usize, rest: usize, c: Scope) -> Result<Front, Refusal>
     requires { rest ≤ at + 1 }
     ensures { CondFront (scope c) s.now at rest result }
 {
     if s.len() <= at {
-        return Front::Wrong(4);
+        return Err(Refusal::Form);
     }
     let w = s[at];
     let b = at + 1;
     match w {
-        8..=9 => Front::Other(b),
-        10..=11 => Front::On(b, rest + 2),
-        12 => Front::On(b, rest + 1),
-        13 => Front::On(b, rest),
-        _ => Front::Wrong(4),
+        8..=9 => Ok(Front::Other(b)),
+        10..=11 => Ok(Front::On(b, rest + 2)),
+        12 => Ok(Front::On(b, rest + 1)),
+        13 => Ok(Front::On(b, rest)),
+        _ => Err(Refusal::Form),
     }
 }
 
 // n data expressions in a row.
-#[cycle(cond_row_data_row)]
-fn data_row(s: &[u16], n: usize, c: Scope) -> Checked
+#[cycle(rows)]
+fn data_row(s: &[u16], n: usize, c: Scope) -> Result<usize, Refusal>
     requires { n ≤ 2 }
     ensures { result ≡ checked (repeat n (read_data 1 (scope c)) s.now) }
 {
@@ -101,33 +101,27 @@ fn data_row(s: &[u16], n: usize, c: Scope) -> Checked
     let mut more = n;
     while 0 < more {
         let rest = more - 1;
-        match data_front(s, at, rest, c) {
+        let front = data_front(s, at, rest, c)?;
+        match front {
             Front::On(b, m) => {
                 at = b;
                 more = m;
                 continue;
             }
-            Front::Other(b) => match cond_row(&s[b..], 1, c) {
-                Checked::Left(left) => {
-                    at = s.len() - left;
-                    more = rest + 2;
-                    continue;
-                }
-                Checked::Refused(k) => {
-                    return Checked::Refused(k);
-                }
-            },
-            Front::Wrong(k) => {
-                return Checked::Refused(k);
+            Front::Other(b) => {
+                let left = cond_row(&s[b..], 1, c)?;
+                at = s.len() - left;
+                more = rest + 2;
+                continue;
             }
         }
     }
-    Checked::Left(s.len() - at)
+    Ok(s.len() - at)
 }
 
 // n conditions in a row.
-#[cycle(cond_row_data_row)]
-fn cond_row(s: &[u16], n: usize, c: Scope) -> Checked
+#[cycle(rows)]
+fn cond_row(s: &[u16], n: usize, c: Scope) -> Result<usize, Refusal>
     requires { n ≤ 2 }
     ensures { result ≡ checked (repeat n (read_cond 1 (scope c)) s.now) }
 {
@@ -135,37 +129,31 @@ fn cond_row(s: &[u16], n: usize, c: Scope) -> Checked
     let mut more = n;
     while 0 < more {
         let rest = more - 1;
-        match cond_front(s, at, rest, c) {
+        let front = cond_front(s, at, rest, c)?;
+        match front {
             Front::On(b, m) => {
                 at = b;
                 more = m;
                 continue;
             }
-            Front::Other(b) => match data_row(&s[b..], 2, c) {
-                Checked::Left(left) => {
-                    at = s.len() - left;
-                    more = rest;
-                    continue;
-                }
-                Checked::Refused(k) => {
-                    return Checked::Refused(k);
-                }
-            },
-            Front::Wrong(k) => {
-                return Checked::Refused(k);
+            Front::Other(b) => {
+                let left = data_row(&s[b..], 2, c)?;
+                at = s.len() - left;
+                more = rest;
+                continue;
             }
         }
     }
-    Checked::Left(s.len() - at)
+    Ok(s.len() - at)
 }
 
-pub fn check_data(s: &[u16], c: Scope) -> Checked
+pub fn check_data(s: &[u16], c: Scope) -> Result<usize, Refusal>
     ensures { result ≡ checked (read_data 1 (scope c) s.now) }
 {
     data_row(s, 1, c)
 }
 
-pub fn check_cond(s: &[u16], c: Scope) -> Checked
+pub fn check_cond(s: &[u16], c: Scope) -> Result<usize, Refusal>
     ensures { result ≡ checked (read_cond 1 (scope c) s.now) }
 {
     cond_row(s, 1, c)

@@ -14,7 +14,6 @@ use Rattle.scan.specs.Laws.{part, back_rest, set_first}
 use Rattle.expressions.specs.Answering.{answer}
 use Rattle.listing.specs.Listing.{TermAt, holding, codes, room, full, Listed}
 use Rattle.listing.specs.Positions.{TwoAt, second_at, behind_shorter}
-use Rattle.listing.specs.PartLaws.{lent_len}
 use Rattle.listing.specs.Operands.{answer_is, answered_left, answered_count}
 use Rattle.listing.specs.Arms.{Lists, Sound, OneListed, ShownListed, TwoListed}
 use Rattle.listing.specs.Shown.{shown}
@@ -56,13 +55,6 @@ all_listed s M entry exit r h = record {
 
 -- ── one move ──
 
-pub one_none : (code left : ℕ) (entry : List ℕ) → length entry ≡ 0 → OneListed code left entry entry full
-one_none code left entry h = record {
-  sound = sound_lost entry entry refl;
-  has_room = λ k. absurd (omega arith);
-  right = λ z. never_full z;
-}
-
 pub one-made : (code left : ℕ) (entry : List ℕ) → left ≤ 65535 → (length entry ≡ 0 → ⊥) → OneListed code left entry (set entry 0 code) (left + 65536)
 one-made code left entry l h = record {
   sound = record { same_length = length-set entry 0 code; bounded = omega arith; count_bounded = λ z. omega arith };
@@ -74,13 +66,6 @@ one-made code left entry l h = record {
 
 -- l is the answer of the first operand's list, r that of the second's behind it
 module _ {x : ℕ} (t M entry mid : List ℕ) (l : ℕ) (first : ShownListed x t M entry mid l) (short : length t ≤ 65535) (few : length entry ≤ 131072) where
-  pub two-lost-first : full ≤ l → (exit : List ℕ) → length exit ≡ length entry → TwoListed x t M entry exit full
-  two-lost-first f exit h = record {
-    sound = sound_lost entry exit h;
-    has_room = λ P E F rest k m. absurd (omega (arith, first.has_room P E (words 1 F ++ rest) k.first (omega arith)));
-    right = λ P E F rest k z. never_full z;
-  }
-
   module _ (ok : l < full) where
     module _ (P : Scope) (E F : Term) (rest : List ℕ) (k : TwoAt t P E F rest) where
       first_right : Lists (shown x (holding M) E) (length (words 1 F ++ rest)) mid l
@@ -169,11 +154,3 @@ module _ {x : ℕ} (t M entry mid : List ℕ) (l : ℕ) (first : ShownListed x t
                   ∙ ap (λ v. shown x (holding M) E ++ v) (second_listed P E F rest k z);
             };
           }
-
--- ── what the recursion asks ──
-
-pub star-lent : (entry : List ℕ) → length entry ≤ 131072 → length (take (length (set entry 0 0) - 1) (drop 1 (set entry 0 0))) ≤ 131072
-star-lent entry h = omega (arith, lent_len (set entry 0 0) 1, length-set entry 0 0)
-
-pub lent_few : {x : ℕ} {t M entry mid : List ℕ} {l : ℕ} → ShownListed x t M entry mid l → length entry ≤ 131072 → length (take (length mid - l / 65536) (drop (l / 65536) mid)) ≤ 131072
-lent_few {x} {t} {M} {entry} {mid} {l} h k = omega (arith, lent_len mid (l / 65536), h.sound.same_length)

@@ -3,6 +3,7 @@ mod Pieces
 mod Skipping
 mod Writing
 mod Copying
+mod Combined
 mod Answers
 mod Arms
 mod Sides

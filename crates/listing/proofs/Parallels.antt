@@ -18,13 +18,14 @@ use Rattle.listing.specs.Listing.{TermAt, holding, full}
 use Rattle.listing.specs.Positions.{TwoAt, MaskedAt, second_at}
 use Rattle.listing.specs.Operands.{answer_is, BothDone, behind_both}
 use Rattle.listing.specs.CasesByCode.{parallel_cases}
-use Rattle.listing.specs.Combining.{combined, Combined}
+use Rattle.listing.specs.Combining.{combined, Made, Combined}
+use Rattle.std.specs.Prelude.{Some, None}
 use Rattle.listing.specs.Shown.{shown}
 use Rattle.listing.specs.ShownLaws.{mask_set_front, shown_below, shown_both_done, shown_parallel, combined_hidden, beside_idle_left, beside_idle_right, room_sides, room_combined}
 use Rattle.listing.specs.RoomLaws.{room_both_done}
 use Rattle.listing.specs.Arms.{OneListed, ShownListed, TwoListed, SideListed, MaskedListed}
 use Rattle.listing.proofs.Skipping.{Tells}
-use Rattle.listing.proofs.Answers.{whole_length, first_count, second_lost, second_count, second_left, second_listed, both_front, both_fit, sound_lost, never_full, Told, listed_of, lists_as}
+use Rattle.listing.proofs.Answers.{whole_length, first_count, second_lost, second_count, second_left, second_listed, both_front, sound_lost, never_full, Told, listed_of, lists_as}
 
 -- t stands behind the mask at the front of d
 sides : (d t : List ℕ) → t ≡ drop 4 d → {P : Scope} {Δ : List ℕ} {E F : Term} {rest : List ℕ} → MaskedAt d P Δ E F rest → TwoAt t P E F rest
@@ -37,22 +38,12 @@ joined_is : (x y : ℕ) (d : List ℕ) → y ≡ bit_or x (mask_set d) → {P : 
 joined_is x y d isy k = sym (isy ∙ ap (bit_or x) (set_is d k))
 
 module _ {x : ℕ} (d t M entry mid : List ℕ) (l : ℕ) (first : ShownListed x t M entry mid l) (short : length t ≤ 65535) (few : length entry ≤ 131072) (ist : t ≡ drop 4 d) where
-  pub masked_lost_first : full ≤ l → (exit : List ℕ) → length exit ≡ length entry → MaskedListed x d M entry exit full
-  masked_lost_first f exit h = record {
-    sound = sound_lost entry exit h;
-    has_room = λ P Δ E F rest k m. absurd (omega (arith, f, first.has_room P E (words 1 F ++ rest) (sides d t ist k).first (omega (arith, m))));
-    right = λ P Δ E F rest k z. never_full z;
-  }
-
   module _ (ok : l < full) (u back : List ℕ) (r : ℕ) (isu : u ≡ last_of (l % 65536) t) (lent : ShownListed x u M (take (length mid - l / 65536) (drop (l / 65536) mid)) back r) where
     abbrev both : List ℕ
     both = take (l / 65536) mid ++ (back ++ drop (length mid - l / 65536) (drop (l / 65536) mid))
 
     both_length : length both ≡ length entry
     both_length = whole_length t M entry mid l first short few ok u back r isu lent
-
-    pub masked_few : length both ≤ 131072
-    masked_few = omega (arith, both_length)
 
     pub masked_lost_second : full ≤ r → MaskedListed x d M entry both full
     masked_lost_second f = record {
@@ -62,11 +53,7 @@ module _ {x : ℕ} (d t M entry mid : List ℕ) (l : ℕ) (first : ShownListed x
       right = λ P Δ E F rest k z. never_full z;
     }
 
-    pub masked_fits : r < full → l / 65536 + r / 65536 ≤ length both
-    masked_fits z = omega (arith, both_fit t M entry mid l first short few ok u back r isu lent z, both_length)
-
-    module _ (z : r < full) (δ : ℕ) (isδ : δ ≡ mask_set d) (exit : List ℕ) (c : ℕ)
-        (made : Combined (combined (in_set δ) (slice 0 (l / 65536) both) (slice (l / 65536) (l / 65536 + r / 65536) both)) (l / 65536 + r / 65536) both exit c) where
+    module _ (z : r < full) (δ : ℕ) (isδ : δ ≡ mask_set d) where
       module _ (P : Scope) (Δ : List ℕ) (E F : Term) (rest : List ℕ) (k : MaskedAt d P Δ E F rest) where
         cE : List ℕ
         cE = shown x (holding M) E
@@ -110,26 +97,29 @@ module _ {x : ℕ} (d t M entry mid : List ℕ) (l : ℕ) (first : ShownListed x
         unfolding cE cF
         count_is = (n_is, k_is)
 
-      pub masked_lost_made : full ≤ c → MaskedListed x d M entry exit full
-      masked_lost_made f = record {
+      abbrev made_of : List ℕ
+      made_of = combined (in_set δ) (slice 0 (l / 65536) both) (slice (l / 65536) (l / 65536 + r / 65536) both)
+
+      pub masked_lost_made : {exit : List ℕ} → Combined made_of (l / 65536 + r / 65536) both exit None → MaskedListed x d M entry exit full
+      masked_lost_made {exit} made = record {
         sound = sound_lost entry exit (made.same_length ∙ both_length);
-        has_room = λ P Δ E F rest k m. absurd (omega (arith, m, made.lacked f, both_length, (count_is P Δ E F rest k).0, (count_is P Δ E F rest k).1, ap length (made_is P Δ E F rest k), shown_below x (holding M) E, shown_below x (holding M) F));
+        has_room = λ P Δ E F rest k m. absurd (omega (arith, m, made.made, both_length, (count_is P Δ E F rest k).0, (count_is P Δ E F rest k).1, ap length (made_is P Δ E F rest k), shown_below x (holding M) E, shown_below x (holding M) F));
         right = λ P Δ E F rest k y. never_full y;
       }
 
-      pub masked_made : c < full → MaskedListed x d M entry exit (c * 65536 + r % 65536)
-      masked_made y =
-          let g = made.fitted y in
-          let low : c * 65536 + r % 65536 < full = omega (arith, g, both_length) in
+      pub masked_made : {exit : List ℕ} {c : ℕ} → Combined made_of (l / 65536 + r / 65536) both exit (Some c) → MaskedListed x d M entry exit (c * 65536 + r % 65536)
+      masked_made {exit} {c} made =
+          let v : Made made_of (l / 65536 + r / 65536) both exit c = made.made in
+          let low : c * 65536 + r % 65536 < full = omega (arith, v.fitted, both_length) in
           record {
-            sound = record { same_length = made.same_length ∙ both_length; bounded = omega arith; count_bounded = λ w. omega (arith, g, both_length) };
+            sound = record { same_length = made.same_length ∙ both_length; bounded = omega arith; count_bounded = λ w. omega (arith, v.fitted, both_length) };
             has_room = λ P Δ E F rest k m. low;
             right = λ P Δ E F rest k w.
                 let o = made_is P Δ E F rest k in
-                let n : c ≡ length (combined (in_set (mask_set Δ)) (shown x (holding M) E) (shown x (holding M) F)) = made.counted y ∙ ap length o in
+                let n : c ≡ length (combined (in_set (mask_set Δ)) (shown x (holding M) E) (shown x (holding M) F)) = v.counted ∙ ap length o in
                 record {
                   counted = omega (arith, n, second_left t M entry mid l first short few ok u back r isu lent P E F rest (sides d t ist k) z, answer_is (length rest) (length (combined (in_set (mask_set Δ)) (shown x (holding M) E) (shown x (holding M) F))));
-                  listed = ap (λ j. take j exit) (sym n) ∙ made.front y ∙ o;
+                  listed = ap (λ j. take j exit) (sym n) ∙ v.front ∙ o;
                 };
           }
 

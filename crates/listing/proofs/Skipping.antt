@@ -148,14 +148,13 @@ module _ (s : List ℕ) (at due w : ℕ) where
       let i : at + 0 ≡ at = omega arith in
       sym (ap (λ j. get_or s j 0) i) ∙ sym (get_or-drop at s 0 0) ∙ ap (λ l. get_or l 0 0) e
 
-  past_end : (P : Scope) (rest : List ℕ) {b : Bool} → length s ≤ at → Front P rest (drop at s) due b → ⊥
-  past_end P rest l (a_code k more n behind e t b' i d) = omega (arith, ap length e, length-drop at s)
-  past_end P rest l (the_action a behind sm e c b' i d) = omega (arith, ap length e, length-drop at s)
-
-  unknown : (P : Scope) (rest : List ℕ) {b : Bool} → w ≡ get_or s at 0 → 30 < w → Front P rest (drop at s) due b → ⊥
-  unknown P rest i l (a_code k more n behind e t b' j d) =
-      omega (arith, i, code_at k (more ++ behind) e, leb→le k 30 (T_fst (leb k 30) _ t))
-  unknown P rest i l (the_action a behind sm e c b' j d) = omega (arith, i, code_at 21 _ e)
+  no_code : (P : Scope) (rest : List ℕ) {b : Bool} → (at < length s → 30 < get_or s at 0) → Front P rest (drop at s) due b → ⊥
+  no_code P rest l (a_code k more n behind e t b' i d) =
+      let h : at < length s = omega (arith, ap length e, length-drop at s) in
+      omega (arith, l h, code_at k (more ++ behind) e, leb→le k 30 (T_fst (leb k 30) _ t))
+  no_code P rest l (the_action a behind sm e c b' i d) =
+      let h : at < length s = omega (arith, ap length e, length-drop at s) in
+      omega (arith, l h, code_at 21 _ e)
 
   moving_stops : (P : Scope) (rest : List ℕ) {b : Bool} → w ≡ get_or s at 0 → moving_code w ≡ true → Front P rest (drop at s) due b → b ≡ false
   moving_stops P rest i l (the_action a behind sm e c b' j d) = j
@@ -204,11 +203,8 @@ module _ (s : List ℕ) (at due w : ℕ) where
     skip_front : (P : Scope) (Es : List Term) (rest : List ℕ) (h : RowAt s P Es rest) (e : n ≡ length Es) → Front P rest (drop at s) due (inv P Es rest h e).0
     skip_front P Es rest h e = front P rest due (inv P Es rest h e).0 (drop at s) h.plain h.closed z (inv P Es rest h e).1
 
-    pub skip_end : length s ≤ at → Skipped s n 0
-    skip_end l = (omega arith, λ P Es rest h e. absurd (past_end P rest l (skip_front P Es rest h e)))
-
-    pub skip_unknown : w ≡ get_or s at 0 → 30 < w → Skipped s n 0
-    skip_unknown i l = (omega arith, λ P Es rest h e. absurd (unknown P rest i l (skip_front P Es rest h e)))
+    pub skip_none : (at < length s → 30 < get_or s at 0) → Skipped s n 0
+    skip_none l = (omega arith, λ P Es rest h e. absurd (no_code P rest l (skip_front P Es rest h e)))
 
     pub skip_code : w ≡ get_or s at 0 → (w ≡ 21 → ⊥) → Skipping s n (at + 1 + more_words w) (due - 1 + operand_count w)
     skip_code i l P Es rest h e =
@@ -222,11 +218,8 @@ module _ (s : List ℕ) (at due w : ℕ) where
     idle_front : (P : Scope) (E : Term) (rest : List ℕ) → TermAt s P E rest → Front P rest (drop at s) due (eqb (breadth E) 0)
     idle_front P E rest h = front P rest due (eqb (breadth E) 0) (drop at s) h.plain h.closed z (inv P E rest h)
 
-    pub idle_end : length s ≤ at → Tells s false
-    idle_end l P E rest h = absurd (past_end P rest l (idle_front P E rest h))
-
-    pub idle_unknown : w ≡ get_or s at 0 → 30 < w → Tells s false
-    idle_unknown i l P E rest h = absurd (unknown P rest i l (idle_front P E rest h))
+    pub idle_none : (at < length s → 30 < get_or s at 0) → Tells s false
+    idle_none l P E rest h = absurd (no_code P rest l (idle_front P E rest h))
 
     pub idle_stops : w ≡ get_or s at 0 → moving_code w ≡ true → Tells s false
     idle_stops i l P E rest h = sym (moving_stops P rest i l (idle_front P E rest h))
@@ -250,11 +243,8 @@ module _ (s : List ℕ) (n at due : ℕ) (z : due ≤ 0) (inv : Skipping s n at 
       let d = (inv P Es rest h e).1 in
       omega (arith, length-drop at s, ap length (nothing_due P rest (drop at s) d.inner d.operands d.spelt (omega (arith, d.counted))))
 
-  pub skip_left : at ≤ length s → Skipped s n (length s - at)
-  skip_left l = (omega arith, left)
-
-  pub skip_beyond : length s < at → Skipped s n 0
-  skip_beyond l = (omega arith, λ P Es rest h e. omega (arith, left P Es rest h e))
+  pub skip_left : Skipped s n (length s - at)
+  skip_left = (omega arith, left)
 
 none_idle : (xs : List Expression) (Es : List Term) → length xs + length Es ≡ 0 → all_idle Es ≡ true
 none_idle xs [] n = refl

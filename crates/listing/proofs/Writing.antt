@@ -2,15 +2,14 @@
 use mathlib.Core.Path.{◌≡◌, refl, sym, ap, ◌∙◌}
 use mathlib.Core.Bool.{Bool, true, false, cond}
 use mathlib.Core.List.{List, [], ◌∷◌, ◌++◌, append_assoc, append-nil}
-use Prim.Native.Nat.{ℕ, suc, ◌+◌, ◌≤◌, ◌<◌}
-use native.Mathlib.Nat.{le_refl}
+use Prim.Native.Nat.{ℕ, ◌+◌, ◌≤◌, ◌<◌}
 use native.Mathlib.Numerals.{add-one}
 use native.Mathlib.Omega.{arith}
-use lib.ListN.{length, take, drop, set, get_or, length-append, length-drop, take-append-drop}
-use lib.Seq.{length-take-le, drop-cons, take-append-le, take-take, set_at, take_at, drop_at, drop-drop, get_or-take, slice, slice-cons}
+use lib.ListN.{length, take, drop, get_or, length-append, length-drop, take-append-drop}
+use lib.Seq.{length-take-le, drop-cons, take_at, drop_at, drop-drop}
 use borrow.Author.Tests.{eq-eqb, ne_eqb}
-use Rattle.listing.specs.Listing.{full}
-use Rattle.listing.specs.PartLaws.{slice_end}
+use Rattle.std.specs.Prelude.{Some, None}
+use Rattle.std.proofs.lemmas.List.{at_drop_all}
 use Rattle.listing.specs.Combining.{outside, equal_to, pairs, Written, Wrote}
 
 pub written_none : (e : ℕ) (x : List ℕ) → e ≤ length x → Written [] e x x e
@@ -35,28 +34,6 @@ module _ {o : List ℕ} {e : ℕ} {x y : List ℕ} {at : ℕ} (w : Written o e x
   written_drop : drop at y ≡ drop at x
   written_drop = ap (drop at) text_front ∙ drop_at (take e x ++ o) (drop at x) at front_length
 
-  -- what lies before is as it was
-  pub written_kept : (n : ℕ) → n ≤ e → take n y ≡ take n x
-  written_kept n h =
-      let l : n ≤ length (take e x) = omega (arith, length-take-le e x begin) in
-      ap (take n) w.text ∙ take-append-le n (take e x) (o ++ drop at x) l ∙ take-take n e x h
-
-  pub read_kept : (i : ℕ) → i < e → get_or y i 0 ≡ get_or x i 0
-  read_kept i h = sym (get_or-take e y i 0 h) ∙ ap (λ l. get_or l i 0) (written_kept e (le_refl e)) ∙ get_or-take e x i 0 h
-
-  pub written_one : (a : ℕ) → at < length x → Written (o ++ (a ∷ [])) e x (set y at a) (at + 1)
-  written_one a h =
-      let q : y ≡ (take e x ++ o) ++ (get_or x at 0 ∷ drop (suc at) x) = text_front ∙ ap (λ l. (take e x ++ o) ++ l) (drop-cons x at 0 h) in
-      let s : suc at ≡ at + 1 = omega arith in
-      record {
-        end = omega (arith, w.end, length-append o (a ∷ []));
-        inside = omega arith;
-        text = ap (λ l. set l at a) q ∙ set_at (take e x ++ o) (get_or x at 0) (drop (suc at) x) a at front_length
-            ∙ append_assoc (take e x) o (a ∷ drop (suc at) x)
-            ∙ ap (λ l. take e x ++ l) (sym (append_assoc o (a ∷ []) (drop (suc at) x)))
-            ∙ ap (λ n. take e x ++ ((o ++ (a ∷ [])) ++ drop n x)) s;
-      }
-
   pub written_more : {p z : List ℕ} {r : ℕ} → Written p at y z r → Written (o ++ p) e x z r
   written_more {p} {z} {r} v =
       let d : drop r y ≡ drop r x =
@@ -68,10 +45,6 @@ module _ {o : List ℕ} {e : ℕ} {x y : List ℕ} {at : ℕ} (w : Written o e x
         text = v.text ∙ ap (λ l. l ++ (p ++ drop r y)) written_take ∙ ap (λ l. (take e x ++ o) ++ (p ++ l)) d
             ∙ append_assoc (take e x) o (p ++ drop r x) ∙ ap (λ l. take e x ++ l) (sym (append_assoc o p (drop r x)));
       }
-
--- a test of what was read is one of what stood there at first
-pub test_kept : (p : ℕ → Bool) (a b : ℕ) {r v : Bool} → r ≡ p a → a ≡ b → r ≡ v → p b ≡ v
-test_kept p a b e f g = ap p (sym f) ∙ sym e ∙ g
 
 -- ── on the way ──
 
@@ -85,83 +58,67 @@ pub writing_start : (all : List ℕ) (e : ℕ) (x : List ℕ) → e ≤ length x
 writing_start all e x h = record { done = []; split = refl; so_far = written_none e x h }
 
 module _ {all : List ℕ} {e : ℕ} {x0 x : List ℕ} {at : ℕ} {todo : List ℕ} (w : Writing all e x0 x at todo) where
-  pub writing_pass : (rest : List ℕ) → todo ≡ rest → Writing all e x0 x at rest
-  writing_pass rest h = record { done = w.done; split = w.split ∙ ap (λ l. w.done ++ l) h; so_far = w.so_far }
+  pub writing_pass : {rest : List ℕ} → todo ≡ rest → Writing all e x0 x at rest
+  writing_pass h = record { done = w.done; split = w.split ∙ ap (λ l. w.done ++ l) h; so_far = w.so_far }
 
-  pub writing_one : (a : ℕ) (rest : List ℕ) → todo ≡ a ∷ rest → at < length x → Writing all e x0 (set x at a) (at + 1) rest
-  writing_one a rest h l = record {
-    done = w.done ++ (a ∷ []);
-    split = w.split ∙ ap (λ t. w.done ++ t) h ∙ sym (append_assoc w.done (a ∷ []) rest);
-    so_far = written_one w.so_far a (omega (arith, written_length w.so_far));
+  -- the next numbers had no room
+  pub writing_lost : {p y : List ℕ} (rest : List ℕ) → todo ≡ p ++ rest → Wrote p at x y None → Wrote all e x0 y None
+  writing_lost {p} {y} rest h v = record {
+    same_length = v.same_length ∙ written_length w.so_far;
+    written = omega (arith, v.written, written_length w.so_far, w.so_far.end, ap length w.split, length-append w.done todo, ap length h, length-append p rest);
   }
 
-  pub writing_more : {p y : List ℕ} {r : ℕ} (rest : List ℕ) → todo ≡ p ++ rest → Written p at x y r → Writing all e x0 y r rest
-  writing_more {p} rest h v = record {
+  pub writing_next : {p y rest : List ℕ} {r : ℕ} → todo ≡ p ++ rest → Wrote p at x y (Some r) → Writing all e x0 y r rest
+  writing_next {p} {y} {rest} h v = record {
     done = w.done ++ p;
     split = w.split ∙ ap (λ t. w.done ++ t) h ∙ sym (append_assoc w.done p rest);
-    so_far = written_more w.so_far v;
+    so_far = written_more w.so_far v.written;
   }
 
-  pub writing_length : length x ≡ length x0
-  writing_length = written_length w.so_far
-
-  pub writing_begun : (e ≤ at) × (at ≤ length x0)
-  writing_begun = (omega (arith, w.so_far.end), w.so_far.inside)
-
-  pub writing_lost : (y : List ℕ) → length y ≡ length x0 → length x < at + length todo → Wrote all e x0 y full
-  writing_lost y h l = record {
-    same_length = h;
-    bounded = le_refl full;
-    written = λ z. absurd (omega (arith, z));
-    lacked = λ z. omega (arith, written_length w.so_far, w.so_far.end, ap length w.split, length-append w.done todo);
-  }
-
-  pub writing_ends : todo ≡ [] → length x0 ≤ 131072 → Wrote all e x0 x at
-  writing_ends h l = record {
-    same_length = written_length w.so_far;
-    bounded = omega (arith, w.so_far.inside);
-    written = λ z. rw (w.split ∙ ap (λ t. w.done ++ t) h ∙ append-nil w.done) w.so_far;
-    lacked = λ z. absurd (omega (arith, w.so_far.inside, z));
-  }
+  pub writing_ends : todo ≡ [] → Wrote all e x0 x (Some at)
+  writing_ends h = record { same_length = written_length w.so_far; written = rw (w.split ∙ ap (λ t. w.done ++ t) h ∙ append-nil w.done) w.so_far }
 
 -- ── the three lists, step by step ──
 
-module _ (i to : ℕ) (x : List ℕ) (h : i < to) (k : to ≤ length x) where
-  slice_next : slice i to x ≡ get_or x i 0 ∷ slice (i + 1) to x
-  slice_next = rw add-one (slice-cons i to x 0 h k)
+module _ (i : ℕ) (x : List ℕ) (h : i < length x) where
+  drop_next : drop i x ≡ get_or x i 0 ∷ drop (i + 1) x
+  drop_next = rw add-one (drop-cons x i 0 h)
 
-  pub outside_in : (p : ℕ → Bool) → p (get_or x i 0) ≡ true → outside p (slice i to x) ≡ outside p (slice (i + 1) to x)
+  pub outside_in : (p : ℕ → Bool) → true ≡ p (get_or x i 0) → outside p (drop i x) ≡ outside p (drop (i + 1) x)
   unfolding outside
-  outside_in p e = ap (outside p) slice_next ∙ ap (λ b. cond b (outside p (slice (i + 1) to x)) (get_or x i 0 ∷ outside p (slice (i + 1) to x))) e
+  outside_in p e = ap (outside p) drop_next ∙ ap (λ b. cond b (outside p (drop (i + 1) x)) (get_or x i 0 ∷ outside p (drop (i + 1) x))) (sym e)
 
-  pub outside_out : (p : ℕ → Bool) → p (get_or x i 0) ≡ false → outside p (slice i to x) ≡ get_or x i 0 ∷ outside p (slice (i + 1) to x)
+  pub outside_out : (p : ℕ → Bool) → false ≡ p (get_or x i 0) → outside p (drop i x) ≡ (get_or x i 0 ∷ []) ++ outside p (drop (i + 1) x)
   unfolding outside
-  outside_out p e = ap (outside p) slice_next ∙ ap (λ b. cond b (outside p (slice (i + 1) to x)) (get_or x i 0 ∷ outside p (slice (i + 1) to x))) e
+  outside_out p e = ap (outside p) drop_next ∙ ap (λ b. cond b (outside p (drop (i + 1) x)) (get_or x i 0 ∷ outside p (drop (i + 1) x))) (sym e)
 
-  pub equal_one : (a : ℕ) → get_or x i 0 ≡ a → equal_to a (slice i to x) ≡ a ∷ equal_to a (slice (i + 1) to x)
+  pub equal_one : (a : ℕ) → get_or x i 0 ≡ a → equal_to a (drop i x) ≡ (a ∷ []) ++ equal_to a (drop (i + 1) x)
   unfolding equal_to
-  equal_one a e = ap (equal_to a) slice_next ∙ ap (λ b. cond b (a ∷ equal_to a (slice (i + 1) to x)) (equal_to a (slice (i + 1) to x))) (eq-eqb (get_or x i 0) a e)
+  equal_one a e = ap (equal_to a) drop_next ∙ ap (λ b. cond b (a ∷ equal_to a (drop (i + 1) x)) (equal_to a (drop (i + 1) x))) (eq-eqb (get_or x i 0) a e)
 
-  pub equal_none : (a : ℕ) → (get_or x i 0 ≡ a → ⊥) → equal_to a (slice i to x) ≡ equal_to a (slice (i + 1) to x)
+  pub equal_none : (a : ℕ) → (get_or x i 0 ≡ a → ⊥) → equal_to a (drop i x) ≡ equal_to a (drop (i + 1) x)
   unfolding equal_to
-  equal_none a e = ap (equal_to a) slice_next ∙ ap (λ b. cond b (a ∷ equal_to a (slice (i + 1) to x)) (equal_to a (slice (i + 1) to x))) (ne_eqb (get_or x i 0) a e)
+  equal_none a e = ap (equal_to a) drop_next ∙ ap (λ b. cond b (a ∷ equal_to a (drop (i + 1) x)) (equal_to a (drop (i + 1) x))) (ne_eqb (get_or x i 0) a e)
 
-  pub pairs_in : (p : ℕ → Bool) (ys : List ℕ) → p (get_or x i 0) ≡ true → pairs p (slice i to x) ys ≡ equal_to (get_or x i 0) ys ++ pairs p (slice (i + 1) to x) ys
+  pub pairs_in : (p : ℕ → Bool) (ys : List ℕ) → true ≡ p (get_or x i 0) → pairs p (drop i x) ys ≡ equal_to (get_or x i 0) ys ++ pairs p (drop (i + 1) x) ys
   unfolding pairs
-  pairs_in p ys e = ap (λ l. pairs p l ys) slice_next ∙ ap (λ b. cond b (equal_to (get_or x i 0) ys) [] ++ pairs p (slice (i + 1) to x) ys) e
+  pairs_in p ys e = ap (λ l. pairs p l ys) drop_next ∙ ap (λ b. cond b (equal_to (get_or x i 0) ys) [] ++ pairs p (drop (i + 1) x) ys) (sym e)
 
-  pub pairs_out : (p : ℕ → Bool) (ys : List ℕ) → p (get_or x i 0) ≡ false → pairs p (slice i to x) ys ≡ pairs p (slice (i + 1) to x) ys
+  pub pairs_out : (p : ℕ → Bool) (ys : List ℕ) → false ≡ p (get_or x i 0) → pairs p (drop i x) ys ≡ pairs p (drop (i + 1) x) ys
   unfolding pairs
-  pairs_out p ys e = ap (λ l. pairs p l ys) slice_next ∙ ap (λ b. cond b (equal_to (get_or x i 0) ys) [] ++ pairs p (slice (i + 1) to x) ys) e
+  pairs_out p ys e = ap (λ l. pairs p l ys) drop_next ∙ ap (λ b. cond b (equal_to (get_or x i 0) ys) [] ++ pairs p (drop (i + 1) x) ys) (sym e)
 
-pub outside_end : (p : ℕ → Bool) (i to : ℕ) (x : List ℕ) → i ≤ to → to ≤ i → outside p (slice i to x) ≡ []
-unfolding outside
-outside_end p i to x h k = ap (outside p) (slice_end i to x h k)
+-- ── all that there are are read ──
 
-pub equal_end : (a i to : ℕ) (x : List ℕ) → i ≤ to → to ≤ i → equal_to a (slice i to x) ≡ []
-unfolding equal_to
-equal_end a i to x h k = ap (equal_to a) (slice_end i to x h k)
+module _ (i : ℕ) (x : List ℕ) (h : length x ≤ i) where
+  pub outside_end : (p : ℕ → Bool) → outside p (drop i x) ≡ []
+  unfolding outside
+  outside_end p = at_drop_all (outside p) x i h
 
-pub pairs_end : (p : ℕ → Bool) (i to : ℕ) (x ys : List ℕ) → i ≤ to → to ≤ i → pairs p (slice i to x) ys ≡ []
-unfolding pairs
-pairs_end p i to x ys h k = ap (λ l. pairs p l ys) (slice_end i to x h k)
+  pub equal_end : (a : ℕ) → equal_to a (drop i x) ≡ []
+  unfolding equal_to
+  equal_end a = at_drop_all (equal_to a) x i h
+
+  pub pairs_end : (p : ℕ → Bool) (ys : List ℕ) → pairs p (drop i x) ys ≡ []
+  unfolding pairs
+  pairs_end p ys = at_drop_all (λ l. pairs p l ys) x i h

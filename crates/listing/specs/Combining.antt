@@ -1,7 +1,6 @@
 -- The numbers of a parallel's moves, made of those of its sides (document 01, "Moves, in order"): left's outside the mask, right's likewise, then
 -- pairs of equal actions in the mask, ordered by left, then right. `p` tells which numbers are in the mask.
-use Rattle.std.specs.Prelude.{◌≡◌, Bool, cond, List, [], ◌∷◌, ◌++◌, ℕ, ◌+◌, ◌≤◌, ◌<◌, eqb, length, take, drop}
-use Rattle.listing.specs.Listing.{full}
+use Rattle.std.specs.Prelude.{◌≡◌, Bool, cond, List, [], ◌∷◌, ◌++◌, ℕ, ◌+◌, ◌≤◌, ◌<◌, eqb, length, take, drop, Option, MatchOption}
 
 unfoldable pub outside : (ℕ → Bool) → List ℕ → List ℕ
 outside p [] = []
@@ -25,18 +24,18 @@ pub record Written (o : List ℕ) (e : ℕ) (x y : List ℕ) (r : ℕ) : Type 0 
   pub inside : r ≤ length x
   pub text : y ≡ take e x ++ (o ++ drop r x)
 
--- What writing o from e on answers: where it ends, or that there was no room.
-pub record Wrote (o : List ℕ) (e : ℕ) (x y : List ℕ) (r : ℕ) : Type 0 where
+-- What writing o from e on answers: where it ends, or None where there was no room.
+pub record Wrote (o : List ℕ) (e : ℕ) (x y : List ℕ) (r : Option ℕ) : Type 0 where
   pub same_length : length y ≡ length x
-  pub bounded : r ≤ full
-  pub written : r < full → Written o e x y r
-  pub lacked : full ≤ r → length x < e + length o
+  pub written : MatchOption r (length x < e + length o) (Written o e x y)
 
--- What combining answers: how many numbers now stand in front, or that there was no room behind the b that both sides take.
-pub record Combined (o : List ℕ) (b : ℕ) (x y : List ℕ) (r : ℕ) : Type 0 where
+-- The r numbers of o stand in front of y, and behind b numbers x has room for as many.
+pub record Made (o : List ℕ) (b : ℕ) (x y : List ℕ) (r : ℕ) : Type 0 where
+  pub fitted : b + r ≤ length x
+  pub counted : r ≡ length o
+  pub front : take r y ≡ o
+
+-- What combining answers: how many numbers now stand in front, or None where there was no room behind the b that both sides take.
+pub record Combined (o : List ℕ) (b : ℕ) (x y : List ℕ) (r : Option ℕ) : Type 0 where
   pub same_length : length y ≡ length x
-  pub bounded : r ≤ full
-  pub fitted : r < full → b + r ≤ length x
-  pub counted : r < full → r ≡ length o
-  pub front : r < full → take r y ≡ o
-  pub lacked : full ≤ r → length x < b + length o
+  pub made : MatchOption r (length x < b + length o) (Made o b x y)

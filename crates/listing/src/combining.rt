@@ -1,114 +1,94 @@
 // The numbers of a parallel's moves, made of those of both sides in the lent array (document 01, "Moves, in order": left's outside the mask,
 // right's likewise, then pairs of equal actions in the mask).
-ghost use Rattle.std.specs.Prelude.{◌+◌, ◌-◌, ◌≤◌, ◌≡◌, length, take};
+ghost use Rattle.std.specs.Prelude.{◌+◌, ◌-◌, ◌≤◌, ◌≡◌, [], ◌∷◌, length, take};
 ghost use Rattle.std.proofs.Math.Seq.{slice};
 ghost use Rattle.actions.specs.Sets.{in_set};
 ghost use Rattle.listing.specs.Combining.{outside, equal_to, pairs, combined, Wrote, Combined};
 
 use actions::in_set;
 
-// An answer that says that there was no room.
-pub const FULL: usize = 1099511627776;
+// Each of the functions below writes into `out` from a place on, and answers the place behind what it wrote, or None where there was no room.
 
-// Writes from e on those of the numbers between two places that are outside the mask.
-fn put_outside(mask: u64, from: usize, to: usize, e: usize, acts: &mut [u32]) -> usize
-    requires { (from ≤ to) × (to ≤ e) × (e ≤ length acts.old) × (length acts.old ≤ 131072) }
-    ensures { Wrote (outside (in_set mask) (slice from to acts.old)) e acts.old acts.new result }
+// One number.
+fn put(a: u32, at: usize, out: &mut [u32]) -> Option<usize>
+    requires { at ≤ length out.old }
+    ensures { Wrote (a ∷ []) at out.old out.new result }
 {
-    let mut i = from;
-    let mut at = e;
-    while i < to {
-        let a = acts[i];
-        if in_set(mask, a) {
-            i = i + 1;
-            continue;
-        }
-        if acts.len() <= at {
-            return FULL;
-        }
-        acts[at] = a;
-        at = at + 1;
-        i = i + 1;
+    if out.len() <= at {
+        return None;
     }
-    at
+    out[at] = a;
+    Some(at + 1)
 }
 
-// Writes a number from e on, once for each between two places that equals it.
-fn put_equal(a: u32, from: usize, to: usize, e: usize, acts: &mut [u32]) -> usize
-    requires { (from ≤ to) × (to ≤ e) × (e ≤ length acts.old) × (length acts.old ≤ 131072) }
-    ensures { Wrote (equal_to a (slice from to acts.old)) e acts.old acts.new result }
+// Those of the numbers that are outside the mask. Stays: `continue` here and below, since with the call of `put` within an `if` this loop was measured
+// to take 1.6 times as long, the next a seventh longer.
+fn put_outside(mask: u64, from: &[u32], e: usize, out: &mut [u32]) -> Option<usize>
+    requires { e ≤ length out.old }
+    ensures { Wrote (outside (in_set mask) from.now) e out.old out.new result }
 {
-    let mut i = from;
     let mut at = e;
-    while i < to {
-        if acts[i] == a {
-            if acts.len() <= at {
-                return FULL;
-            }
-            acts[at] = a;
-            at = at + 1;
-            i = i + 1;
+    for a in from {
+        if in_set(mask, *a) {
             continue;
         }
-        i = i + 1;
+        at = put(*a, at, out)?;
     }
-    at
+    Some(at)
 }
 
-// Writes from e on the pairs of a number before n with an equal one from n to b, of those in the mask.
-fn put_pairs(mask: u64, n: usize, b: usize, e: usize, acts: &mut [u32]) -> usize
-    requires { (n ≤ b) × (b ≤ e) × (e ≤ length acts.old) × (length acts.old ≤ 131072) }
-    ensures { Wrote (pairs (in_set mask) (slice 0 n acts.old) (slice n b acts.old)) e acts.old acts.new result }
+// The number a, once for each that equals it.
+fn put_equal(a: u32, from: &[u32], e: usize, out: &mut [u32]) -> Option<usize>
+    requires { e ≤ length out.old }
+    ensures { Wrote (equal_to a from.now) e out.old out.new result }
 {
-    let mut i: usize = 0;
     let mut at = e;
-    while i < n {
-        let x = acts[i];
-        if in_set(mask, x) {
-            let r = put_equal(x, n, b, at, acts);
-            if FULL <= r {
-                return FULL;
-            }
-            at = r;
-            i = i + 1;
+    for b in from {
+        if *b != a {
             continue;
         }
-        i = i + 1;
+        at = put(a, at, out)?;
     }
-    at
+    Some(at)
+}
+
+// The pairs of a number on the left with an equal one on the right, of those in the mask.
+fn put_pairs(mask: u64, left: &[u32], right: &[u32], e: usize, out: &mut [u32]) -> Option<usize>
+    requires { e ≤ length out.old }
+    ensures { Wrote (pairs (in_set mask) left.now right.now) e out.old out.new result }
+{
+    let mut at = e;
+    for x in left {
+        if in_set(mask, *x) {
+            at = put_equal(*x, right, at, out)?;
+        }
+    }
+    Some(at)
 }
 
 // Copies what stands from b to e to the front.
+// Stays number by number: copy_within calls memmove, and the library promises C hosts to call memcpy and memset only (host/eb3.h, Linking).
 fn shift(b: usize, e: usize, acts: &mut [u32])
     requires { (b ≤ e) × (e ≤ length acts.old) }
     ensures { (length acts.new ≡ length acts.old) × (take (e - b) acts.new ≡ slice b e acts.old) }
 {
-    let n = e - b;
-    let mut i: usize = 0;
-    while i < n {
+    for i in 0..e - b {
         acts[i] = acts[b + i];
-        i = i + 1;
     }
 }
 
-// Of the n numbers in front and the k behind them, those of the parallel, in front. They are made behind both lists, which are read to the end.
-pub fn combine(mask: u64, n: usize, k: usize, acts: &mut [u32]) -> usize
-    requires { (n + k ≤ length acts.old) × (length acts.old ≤ 131072) }
+// Of the n numbers in front and the k behind them, those of the parallel, in front: how many, or None where there was no room. They are made behind
+// both lists, which are read to the end.
+pub fn combine(mask: u64, n: usize, k: usize, acts: &mut [u32]) -> Option<usize>
+    requires { n + k ≤ length acts.old }
     ensures { Combined (combined (in_set mask) (slice 0 n acts.old) (slice n (n + k) acts.old)) (n + k) acts.old acts.new result }
 {
     let b = n + k;
-    let p = put_outside(mask, 0, n, b, acts);
-    if FULL <= p {
-        return FULL;
-    }
-    let q = put_outside(mask, n, b, p, acts);
-    if FULL <= q {
-        return FULL;
-    }
-    let e = put_pairs(mask, n, b, q, acts);
-    if FULL <= e {
-        return FULL;
-    }
-    shift(b, e, acts);
-    e - b
+    let (both, out) = acts.split_at_mut(b);
+    let (left, right) = both.split_at(n);
+    let p = put_outside(mask, left, 0, out)?;
+    let q = put_outside(mask, right, p, out)?;
+    let e = put_pairs(mask, left, right, q, out)?;
+    shift(b, b + e, acts);
+    Some(e)
 }

@@ -2,7 +2,7 @@
 // counting recurses into operand terms, term length falling).
 #![tactic(auto)]
 
-ghost use Rattle.std.specs.Prelude.{◌≡◌, ℕ, ◌+◌, ◌*◌, ◌-◌, ◌≤◌, ◌<◌, List, [], ◌∷◌, ◌++◌, length, take, drop, get_or, ◌&&◌, eqb};
+ghost use Rattle.std.specs.Prelude.{◌≡◌, ℕ, ◌+◌, ◌*◌, ◌-◌, ◌≤◌, ◌<◌, List, [], ◌∷◌, ◌++◌, length, take, drop, get_or, ◌&&◌, eqb, MatchOption};
 ghost use Rattle.eb3.specs.Scopes.{Scope};
 ghost use Rattle.eb3.specs.Terms.{Term, done?};
 ghost use Rattle.eb3.specs.Sizes.{breadth};
@@ -13,9 +13,9 @@ ghost use Rattle.listing.specs.Rows.{RowAt};
 ghost use Rattle.listing.specs.Counting.{operand_count, more_words, moving_code};
 
 use actions::{behind_action, code_at, in_set, join, mask_set};
-use combining::{FULL, combine};
+use combining::combine;
 use expressions::eval_cond;
-use scan::{behind, first, last, wide};
+use scan::{behind, first, last};
 
 mod combining;
 
@@ -45,8 +45,15 @@ fn words_behind(w: usize) -> usize
     (ONE_MORE >> w) % 2 + 4 * ((FOUR_MORE >> w) % 2)
 }
 
+// The code at a place; None where no word stands there, or one that is no code.
+fn known_code(s: &[u16], at: usize) -> Option<usize>
+    ensures { MatchOption result (at < length s.now → 30 < get_or s.now at 0) (λ w. (w ≡ get_or s.now at 0) × (at < length s.now) × (w ≤ 30)) }
+{
+    s.get(at).map(|w| *w as usize).filter(|w| *w <= 30)
+}
+
 // The words left behind n terms in a row. One loop over codes, which says nothing about values: `due` counts the terms, data and
-// conditions that are still to come.
+// conditions that are still to come. Stays: `while`, since no index is counted, and a code tells how far behind it the next one stands.
 pub fn skip_row(s: &[u16], n: usize) -> usize
     requires { (length s.now ≤ 65535) × (n ≤ 65535) }
     ensures { (result ≤ length s.now) × ((P : Scope) (Es : List Term) (rest : List ℕ) → RowAt s.now P Es rest → n ≡ length Es → result ≡ length rest) }
@@ -54,26 +61,18 @@ pub fn skip_row(s: &[u16], n: usize) -> usize
     let mut at: usize = 0;
     let mut due = n;
     while 0 < due {
-        if s.len() <= at {
+        let Some(w) = known_code(s, at) else {
             return 0;
-        }
-        let w = wide(s[at]);
-        if 30 < w {
-            return 0;
-        }
-        let next = at + 1;
+        };
         if w == 21 {
-            at = s.len() - behind_action(&s[next..]);
-            due = due - 1;
+            at = s.len() - behind_action(&s[at + 1..]);
+            due -= 1;
             continue;
         }
-        at = next + words_behind(w);
+        at = at + 1 + words_behind(w);
         due = due - 1 + operands_behind(w);
     }
-    if at <= s.len() {
-        return s.len() - at;
-    }
-    0
+    s.len().saturating_sub(at)
 }
 
 // The words left behind the term at the front.
@@ -94,7 +93,7 @@ fn moving(w: usize) -> bool
     (MOVING >> w) % 2 == 1
 }
 
-// Whether the term at the front can never move: no such code stands in it. Where one does the loop ends at the first.
+// Whether the term at the front can never move: no such code stands in it. Where one does the loop ends at the first. Stays: `while`, as above.
 pub fn idle(s: &[u16]) -> bool
     requires { length s.now ≤ 65535 }
     ensures { (P : Scope) (E : Term) (rest : List ℕ) → TermAt s.now P E rest → result ≡ eqb (breadth E) 0 }
@@ -102,24 +101,22 @@ pub fn idle(s: &[u16]) -> bool
     let mut at: usize = 0;
     let mut due: usize = 1;
     while 0 < due {
-        if s.len() <= at {
+        let Some(w) = known_code(s, at) else {
             return false;
-        }
-        let w = wide(s[at]);
-        if 30 < w {
-            return false;
-        }
+        };
         if moving(w) {
             return false;
         }
-        let next = at + 1;
-        at = next + words_behind(w);
+        at = at + 1 + words_behind(w);
         due = due - 1 + operands_behind(w);
     }
     true
 }
 
 // ── listing ──
+
+// An answer that says that there was no room.
+const FULL: usize = 1099511627776;
 
 // One move.
 fn list_one(code: u32, left: usize, acts: &mut [u32]) -> usize
@@ -137,10 +134,7 @@ fn list_one(code: u32, left: usize, acts: &mut [u32]) -> usize
 pub fn behind_mask(d: &[u16]) -> &[u16]
     ensures { result.now ≡ drop 4 d.now }
 {
-    let n = d.len();
-    if 4 <= n {
-        return &d[4..];
-    }
+    let n = d.len().min(4);
     &d[n..]
 }
 
@@ -148,10 +142,7 @@ pub fn behind_mask(d: &[u16]) -> &[u16]
 pub fn both_done(t: &[u16]) -> bool
     ensures { (P : Scope) (E F : Term) (rest : List ℕ) → TwoAt t.now P E F rest → result ≡ (done? E && done? F) }
 {
-    if first(t) == 30 {
-        return first(behind(t)) == 30;
-    }
-    false
+    first(t) == 30 && first(behind(t)) == 30
 }
 
 // An action's move, or none where its label is in x.
@@ -177,7 +168,7 @@ pub fn list(s: &[u16], m: &[u16], acts: &mut [u32]) -> usize
 
 // Those whose labels are not in x. The set goes down with the masks above, so that a parallel beside a side that can never move takes nothing away
 // from a list that is made, which would be a copy of it at every such parallel.
-#[cycle(list_combined_list_guard_list_masked_list_parallel_list_sequence_list_shown_list_side_list_star_list_two)]
+#[cycle(listing_terms)]
 fn list_shown(s: &[u16], m: &[u16], x: u64, acts: &mut [u32]) -> usize
     requires { (length s.now ≤ 65535) × (length acts.old ≤ 131072) }
     ensures { ShownListed x s.now m.now acts.old acts.new result }
@@ -197,7 +188,8 @@ fn list_shown(s: &[u16], m: &[u16], x: u64, acts: &mut [u32]) -> usize
 }
 
 // The left term's moves, or the right's where the left is done.
-#[cycle(list_combined_list_guard_list_masked_list_parallel_list_sequence_list_shown_list_side_list_star_list_two)]
+#[cycle(listing_terms)]
+#[tactic(auto, using(scan::specs::Laws::last_len))]
 fn list_sequence(t: &[u16], m: &[u16], x: u64, acts: &mut [u32]) -> usize
     requires { (length t.now ≤ 65535) × (length acts.old ≤ 131072) }
     ensures { ShownListed x (22 ∷ t.now) m.now acts.old acts.new result }
@@ -214,7 +206,8 @@ fn list_sequence(t: &[u16], m: &[u16], x: u64, acts: &mut [u32]) -> usize
 }
 
 // The moves of two terms, the second's behind the first's.
-#[cycle(list_combined_list_guard_list_masked_list_parallel_list_sequence_list_shown_list_side_list_star_list_two)]
+#[cycle(listing_terms)]
+#[tactic(auto, using(scan::specs::Laws::last_len))]
 fn list_two(t: &[u16], m: &[u16], x: u64, acts: &mut [u32]) -> usize
     requires { (length t.now ≤ 65535) × (length acts.old ≤ 131072) }
     ensures { TwoListed x t.now m.now acts.old acts.new result }
@@ -232,7 +225,7 @@ fn list_two(t: &[u16], m: &[u16], x: u64, acts: &mut [u32]) -> usize
 }
 
 // An internal move, and the term's moves behind it.
-#[cycle(list_combined_list_guard_list_masked_list_parallel_list_sequence_list_shown_list_side_list_star_list_two)]
+#[cycle(listing_terms)]
 fn list_star(t: &[u16], m: &[u16], x: u64, acts: &mut [u32]) -> usize
     requires { (length t.now ≤ 65535) × (length acts.old ≤ 131072) }
     ensures { ShownListed x (24 ∷ t.now) m.now acts.old acts.new result }
@@ -249,7 +242,7 @@ fn list_star(t: &[u16], m: &[u16], x: u64, acts: &mut [u32]) -> usize
 }
 
 // Both sides' moves; where the mask adds no label to x they are those of a choice, since no action that is shown is in it.
-#[cycle(list_combined_list_guard_list_masked_list_parallel_list_sequence_list_shown_list_side_list_star_list_two)]
+#[cycle(listing_terms)]
 fn list_parallel(d: &[u16], m: &[u16], x: u64, acts: &mut [u32]) -> usize
     requires { (length d.now ≤ 65535) × (length acts.old ≤ 131072) }
     ensures { ShownListed x (25 ∷ d.now) m.now acts.old acts.new result }
@@ -268,7 +261,8 @@ fn list_parallel(d: &[u16], m: &[u16], x: u64, acts: &mut [u32]) -> usize
 
 // Both sides' moves by the mask in front; beside a side that can never move, the other's outside the mask. That the left side is skipped before it
 // is listed costs little: of parallels within one another, beside such a side x gains one of 64 labels, and where both sides can move the breadth doubles.
-#[cycle(list_combined_list_guard_list_masked_list_parallel_list_sequence_list_shown_list_side_list_star_list_two)]
+#[cycle(listing_terms)]
+#[tactic(auto, using(scan::specs::Laws::last_len, crate::specs::Operands::mask_len))]
 fn list_masked(d: &[u16], m: &[u16], x: u64, acts: &mut [u32]) -> usize
     requires { (length d.now ≤ 65535) × (length acts.old ≤ 131072) }
     ensures { MaskedListed x d.now m.now acts.old acts.new result }
@@ -286,7 +280,7 @@ fn list_masked(d: &[u16], m: &[u16], x: u64, acts: &mut [u32]) -> usize
 }
 
 // The moves of the term in front, of a whole behind which other words are left.
-#[cycle(list_combined_list_guard_list_masked_list_parallel_list_sequence_list_shown_list_side_list_star_list_two)]
+#[cycle(listing_terms)]
 fn list_side(t: &[u16], m: &[u16], x: u64, left: usize, acts: &mut [u32]) -> usize
     requires { (length t.now ≤ 65535) × (length acts.old ≤ 131072) × (left ≤ 65535) }
     ensures { SideListed x t.now m.now left acts.old acts.new result }
@@ -299,7 +293,8 @@ fn list_side(t: &[u16], m: &[u16], x: u64, left: usize, acts: &mut [u32]) -> usi
 }
 
 // Both sides' moves, combined by the mask in front.
-#[cycle(list_combined_list_guard_list_masked_list_parallel_list_sequence_list_shown_list_side_list_star_list_two)]
+#[cycle(listing_terms)]
+#[tactic(auto, using(scan::specs::Laws::last_len, crate::specs::Operands::mask_len))]
 fn list_combined(d: &[u16], m: &[u16], x: u64, acts: &mut [u32]) -> usize
     requires { (length d.now ≤ 65535) × (length acts.old ≤ 131072) }
     ensures { MaskedListed x d.now m.now acts.old acts.new result }
@@ -314,15 +309,15 @@ fn list_combined(d: &[u16], m: &[u16], x: u64, acts: &mut [u32]) -> usize
     if FULL <= r {
         return FULL;
     }
-    let c = combine(mask_set(d), n, r / 65536, acts);
-    if FULL <= c {
+    let Some(c) = combine(mask_set(d), n, r / 65536, acts) else {
         return FULL;
-    }
+    };
     c * 65536 + r % 65536
 }
 
 // The term's moves where the condition holds, else none.
-#[cycle(list_combined_list_guard_list_masked_list_parallel_list_sequence_list_shown_list_side_list_star_list_two)]
+#[cycle(listing_terms)]
+#[tactic(auto, using(scan::specs::Laws::last_len))]
 fn list_guard(t: &[u16], m: &[u16], x: u64, acts: &mut [u32]) -> usize
     requires { (length t.now ≤ 65535) × (length acts.old ≤ 131072) }
     ensures { ShownListed x (26 ∷ t.now) m.now acts.old acts.new result }

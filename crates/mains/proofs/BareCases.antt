@@ -6,7 +6,7 @@ use mathlib.Core.List.{List, [], ◌∷◌, append-nil}
 use Prim.Native.Nat.{ℕ, ◌+◌, ◌/◌, ◌%◌, ◌≤◌}
 use native.Mathlib.Omega.{arith}
 use lib.Dec.{eqb}
-use lib.ListN.{length, take, drop, get_or, length-take}
+use lib.ListN.{length, take, drop, get_or}
 use lib.Seq.{take_at}
 use Rattle.eb3.specs.Scopes.{Scope, guard_scope}
 use Rattle.eb3.specs.Terms.{Term, Done, Internal, Perform, Sequence, Choice, Star, Parallel, Guard, done?}
@@ -70,10 +70,6 @@ held_alone R form E running unmasked u d e word is_word first =
       size_is = sym (ap length q.3);
       words_are = first ∙ ap (λ x. x ∷ []) is_word ∙ sym q.3;
     }
-
--- A front of an array that is not long.
-pub front_within : (n : ℕ) (d d₁ f : List ℕ) → f ≡ take n d₁ → length d₁ ≡ length d → length f ≤ length d
-front_within n d d₁ f e same = omega (arith, ap length e, length-take n d₁)
 
 -- ── spelled out ──
 

@@ -3,12 +3,9 @@
 use mathlib.Core.Path.{◌≡◌, sym, ap, ◌∙◌, subst}
 use mathlib.Core.Bool.{Bool, true}
 use mathlib.Core.List.{List, [], ◌++◌}
-use Prim.Native.Nat.{ℕ, ◌+◌, ◌-◌, ◌*◌, ◌%◌, ◌≤◌, ◌<◌}
+use Prim.Native.Nat.{ℕ, ◌+◌, ◌-◌, ◌*◌, ◌%◌, ◌≤◌}
 use native.Mathlib.Omega.{arith}
-use native.Mathlib.Decide.{dec_lt}
-use borrow.Author.Tests.{le-leb}
-use lib.ListN.{length, take, drop, get_or, replicate, length-append, length-replicate, get_or-replicate, get_or-append}
-use lib.Seq.{length-take-le, get_or-take, get_or-append-add, ext_get_or}
+use lib.ListN.{length, take, drop, get_or, replicate}
 use Rattle.eb3.specs.Terms.{Term}
 use Rattle.eb3.specs.Cells.{initial_cells, all_values}
 use Rattle.eb3.specs.RuleSets.{RuleSet, attributes}
@@ -30,10 +27,8 @@ use Rattle.eb3.specs.Answers.{answered, Ran}
 use Rattle.eb3.specs.Operations.{cells_needed, main_reach}
 use Rattle.eb3.proofs.Laws.Editions.{width_is_1}
 use Rattle.expressions.specs.Stores.{now_place}
-use Rattle.writing.specs.Wrote.{Wrote}
-use Rattle.cells.specs.Preparing.{Loaded, Saved}
-use Rattle.cells.specs.PreparingLaws.{Cleared}
-use Rattle.cells.specs.MemoryLaws.{stored_is, held_words, written_loaded}
+use Rattle.cells.specs.Preparing.{Loaded}
+use Rattle.cells.specs.MemoryLaws.{held_words, written_loaded}
 use Rattle.declarations.specs.Directory.{Directory}
 use Rattle.unfold.specs.Unfolded.{Ready}
 use Rattle.steps.specs.Storing.{Stored, Ruled}
@@ -43,55 +38,10 @@ use Rattle.sharing.specs.Masks.{Shareable}
 use Rattle.runs.specs.Scratch.{WordsOnly}
 use Rattle.runs.specs.ScratchLaws.{words_written, words_then}
 use Rattle.runs.specs.Running.{Holding, Spelled, Ended, Runs}
-use Rattle.mains.specs.Mains.{RanRight, RunsMain, Padded, Finished}
+use Rattle.mains.specs.Mains.{RanRight, RunsMain, Finished}
 use Rattle.mains.specs.Starts.{AtStart, RunsBare, RunsMasked}
 use Rattle.mains.specs.declared.Totals.{Totals}
 use Rattle.runs.specs.declared.Tally.{Tally}
-
--- ── zeros up to main's reach ──
-
--- The words up to a place are kept, and those from there on cleared.
-pub cleared_padded : (ws ws' : List ℕ) (from to : ℕ) → Cleared ws ws' from to → Padded ws from to ws'
-cleared_padded ws ws' from to z h l =
-    ext_get_or 0 (take to ws') (take from ws ++ replicate (to - from) 0)
-    (here ∙ sym (length-append (take from ws) (replicate (to - from) 0) ∙ (let e : length (take from ws) + length (replicate (to - from) 0) ≡ to = omega (arith, before, length-replicate {A = ℕ} (to - from) 0) in e)))
-    (λ i k. each i (omega (arith, here)) (dec_lt i from))
-  where
-    here : length (take to ws') ≡ to
-    here = length-take-le to ws' (omega (arith, z.same_length))
-
-    before : length (take from ws) ≡ from
-    before = length-take-le from ws (omega arith)
-
-    each : (i : ℕ) → i < to → Dec (i < from) → get_or (take to ws') i 0 ≡ get_or (take from ws ++ replicate (to - from) 0) i 0
-    each i k (yes d) =
-        get_or-take to ws' i 0 k ∙ sym (stored_is ws' i 0 (omega (arith, z.same_length))) ∙ z.kept_below i d ∙ stored_is ws i 0 (omega arith)
-        ∙ sym (get_or-take from ws i 0 d) ∙ sym (get_or-append (take from ws) (replicate (to - from) 0) 0 i (omega (arith, before)))
-    each i k (no d) =
-        let e : i ≡ length (take from ws) + (i - from) = omega (arith, before) in
-        get_or-take to ws' i 0 k ∙ sym (stored_is ws' i 0 (omega (arith, z.same_length))) ∙ z.zeros i (omega arith) k
-        ∙ sym (ap (λ j. get_or (take from ws ++ replicate (to - from) 0) j 0) e ∙ get_or-append-add (take from ws) (replicate (to - from) 0) (i - from) 0
-        ∙ get_or-replicate (to - from) (i - from) 0 0 (omega arith))
-
-pub padded_end : (ws ws' : List ℕ) (from to i : ℕ) → to ≤ i → (from ≤ to → i ≤ to) → Cleared ws ws' from i → Padded ws from to ws'
-padded_end ws ws' from to i l h z k room =
-    let m = h k in
-    let e : i ≡ to = omega arith in
-    cleared_padded ws ws' from to (subst (Cleared ws ws' from) e z) k room
-
-pub padded_not : (ws ws' : List ℕ) (from to : ℕ) → length ws < to → Padded ws from to ws'
-padded_not ws ws' from to h k l = absurd (let z : ⊥ = omega arith in z)
-
--- ── the lent buffers written ──
-
-pub finished : (ws ws₁ : List ℕ) (size reach : ℕ) {f M : List ℕ} {c : ℕ} {term memory term' memory' : List ℕ} {ok : Bool} → length ws₁ ≡ length ws → Padded ws size reach ws₁
-    → f ≡ take reach ws₁ → Wrote f term term' ok → Saved M memory memory' c → Finished ws size reach M c term memory term' memory'
-finished ws ws₁ size reach {f} {M} {c} {term} {memory} {term'} {memory'} same padded front wrote saved = record {
-  term_written = λ h room fits.
-      let l : length f ≡ reach = ap length front ∙ length-take-le reach ws₁ (omega arith) in
-      wrote.right (wrote.fits ∙ le-leb (2 * length f) (length term) (omega arith)) ∙ ap (λ us. written us term) (front ∙ padded h room);
-  memory_written = λ room fits. saved.right room (omega arith);
-}
 
 -- ── main and its run ──
 

@@ -3,13 +3,14 @@
 // of which only whole words are written; the successors of a term with masks are built there, too.
 #![tactic(auto)]
 
-ghost use Rattle.std.specs.Prelude.{◌≡◌, ℕ, ◌≤◌, length, get_or};
+ghost use Rattle.std.specs.Prelude.{◌≡◌, ◌+◌, ◌≤◌, length, get_or};
 ghost use Rattle.mains.specs.Mains.{RunsMain, Padded, Finished};
 ghost use Rattle.mains.specs.Starts.{RunsBare, RunsMasked};
 
-use arguments::{entry, low32, wide32};
-use cells::{load, save};
+use arguments::{entry, low32};
+use cells::{Functions, load, save};
 use runs::run_moves;
+use runs::scratch::Scratch;
 use runs::shared::run_shared;
 use scan::front;
 use sharing::beginning::part_word;
@@ -32,17 +33,13 @@ pub struct Totals {
 fn pad(ws: &mut [u16], from: usize, to: usize)
     ensures { (length ws.new ≡ length ws.old) × Padded ws.old from to ws.new }
 {
-    if ws.len() < to {
+    if to < from || ws.len() < to {
         return;
     }
-    let mut i = from;
-    while i < to {
-        ws[i] = 0;
-        i = i + 1;
-    }
+    ws[from..to].fill(0);
 }
 
-// The first words, zeros up to main's reach, and the cells of the store, written into the lent buffers.
+// The first words, zeros up to main's reach, and the c cells of the store, written into the lent buffers.
 fn finish(
     ws: &mut [u16],
     size: usize,
@@ -63,23 +60,17 @@ fn finish(
 // one is spelled out.
 fn run_bare(
     numbers: &[u8],
-    t: &[u16],
-    dir: &[u32],
-    w: usize,
-    fns: usize,
-    c: usize,
+    functions: &Functions,
     reach: usize,
     u: &[u16],
     d: &mut [u16],
     m: &mut [u16],
-    path: &mut [u16],
-    acts: &mut [u32],
-    mid: &mut [u16],
+    scratch: &mut Scratch,
     term: &mut [u8],
     memory: &mut [u8],
 ) -> Totals
-    requires { (length t.now ≤ 65535) × (w ≤ 256) × (fns ≤ 16) × (c ≤ 1024) × (length u.now ≤ 65503) × (length d.old ≤ 65535) × (length path.old ≤ 65535) × (length acts.old ≤ 131072) × (length mid.old ≤ 65535) }
-    ensures { RunsBare numbers.now t.now dir.now w fns c reach u.now d.old m.old (length path.old) (length acts.old) (length mid.old) term.old memory.old result term.new memory.new }
+    requires { (length u.now ≤ 65503) × (length d.old ≤ 65535) }
+    ensures { RunsBare numbers.now functions.now.words.now functions.now.directory.now functions.now.width functions.now.count functions.now.cells reach u.now d.old m.old (length scratch.old.path.now) (length scratch.old.acts.now) (length scratch.old.mid.now) term.old memory.old result term.new memory.new }
 {
     // never with room for main
     if d.len() == 0 {
@@ -91,9 +82,17 @@ fn run_bare(
         };
     }
     d[0] = part_word(u);
-    let r = run_shared(numbers, t, dir, w, fns, c, u, 1, d, m, path, acts, mid);
-    let q = expand(u, front(d, r.size), mid, 0);
-    finish(mid, q / 65536, reach, m, c, term, memory);
+    let r = run_shared(numbers, functions, u, 1, d, m, scratch);
+    let q = expand(u, front(d, r.size), scratch.mid, 0);
+    finish(
+        scratch.mid,
+        q / 65536,
+        reach,
+        m,
+        functions.cells,
+        term,
+        memory,
+    );
     Totals {
         size: low32(q / 65536),
         visible: r.visible,
@@ -105,26 +104,21 @@ fn run_bare(
 // With masks, or with operands too deep to be shared, the term is held in its own words.
 fn run_masked(
     numbers: &[u8],
-    t: &[u16],
-    dir: &[u32],
-    w: usize,
-    fns: usize,
-    c: usize,
+    functions: &Functions,
     reach: usize,
     n: usize,
     ws: &mut [u16],
     m: &mut [u16],
-    path: &mut [u16],
-    acts: &mut [u32],
+    scratch: &mut Scratch,
     term: &mut [u8],
     memory: &mut [u8],
     spare: &mut [u8],
 ) -> Totals
-    requires { (length t.now ≤ 65535) × (w ≤ 256) × (fns ≤ 16) × (c ≤ 1024) × (length ws.old ≤ 65535) × (length path.old ≤ 65535) × (length acts.old ≤ 131072) }
-    ensures { (length spare.new ≡ length spare.old) × RunsMasked numbers.now t.now dir.now w fns c reach n ws.old m.old path.old term.old memory.old spare.old result term.new memory.new spare.new }
+    requires { length ws.old ≤ 65535 }
+    ensures { (length spare.new ≡ length spare.old) × RunsMasked numbers.now functions.now.words.now functions.now.directory.now functions.now.width functions.now.count functions.now.cells reach n ws.old m.old scratch.old.path.now term.old memory.old spare.old result term.new memory.new spare.new }
 {
-    let r = run_moves(numbers, t, dir, w, fns, c, n, ws, m, spare, path, acts);
-    finish(ws, r.size, reach, m, c, term, memory);
+    let r = run_moves(numbers, functions, n, ws, m, spare, scratch);
+    finish(ws, r.size, reach, m, functions.cells, term, memory);
     Totals {
         size: low32(r.size),
         visible: r.visible,
@@ -136,128 +130,77 @@ fn run_masked(
 // Main's unfolding and the cells of the start, then all numbers, in lent words with room for main's reach; every other array is as long.
 fn run_words(
     numbers: &[u8],
-    t: &[u16],
+    functions: &Functions,
     tb: &[u32],
-    dir: &[u32],
-    c: usize,
     reach: usize,
     ws: &mut [u16],
     d: &mut [u16],
-    path: &mut [u16],
-    acts: &mut [u32],
-    mid: &mut [u16],
+    scratch: &mut Scratch,
     term: &mut [u8],
     memory: &mut [u8],
     spare: &mut [u8],
 ) -> Totals
-    requires { (length t.now ≤ 65535) × (c ≤ 1024) × (get_or tb.now 17 0 ≤ 64) × (get_or tb.now 210 0 ≤ 16) × (length ws.old ≤ 65503) × (length d.old ≡ length ws.old) × (length path.old ≡ length ws.old) × (length acts.old ≡ length ws.old) × (length mid.old ≡ length ws.old) }
-    ensures { RunsMain numbers.now t.now tb.now dir.now c reach (length ws.old) term.old memory.old spare.old result term.new memory.new spare.new }
+    requires { (functions.now.width ≡ 3 + get_or tb.now 17 0) × (functions.now.count ≡ get_or tb.now 210 0) × (functions.now.cells ≤ 1024) × (length ws.old ≤ 65503) × (length d.old ≡ length ws.old) × (length scratch.old.path.now ≡ length ws.old) × (length scratch.old.acts.now ≡ length ws.old) × (length scratch.old.mid.now ≡ length ws.old) }
+    ensures { RunsMain numbers.now functions.now.words.now tb.now functions.now.directory.now functions.now.cells reach (length ws.old) term.old memory.old spare.old result term.new memory.new spare.new }
 {
-    let w = 3 + wide32(entry(tb, 17));
-    let fns = wide32(entry(tb, 210));
-    let n = unfold_main(t, tb, spare);
+    let n = unfold_main(functions.words, tb, spare);
     load(spare, ws, 0, n);
     let mut m = [0u16; 2084];
-    start_store(t, dir, &mut m, w, fns, c);
+    start_store(functions, &mut m);
     if shareable(front(ws, n)) {
         return run_bare(
             numbers,
-            t,
-            dir,
-            w,
-            fns,
-            c,
+            functions,
             reach,
             front(ws, n),
             d,
             &mut m,
-            path,
-            acts,
-            mid,
+            scratch,
             term,
             memory,
         );
     }
     run_masked(
-        numbers, t, dir, w, fns, c, reach, n, ws, &mut m, path, acts, term, memory, spare,
+        numbers, functions, reach, n, ws, &mut m, scratch, term, memory, spare,
     )
 }
 
-// Words for a reach of up to 256, of up to 1,024, or for as much as there may be.
-fn run_short(
+// The same in arrays of N words, for a reach of up to so many. It is not put into its caller, so that a short reach does not pay for a
+// frame with long arrays.
+#[inline(never)]
+fn run_sized<const N: usize>(
     numbers: &[u8],
-    t: &[u16],
+    functions: &Functions,
     tb: &[u32],
-    dir: &[u32],
-    c: usize,
     reach: usize,
     term: &mut [u8],
     memory: &mut [u8],
     spare: &mut [u8],
 ) -> Totals
-    requires { (length t.now ≤ 65535) × (c ≤ 1024) × (get_or tb.now 17 0 ≤ 64) × (get_or tb.now 210 0 ≤ 16) }
-    ensures { RunsMain numbers.now t.now tb.now dir.now c reach 256 term.old memory.old spare.old result term.new memory.new spare.new }
+    requires { (functions.now.width ≡ 3 + get_or tb.now 17 0) × (functions.now.count ≡ get_or tb.now 210 0) × (functions.now.cells ≤ 1024) × (N ≤ 65503) }
+    ensures { RunsMain numbers.now functions.now.words.now tb.now functions.now.directory.now functions.now.cells reach N term.old memory.old spare.old result term.new memory.new spare.new }
 {
-    let mut ws = [0u16; 256];
-    let mut d = [0u16; 256];
-    let mut path = [0u16; 256];
-    let mut acts = [0u32; 256];
-    let mut mid = [0u16; 256];
+    let mut ws = [0u16; N];
+    let mut d = [0u16; N];
+    let mut path = [0u16; N];
+    let mut acts = [0u32; N];
+    let mut mid = [0u16; N];
+    let mut scratch = Scratch {
+        path: &mut path,
+        acts: &mut acts,
+        mid: &mut mid,
+    };
     let r = run_words(
-        numbers, t, tb, dir, c, reach, &mut ws, &mut d, &mut path, &mut acts, &mut mid, term,
-        memory, spare,
-    );
-    r
-}
-
-fn run_middle(
-    numbers: &[u8],
-    t: &[u16],
-    tb: &[u32],
-    dir: &[u32],
-    c: usize,
-    reach: usize,
-    term: &mut [u8],
-    memory: &mut [u8],
-    spare: &mut [u8],
-) -> Totals
-    requires { (length t.now ≤ 65535) × (c ≤ 1024) × (get_or tb.now 17 0 ≤ 64) × (get_or tb.now 210 0 ≤ 16) }
-    ensures { RunsMain numbers.now t.now tb.now dir.now c reach 1024 term.old memory.old spare.old result term.new memory.new spare.new }
-{
-    let mut ws = [0u16; 1024];
-    let mut d = [0u16; 1024];
-    let mut path = [0u16; 1024];
-    let mut acts = [0u32; 1024];
-    let mut mid = [0u16; 1024];
-    let r = run_words(
-        numbers, t, tb, dir, c, reach, &mut ws, &mut d, &mut path, &mut acts, &mut mid, term,
-        memory, spare,
-    );
-    r
-}
-
-fn run_long(
-    numbers: &[u8],
-    t: &[u16],
-    tb: &[u32],
-    dir: &[u32],
-    c: usize,
-    reach: usize,
-    term: &mut [u8],
-    memory: &mut [u8],
-    spare: &mut [u8],
-) -> Totals
-    requires { (length t.now ≤ 65535) × (c ≤ 1024) × (get_or tb.now 17 0 ≤ 64) × (get_or tb.now 210 0 ≤ 16) }
-    ensures { RunsMain numbers.now t.now tb.now dir.now c reach 8192 term.old memory.old spare.old result term.new memory.new spare.new }
-{
-    let mut ws = [0u16; 8192];
-    let mut d = [0u16; 8192];
-    let mut path = [0u16; 8192];
-    let mut acts = [0u32; 8192];
-    let mut mid = [0u16; 8192];
-    let r = run_words(
-        numbers, t, tb, dir, c, reach, &mut ws, &mut d, &mut path, &mut acts, &mut mid, term,
-        memory, spare,
+        numbers,
+        functions,
+        tb,
+        reach,
+        &mut ws,
+        &mut d,
+        &mut scratch,
+        term,
+        memory,
+        spare,
     );
     r
 }
@@ -277,11 +220,18 @@ pub fn run_main(
     requires { (length t.now ≤ 65535) × (c ≤ 1024) × (get_or tb.now 17 0 ≤ 64) × (get_or tb.now 210 0 ≤ 16) }
     ensures { RunsMain numbers.now t.now tb.now dir.now c reach 8192 term.old memory.old spare.old result term.new memory.new spare.new }
 {
+    let functions = Functions {
+        words: t,
+        directory: dir,
+        width: 3 + entry(tb, 17) as usize,
+        count: entry(tb, 210) as usize,
+        cells: c,
+    };
     if reach <= 256 {
-        return run_short(numbers, t, tb, dir, c, reach, term, memory, spare);
+        return run_sized::<256>(numbers, &functions, tb, reach, term, memory, spare);
     }
     if reach <= 1024 {
-        return run_middle(numbers, t, tb, dir, c, reach, term, memory, spare);
+        return run_sized::<1024>(numbers, &functions, tb, reach, term, memory, spare);
     }
-    run_long(numbers, t, tb, dir, c, reach, term, memory, spare)
+    run_sized::<8192>(numbers, &functions, tb, reach, term, memory, spare)
 }

@@ -23,13 +23,10 @@ pub struct Counts {
 pub fn plus(c: Counts, d: Counts) -> Counts
     ensures { result ≡ sums c d }
 {
-    let visible = std::num::wrapping_add_u32(c.visible, d.visible);
-    let internal = std::num::wrapping_add_u32(c.internal, d.internal);
-    let refused = std::num::wrapping_add_u32(c.refused, d.refused);
     Counts {
-        visible,
-        internal,
-        refused,
+        visible: c.visible.wrapping_add(d.visible),
+        internal: c.internal.wrapping_add(d.internal),
+        refused: c.refused.wrapping_add(d.refused),
     }
 }
 
@@ -38,18 +35,16 @@ pub fn add_to(table: &mut [Counts], reader: usize, more: Counts)
     requires { reader < length table.old }
     ensures { table.new ≡ added_to table.old reader more }
 {
-    let c = table[reader];
-    table[reader] = plus(c, more);
+    table[reader] = plus(table[reader], more);
 }
 
 // The same of a table by value, which is lent to it.
-pub fn add_in(table: [Counts; 32], reader: usize, more: Counts) -> [Counts; 32]
+pub fn add_in(mut table: [Counts; 32], reader: usize, more: Counts) -> [Counts; 32]
     requires { reader < 32 }
     ensures { result ≡ added_to table reader more }
 {
-    let mut t = table;
-    add_to(&mut t, reader, more);
-    t
+    add_to(&mut table, reader, more);
+    table
 }
 
 // ── what a run counts: three numbers a reader, in the order of a record ──
@@ -60,8 +55,7 @@ pub fn count_one(counted: &mut [u32], reader: usize, outcome: usize)
     ensures { (counted.new ≡ one_more counted.old reader outcome) × (length counted.new ≡ length counted.old) }
 {
     let at = 3 * reader + outcome;
-    let n = std::num::wrapping_add_u32(counted[at], 1);
-    counted[at] = n;
+    counted[at] = counted[at].wrapping_add(1);
 }
 
 fn counts_at(counted: &[u32], reader: usize) -> Counts
@@ -69,13 +63,10 @@ fn counts_at(counted: &[u32], reader: usize) -> Counts
     ensures { result ≡ counts_at counted.now reader }
 {
     let at = 3 * reader;
-    let visible = counted[at];
-    let internal = counted[at + 1];
-    let refused = counted[at + 2];
     Counts {
-        visible,
-        internal,
-        refused,
+        visible: counted[at],
+        internal: counted[at + 1],
+        refused: counted[at + 2],
     }
 }
 
@@ -83,43 +74,24 @@ fn counts_at(counted: &[u32], reader: usize) -> Counts
 fn idle(c: Counts) -> bool
     ensures { result ≡ true → c ≡ none }
 {
-    if c.visible != 0 {
-        return false;
-    }
-    if c.internal != 0 {
-        return false;
-    }
-    c.refused == 0
+    c.visible == 0 && c.internal == 0 && c.refused == 0
 }
 
-// What was counted at each reader, added to its record. A reader where nothing was counted costs no copy of the table.
-fn add_all(table: [Counts; 32], counted: &[u32]) -> [Counts; 32]
+// What was counted at each reader, added to its record.
+fn add_all(mut table: [Counts; 32], counted: &[u32]) -> [Counts; 32]
     requires { (length counted.now ≡ 96) × ((r : ℕ) → Of32Bits (slice_index_or table r none)) }
     ensures { result ≡ added_first 32 counted.now table }
 {
-    let mut t = table;
-    let mut i = 0;
-    while i < 32 {
+    for i in 0..32 {
         let more = counts_at(counted, i);
-        let nothing = idle(more);
-        if nothing {
-            i = i + 1;
-            continue;
+        if !idle(more) {
+            add_to(&mut table, i, more);
         }
-        let u = add_in(t, i, more);
-        t = u;
-        i = i + 1;
     }
-    t
+    table
 }
 
 // ── a host's table: numbers of four bytes, low byte first ──
-
-fn byte32(x: u8) -> u32
-    ensures { (result ≡ x) × (result < 256) }
-{
-    x as u32
-}
 
 // Number i of a table.
 fn read_number(table: &[u8], i: usize) -> u32
@@ -127,11 +99,7 @@ fn read_number(table: &[u8], i: usize) -> u32
     ensures { result ≡ slice_index (doubles_in (words_in table.now)) i }
 {
     let at = 4 * i;
-    let b0 = byte32(table[at]);
-    let b1 = byte32(table[at + 1]);
-    let b2 = byte32(table[at + 2]);
-    let b3 = byte32(table[at + 3]);
-    b0 + 256 * b1 + 65536 * b2 + 16777216 * b3
+    u32::from_le_bytes([table[at], table[at + 1], table[at + 2], table[at + 3]])
 }
 
 fn read_record(table: &[u8], reader: usize) -> Counts
@@ -139,13 +107,10 @@ fn read_record(table: &[u8], reader: usize) -> Counts
     ensures { result ≡ counts_at (doubles_in (words_in table.now)) reader }
 {
     let at = 3 * reader;
-    let visible = read_number(table, at);
-    let internal = read_number(table, at + 1);
-    let refused = read_number(table, at + 2);
     Counts {
-        visible,
-        internal,
-        refused,
+        visible: read_number(table, at),
+        internal: read_number(table, at + 1),
+        refused: read_number(table, at + 2),
     }
 }
 
@@ -159,11 +124,8 @@ fn read_records(table: &[u8]) -> [Counts; 32]
         refused: 0,
     };
     let mut t = [none; 32];
-    let mut i = 0;
-    while i < 32 {
-        let c = read_record(table, i);
-        t[i] = c;
-        i = i + 1;
+    for i in 0..32 {
+        t[i] = read_record(table, i);
     }
     t
 }
@@ -189,23 +151,17 @@ fn write_record(table: &mut [u8], reader: usize, c: Counts)
     ensures { (table.new ≡ put_record table.old reader c) × (length table.new ≡ length table.old) }
 {
     let at = 3 * reader;
-    let visible = c.visible;
-    let internal = c.internal;
-    let refused = c.refused;
-    write_number(table, at, visible);
-    write_number(table, at + 1, internal);
-    write_number(table, at + 2, refused);
+    write_number(table, at, c.visible);
+    write_number(table, at + 1, c.internal);
+    write_number(table, at + 2, c.refused);
 }
 
 fn write_records(table: &mut [u8], t: [Counts; 32])
     requires { 384 ≤ length table.old }
     ensures { table.new ≡ put_first 32 t table.old }
 {
-    let mut i = 0;
-    while i < 32 {
-        let c = t[i];
-        write_record(table, i, c);
-        i = i + 1;
+    for i in 0..32 {
+        write_record(table, i, t[i]);
     }
 }
 

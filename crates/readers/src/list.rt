@@ -3,27 +3,18 @@ ghost use Rattle.std.specs.Prelude.{◌≡◌, ◌+◌, ◌*◌, ◌%◌, ◌<�
 ghost use Rattle.eb3.specs.Bytes.{words_in};
 ghost use Rattle.readers.specs.Readers.{all_read, reader? as is_reader, lets_through};
 
-fn byte(x: u8) -> usize
-    ensures { (result ≡ x) × (result < 256) }
-{
-    x as usize
-}
-
 // Word i of a list.
 pub fn word_at(list: &[u8], i: usize) -> usize
     requires { 2 * i + 2 ≤ length list.now }
     ensures { (result ≡ slice_index (words_in list.now) i) × (result < 65536) }
 {
-    byte(list[2 * i]) + 256 * byte(list[2 * i + 1])
+    u16::from_le_bytes([list[2 * i], list[2 * i + 1]]) as usize
 }
 
 fn is_reader(r: usize) -> bool
     ensures { result ≡ is_reader r }
 {
-    if r < 1 {
-        return false;
-    }
-    r <= 32
+    (1..=32).contains(&r)
 }
 
 // Readers from 1, records from 0. Of a word that is no reader, some record; such a list is never counted.
@@ -41,16 +32,10 @@ fn readers_right(list: &[u8]) -> bool
     if list.len() / 2 % 2 != 0 {
         return false;
     }
-    let n = list.len() / 4;
-    let mut i = 0;
-    while i < n {
-        let r = word_at(list, 2 * i + 1);
-        let ok = is_reader(r);
-        if ok {
-            i = i + 1;
-            continue;
+    for i in 0..list.len() / 4 {
+        if !is_reader(word_at(list, 2 * i + 1)) {
+            return false;
         }
-        return false;
     }
     true
 }
@@ -59,8 +44,5 @@ fn readers_right(list: &[u8]) -> bool
 pub fn lets_through(list: &[u8], table: &[u8]) -> bool
     ensures { result ≡ lets_through list.now table.now }
 {
-    if table.len() / 12 < 32 {
-        return false;
-    }
-    readers_right(list)
+    32 <= table.len() / 12 && readers_right(list)
 }

@@ -2,7 +2,6 @@
 use Prim.Native.Nat.{ℕ, ◌-◌}
 use native.Mathlib.Omega.{arith}
 use mathlib.Core.Path.{◌≡◌, refl, sym, ap, ◌∙◌, subst}
-use mathlib.Core.Bool.{Bool, true, false}
 use mathlib.Core.List.{List, [], ◌∷◌, ◌++◌}
 use lib.ListN.{length, get_or, length-append}
 use Rattle.eb3.specs.Expressions.{Cond}
@@ -17,20 +16,20 @@ use Rattle.eb3.proofs.Laws.Reading.{Sound}
 use Rattle.eb3.proofs.Laws.ExpressionReading.{cond_sound}
 use Rattle.eb3.proofs.Laws.Spelling.{cond_length}
 use Rattle.eb3.proofs.Laws.Measures.{guard_size_one}
-use Rattle.scan.specs.declared.Checked.{Checked}
-use Rattle.scan.specs.declared.Checked.TheVariants.{Left, Refused as Not}
-use Rattle.scan.specs.Checking.{checked, last_of}
+use Rattle.scan.specs.Checking.{checked, last_of, Checked}
 use Rattle.scan.specs.ReadingLaws.{Taken, checked_refused, checked_taken, giving_refused, giving_taken, both_first, both_second, both_taken, by_number_refused, by_number_taken}
 use Rattle.grammar.specs.Laws.{cond_ends}
 use Rattle.weights.specs.declared.Weight.{Weight}
 use Rattle.weights.specs.Weighing.{cap, measure}
 use Rattle.arguments.specs.Tables.{declared, callee}
 use Rattle.arguments.specs.TableLaws.{domains_length, guard_declared}
-use Rattle.rule_terms.specs.declared.Weighed.{Weighed}
-use Rattle.rule_terms.specs.declared.Weighed.TheVariants.{Found, Refused}
-use Rattle.rule_terms.specs.Weighed.{weighed, mask_if, copies_of, quantifier, weighed_copies}
+use Rattle.rule_terms.specs.Weighed.{weighed, mask_if, copies_of, quantifier, weighed_copies, Answer, found}
 use Rattle.rule_terms.specs.WeighedLaws.{weighed_in, refused_in}
-use Rattle.rule_terms.proofs.Parts.{terms, answer, got_term, no_term, behind_got}
+use Rattle.rule_terms.proofs.Parts.{terms, answer, got_term, no_term, behind_got, refused_behind}
+use Rattle.std.specs.Prelude.{Ok, Err}
+use Rattle.refusals.specs.declared.Refusal.{Refusal}
+use Rattle.rule_terms.specs.declared.Quantifier.{Quantifier}
+use Rattle.rule_terms.specs.declared.Quantifier.TheVariants.{Choice, Parallel}
 
 -- ── a condition, then a term ──
 
@@ -61,42 +60,42 @@ module _ (T Γ : List ℕ) where
     as_declared : p ≡ checked (conditions t)
     as_declared = e ∙ ap checked width_one
 
-    pub guard_none : (k : ℕ) → p ≡ Not k → Refused k ≡ answer T guards
+    pub guard_none : (k : Refusal) → p ≡ Err k → Err k ≡ answer T guards
     guard_none k h = refused_in (declared T) (callee T) _ k (giving_refused _ _ k (both_first conditions (terms T Γ) t k (checked_refused (conditions t) k (sym h ∙ as_declared))))
 
-    module _ (n : ℕ) (r : List ℕ) (q : Weighed) (h : p ≡ Left n) (l : r ≡ last_of n t) (f : q ≡ answer T (terms T Γ r)) where
+    module _ (n : ℕ) (r : List ℕ) (q : Answer) (h : p ≡ Ok n) (l : r ≡ last_of n t) (f : q ≡ answer T (terms T Γ r)) where
       got_condition : Taken t n (conditions t)
       got_condition = checked_taken t n (conditions t) (cond_ends (declared T).edition.width (guard_scope (attributes (declared T)) (length Γ)) t) (sym h ∙ as_declared)
 
-      pub guard_out : (k : ℕ) → q ≡ Refused k → Refused k ≡ answer T guards
+      pub guard_out : (k : Refusal) → q ≡ Err k → Err k ≡ answer T guards
       guard_out k o =
           let g = got_condition in
-          refused_in (declared T) (callee T) _ k (giving_refused _ _ k (both_second conditions (terms T Γ) t g.value g.rest k g.read (behind_got (terms T Γ) t r n _ g l ∙ no_term T Γ r k q f o)))
+          refused_in (declared T) (callee T) _ k (giving_refused _ _ k (both_second conditions (terms T Γ) t g.value g.rest k g.read (refused_behind (terms T Γ) t r n _ k g l (no_term T Γ r k q f o))))
 
       size_taken : (c : ℕ) → c ≡ length t - n → c ≡ guard_size (declared T).edition.width got_condition.value
       unfolding declared
       size_taken c d = d ∙ ap (λ m. length t - m) got_condition.left ∙ words_taken (guard_scope (attributes (declared T)) (length Γ)) t got_condition.value got_condition.rest got_condition.read
 
       -- c is the condition's size
-      pub guard_in : (m c : ℕ) (v x : Weight) → q ≡ Found m v → c ≡ length t - n → measure x ≡ guard_of (sat cap) c (measure v) → Found m x ≡ answer T guards
+      pub guard_in : (m c d : ℕ) (v x : Weight) → q ≡ found m v → c ≡ d → d ≡ length t - n → measure x ≡ guard_of (sat cap) c (measure v) → found m x ≡ answer T guards
       unfolding measure_term
-      guard_in m c v x o d w =
+      guard_in m c d v x o y z w =
           let g = got_condition in
           let s = got_term T Γ r m v q f o in
           weighed_in (declared T) (callee T) m x _ (rule_guard g.value s.0.value) s.0.rest
           (giving_taken _ _ (g.value, s.0.value) s.0.rest
           (both_taken conditions (terms T Γ) t g.value g.rest s.0.value s.0.rest g.read (behind_got (terms T Γ) t r n _ g l ∙ s.0.read)))
           s.0.left
-          (w ∙ (λ j. guard_of (sat cap) (size_taken c d j) (s.1 j)))
+          (w ∙ (λ j. guard_of (sat cap) (size_taken c (y ∙ z) j) (s.1 j)))
 
 -- ── a domain, then copies of a term with one variable more ──
 
-all_parallel : (T : List ℕ) (c d : ℕ) (s : Read (List ℕ × RuleTerm)) → c ≡ domain_size (declared T) d → weighed_copies (declared T) (callee T) true c s ≡ answer T (giving (λ x. parallel_over d x.0 x.1) s)
+all_parallel : (T : List ℕ) (c d : ℕ) (s : Read (List ℕ × RuleTerm)) → c ≡ domain_size (declared T) d → weighed_copies (declared T) (callee T) Parallel c s ≡ answer T (giving (λ x. parallel_over d x.0 x.1) s)
 unfolding weighed weighed_copies copies_of giving measure_term
 all_parallel T c d (refused k) e = refl
 all_parallel T c d (taken x u) e = rw e
 
-all_choice : (T : List ℕ) (c d : ℕ) (s : Read RuleTerm) → c ≡ domain_size (declared T) d → weighed_copies (declared T) (callee T) false c (giving (λ E. ([], E)) s) ≡ answer T (giving (choice_over d) s)
+all_choice : (T : List ℕ) (c d : ℕ) (s : Read RuleTerm) → c ≡ domain_size (declared T) d → weighed_copies (declared T) (callee T) Choice c (giving (λ E. ([], E)) s) ≡ answer T (giving (choice_over d) s)
 unfolding weighed weighed_copies copies_of giving measure_term
 all_choice T c d (refused k) e = refl
 all_choice T c d (taken x u) e = rw e
@@ -106,13 +105,13 @@ module _ (T Γ t : List ℕ) (b : ℕ) (p : Checked) (i : b ≡ get_or T 0 0) (e
   as_domains : p ≡ checked (number_of 5 (length (declared T).domains) t)
   as_domains = e ∙ ap (λ n. checked (number_of 5 n t)) (i ∙ sym (domains_length T))
 
-  pub quantified_none : (w : Bool) (k : ℕ) → p ≡ Not k → Refused k ≡ answer T (rule_by (declared T) (read_rule_term (declared T)) Γ (quantifier w) t)
+  pub quantified_none : (w : Quantifier) (k : Refusal) → p ≡ Err k → Err k ≡ answer T (rule_by (declared T) (read_rule_term (declared T)) Γ (quantifier w) t)
   unfolding choice_over_of parallel_over_of
-  quantified_none true k h = refused_in (declared T) (callee T) _ k (by_number_refused 5 (length (declared T).domains) _ t k (sym h ∙ as_domains))
-  quantified_none false k h = refused_in (declared T) (callee T) _ k (by_number_refused 5 (length (declared T).domains) _ t k (sym h ∙ as_domains))
+  quantified_none Parallel k h = refused_in (declared T) (callee T) _ k (by_number_refused 5 (length (declared T).domains) _ t k (sym h ∙ as_domains))
+  quantified_none Choice k h = refused_in (declared T) (callee T) _ k (by_number_refused 5 (length (declared T).domains) _ t k (sym h ∙ as_domains))
 
   -- Δ are the variables of the term, d the domain's number, c its size
-  module _ (n : ℕ) (r Δ : List ℕ) (q : Weighed) (h : p ≡ Left n) (l : r ≡ last_of n t) (g : Δ ≡ Γ ++ (get_or t 0 0 ∷ [])) where
+  module _ (n : ℕ) (r Δ : List ℕ) (q : Answer) (h : p ≡ Ok n) (l : r ≡ last_of n t) (g : Δ ≡ Γ ++ (get_or t 0 0 ∷ [])) where
     choice_there : choice_over_of (declared T) (read_rule_term (declared T)) Γ t ≡ giving (choice_over (get_or t 0 0)) (terms T Δ r)
     unfolding choice_over_of
     choice_there = by_number_taken 5 (length (declared T).domains) _ t n (sym h ∙ as_domains) ∙ (λ j. giving (choice_over (get_or t 0 0)) (terms T (sym g j) (sym l j)))
@@ -121,8 +120,8 @@ module _ (T Γ t : List ℕ) (b : ℕ) (p : Checked) (i : b ≡ get_or T 0 0) (e
     unfolding parallel_over_of
     parallel_there = by_number_taken 5 (length (declared T).domains) _ t n (sym h ∙ as_domains) ∙ (λ j. giving (λ s. parallel_over (get_or t 0 0) s.0 s.1) (both (rule_mask_of (declared T)) (terms T (sym g j)) (sym l j)))
 
-    pub quantified_in : (w : Bool) (d c : ℕ) → d ≡ get_or t 0 0 → c ≡ domain_size (declared T) d → q ≡ weighed_copies (declared T) (callee T) w c (both (mask_if w (declared T)) (terms T Δ) r)
+    pub quantified_in : (w : Quantifier) (d c : ℕ) → d ≡ get_or t 0 0 → c ≡ domain_size (declared T) d → q ≡ weighed_copies (declared T) (callee T) w c (both (mask_if w (declared T)) (terms T Δ) r)
         → q ≡ answer T (rule_by (declared T) (read_rule_term (declared T)) Γ (quantifier w) t)
     unfolding mask_if both then
-    quantified_in true d c u v f = f ∙ all_parallel T c (get_or t 0 0) _ (v ∙ ap (domain_size (declared T)) u) ∙ ap (answer T) (sym parallel_there)
-    quantified_in false d c u v f = f ∙ all_choice T c (get_or t 0 0) (terms T Δ r) (v ∙ ap (domain_size (declared T)) u) ∙ ap (answer T) (sym choice_there)
+    quantified_in Parallel d c u v f = f ∙ all_parallel T c (get_or t 0 0) _ (v ∙ ap (domain_size (declared T)) u) ∙ ap (answer T) (sym parallel_there)
+    quantified_in Choice d c u v f = f ∙ all_choice T c (get_or t 0 0) (terms T Δ r) (v ∙ ap (domain_size (declared T)) u) ∙ ap (answer T) (sym choice_there)

@@ -12,16 +12,17 @@ use Rattle.scan.specs.Laws.{nil_form}
 use Rattle.weights.specs.declared.Weight.{Weight}
 use Rattle.weights.specs.Weighing.{cap, measure}
 use Rattle.arguments.specs.Tables.{declared, callee}
-use Rattle.rule_terms.specs.declared.Weighed.{Weighed}
-use Rattle.rule_terms.specs.declared.Weighed.TheVariants.{Found, Refused}
-use Rattle.rule_terms.specs.Weighed.{weighed}
+use Rattle.rule_terms.specs.Weighed.{weighed, Answer, found}
 use Rattle.rule_terms.specs.Laws.{term_case}
 use Rattle.rule_terms.specs.WeighedLaws.{weighed_in}
 use Rattle.rule_terms.proofs.Parts.{terms, answer, pair_first, sides_first, pair_second, sides_second, sequence_in, choice_in, sides_in, parallel_none, parallel_in, copies_none, copies_out, copies_in}
 use Rattle.rule_terms.proofs.Binders.{guard_none, guard_out, guard_in, quantified_none, quantified_in}
+use Rattle.std.specs.Prelude.{Err}
+use Rattle.refusals.specs.declared.Refusal.TheVariants.{Form}
+use Rattle.refusals.specs.Numbers.{refusal}
 
-pub term_none : (T Γ s : List ℕ) → length s ≡ 0 → Refused 4 ≡ answer T (terms T Γ s)
-unfolding read_rule_term rule_terms weighed
+pub term_none : (T Γ s : List ℕ) → length s ≡ 0 → Err Form ≡ answer T (terms T Γ s)
+unfolding read_rule_term rule_terms weighed refusal
 term_none T Γ s h = rw (nil_form s h)
 
 -- No code of a term but, since it was asked, a star.
@@ -36,21 +37,21 @@ module _ (T Γ s t : List ℕ) (h : length s ≡ 0 → ⊥) (q : t ≡ drop 1 s)
   abbrev by : RuleKind → Read RuleTerm
   by k = rule_by (declared T) (read_rule_term (declared T)) Γ k t
 
-  by_kind : (k : RuleKind) (p : Weighed) → rule_kind Γ (get_or s 0 0) ≡ k → p ≡ answer T (by k) → p ≡ answer T (terms T Γ s)
+  by_kind : (k : RuleKind) (p : Answer) → rule_kind Γ (get_or s 0 0) ≡ k → p ≡ answer T (by k) → p ≡ answer T (terms T Γ s)
   by_kind k p e f = f ∙ ap (λ u. answer T (rule_by (declared T) (read_rule_term (declared T)) Γ k u)) q ∙ sym (ap (answer T) (term_case (declared T) Γ s k h e))
 
-  by_code : (c : ℕ) (p : Weighed) → get_or s 0 0 ≡ c → p ≡ answer T (by (rule_kind Γ c)) → p ≡ answer T (terms T Γ s)
+  by_code : (c : ℕ) (p : Answer) → get_or s 0 0 ≡ c → p ≡ answer T (by (rule_kind Γ c)) → p ≡ answer T (terms T Γ s)
   by_code c p e f = by_kind (rule_kind Γ c) p (ap (rule_kind Γ) e) f
 
-  by_wrong : rule_kind Γ (get_or s 0 0) ≡ RuleKind.wrong → Refused 4 ≡ answer T (terms T Γ s)
-  unfolding weighed
+  by_wrong : rule_kind Γ (get_or s 0 0) ≡ RuleKind.wrong → Err Form ≡ answer T (terms T Γ s)
+  unfolding weighed refusal
   by_wrong e = by_kind RuleKind.wrong _ e refl
 
-  pub term_internal : (w : Weight) → get_or s 0 0 ≡ 20 → measure w ≡ leaf (sat cap) 1 → Found (length t) w ≡ answer T (terms T Γ s)
+  pub term_internal : (w : Weight) → get_or s 0 0 ≡ 20 → measure w ≡ leaf (sat cap) 1 → found (length t) w ≡ answer T (terms T Γ s)
   unfolding measure_term
   term_internal w e f = by_code 20 _ e (weighed_in (declared T) (callee T) (length t) w _ rule_internal t refl refl f)
 
-  module _ (p : Weighed) where
+  module _ (p : Answer) where
     pub term_action : get_or s 0 0 ≡ 21 → p ≡ answer T (by RuleKind.action) → p ≡ answer T (terms T Γ s)
     term_action e f = by_code 21 p e f
 
@@ -75,13 +76,13 @@ module _ (T Γ s t : List ℕ) (h : length s ≡ 0 → ⊥) (q : t ≡ drop 1 s)
     pub term_call : get_or s 0 0 ≡ 29 → p ≡ answer T (by RuleKind.process_call) → p ≡ answer T (terms T Γ s)
     term_call e f = by_code 29 p e f
 
-  pub term_over_full : get_or s 0 0 ≡ 27 → 8 ≤ length Γ → Refused 4 ≡ answer T (terms T Γ s)
+  pub term_over_full : get_or s 0 0 ≡ 27 → 8 ≤ length Γ → Err Form ≡ answer T (terms T Γ s)
   term_over_full e l = by_wrong (ap (rule_kind Γ) e ∙ rw (le-ltb (length Γ) 8 l))
 
-  pub term_many_full : get_or s 0 0 ≡ 28 → 8 ≤ length Γ → Refused 4 ≡ answer T (terms T Γ s)
+  pub term_many_full : get_or s 0 0 ≡ 28 → 8 ≤ length Γ → Err Form ≡ answer T (terms T Γ s)
   term_many_full e l = by_wrong (ap (rule_kind Γ) e ∙ rw (le-ltb (length Γ) 8 l))
 
-  pub term_other : (get_or s 0 0 ≡ 24 → ⊥) → Other (get_or s 0 0) → Refused 4 ≡ answer T (terms T Γ s)
+  pub term_other : (get_or s 0 0 ≡ 24 → ⊥) → Other (get_or s 0 0) → Err Form ≡ answer T (terms T Γ s)
   term_other n o = by_wrong (other_kind Γ (get_or s 0 0) n o)
 
 pub ruleset codes = (term_none, term_internal, term_action, term_sequence, term_choice, term_parallel, term_guard, term_over, term_many, term_over_full, term_many_full, term_call, term_other)

@@ -10,17 +10,16 @@ use Rattle.eb3.specs.RuleSets.{Argument, RuleTerm, rule_perform, call, label, pr
 use Rattle.eb3.specs.Measures.{sat, Measure, nothing, leaf, measure_term}
 use Rattle.eb3.specs.Reading.{Read, giving, number_of, by_number}
 use Rattle.eb3.specs.RuleReading.{arguments_of, rule_action_of, call_of}
-use Rattle.scan.specs.declared.Checked.{Checked}
-use Rattle.scan.specs.declared.Checked.TheVariants.{Left, Refused as Not}
-use Rattle.scan.specs.Checking.{checked, last_of}
-use Rattle.scan.specs.ReadingLaws.{Taken, checked_refused, checked_taken, giving_refused, giving_taken, by_number_refused, by_number_taken, number_below}
+use Rattle.scan.specs.Checking.{checked, last_of, Checked}
+use Rattle.scan.specs.ReadingLaws.{Taken, checked_refused, checked_taken, giving_refused, giving_taken, by_number_refused, by_number_taken, number_below, RefusedAs, same_refused}
 use Rattle.weights.specs.declared.Weight.{Weight}
 use Rattle.weights.specs.Weighing.{cap, measure}
 use Rattle.arguments.specs.Tables.{row, declared, callee}
 use Rattle.arguments.specs.TableLaws.{labels_length, label_at, processes_length, process_at, arguments_end, arguments_count}
-use Rattle.rule_terms.specs.declared.Weighed.TheVariants.{Found, Refused}
-use Rattle.rule_terms.specs.Weighed.{weighed}
+use Rattle.rule_terms.specs.Weighed.{weighed, found}
 use Rattle.rule_terms.specs.WeighedLaws.{weighed_in, refused_in}
+use Rattle.std.specs.Prelude.{Ok, Err}
+use Rattle.refusals.specs.declared.Refusal.{Refusal}
 
 -- ── the measures of a process ──
 
@@ -41,17 +40,17 @@ module _ (T Γ t : List ℕ) (k : ℕ → List Argument → RuleTerm) (limit : �
   abbrev asked : Read RuleTerm
   asked = by_number 5 limit (λ n u. giving (k n) (arguments_of (declared T) Γ (rows n) u)) t
 
-  asked_none : (p : Checked) (j : ℕ) → p ≡ checked (number_of 5 limit t) → p ≡ Not j → Refused j ≡ weighed (declared T) (callee T) asked
+  asked_none : (p : Checked) (j : Refusal) → p ≡ checked (number_of 5 limit t) → p ≡ Err j → Err j ≡ weighed (declared T) (callee T) asked
   asked_none p j e h = refused_in (declared T) (callee T) asked j (by_number_refused 5 limit _ t j (sym h ∙ e))
 
-  module _ (p q : Checked) (n : ℕ) (r ds : List ℕ) (e : p ≡ checked (number_of 5 limit t)) (h : p ≡ Left n) (l : r ≡ last_of n t) (i : ds ≡ rows (get_or t 0 0)) (f : q ≡ checked (arguments_of (declared T) Γ ds r)) where
+  module _ (p q : Checked) (n : ℕ) (r ds : List ℕ) (e : p ≡ checked (number_of 5 limit t)) (h : p ≡ Ok n) (l : r ≡ last_of n t) (i : ds ≡ rows (get_or t 0 0)) (f : q ≡ checked (arguments_of (declared T) Γ ds r)) where
     there : asked ≡ giving (k (get_or t 0 0)) (arguments_of (declared T) Γ ds r)
     there = by_number_taken 5 limit _ t n (sym h ∙ e) ∙ ap (λ x. giving (k (get_or t 0 0)) (arguments_of (declared T) Γ (rows (get_or t 0 0)) x)) (sym l) ∙ ap (λ x. giving (k (get_or t 0 0)) (arguments_of (declared T) Γ x r)) (sym i)
 
-    asked_out : (j : ℕ) → q ≡ Not j → Refused j ≡ weighed (declared T) (callee T) asked
-    asked_out j g = refused_in (declared T) (callee T) asked j (there ∙ giving_refused (k (get_or t 0 0)) _ j (checked_refused _ j (sym g ∙ f)))
+    asked_out : (j : Refusal) → q ≡ Err j → Err j ≡ weighed (declared T) (callee T) asked
+    asked_out j g = refused_in (declared T) (callee T) asked j (same_refused _ _ j there (giving_refused (k (get_or t 0 0)) _ j (checked_refused _ j (sym g ∙ f))))
 
-    asked_in : (m : ℕ) (w : Weight) → q ≡ Left m → ((rs : List Argument) → length rs ≡ length ds → measure w ≡ measure_term (sat cap) (declared T) (callee T) (k (get_or t 0 0) rs)) → Found m w ≡ weighed (declared T) (callee T) asked
+    asked_in : (m : ℕ) (w : Weight) → q ≡ Ok m → ((rs : List Argument) → length rs ≡ length ds → measure w ≡ measure_term (sat cap) (declared T) (callee T) (k (get_or t 0 0) rs)) → found m w ≡ weighed (declared T) (callee T) asked
     asked_in m w g o =
         let a : Taken r m (arguments_of (declared T) Γ ds r) = checked_taken r m (arguments_of (declared T) Γ ds r) (arguments_end (declared T) Γ ds r) (sym g ∙ f) in
         weighed_in (declared T) (callee T) m w asked (k (get_or t 0 0) a.value) a.rest (there ∙ giving_taken (k (get_or t 0 0)) _ a.value a.rest a.read) a.left
@@ -65,16 +64,16 @@ module _ (T Γ t : List ℕ) (b : ℕ) (p : Checked) (e : p ≡ checked (number_
   processes_limit : b ≡ get_or T 211 0 → b ≡ length (declared T).processes
   processes_limit x = x ∙ sym (processes_length T)
 
-  pub action_none : (j : ℕ) → b ≡ get_or T 17 0 → p ≡ Not j → Refused j ≡ weighed (declared T) (callee T) (rule_action_of (declared T) Γ t)
+  pub action_none : (j : Refusal) → b ≡ get_or T 17 0 → p ≡ Err j → Err j ≡ weighed (declared T) (callee T) (rule_action_of (declared T) Γ t)
   unfolding rule_action_of
   action_none j x h = asked_none T Γ t rule_perform (length (declared T).labels) (label (declared T)) p j (rw (← labels_limit x) e) h
 
-  pub call_none : (j : ℕ) → b ≡ get_or T 211 0 → p ≡ Not j → Refused j ≡ weighed (declared T) (callee T) (call_of (declared T) Γ t)
+  pub call_none : (j : Refusal) → b ≡ get_or T 211 0 → p ≡ Err j → Err j ≡ weighed (declared T) (callee T) (call_of (declared T) Γ t)
   unfolding call_of
   call_none j x h = asked_none T Γ t call (length (declared T).processes) (λ l. (process (declared T) l).parameters) p j (rw (← processes_limit x) e) h
 
   -- d is the number, ds the domains that it asks for
-  module _ (n d : ℕ) (h : p ≡ Left n) (z : d ≡ get_or t 0 0) where
+  module _ (n d : ℕ) (h : p ≡ Ok n) (z : d ≡ get_or t 0 0) where
     label_row : b ≡ get_or T 17 0 → row T (18 + 3 * d) ≡ label (declared T) (get_or t 0 0)
     label_row x = sym (label_at T (get_or t 0 0) (omega (arith, number_below 5 b n t (sym h ∙ e), x)) ∙ ap (λ l. row T (18 + 3 * l)) (sym z))
 
@@ -82,21 +81,21 @@ module _ (T Γ t : List ℕ) (b : ℕ) (p : Checked) (e : p ≡ checked (number_
     process_parameters x = sym (process_at T (get_or t 0 0) (omega (arith, number_below 5 b n t (sym h ∙ e), x)) ∙ ap (λ l. row T (212 + 9 * l)) (sym z))
 
     module _ (r ds : List ℕ) (q : Checked) (l : r ≡ last_of n t) (f : q ≡ checked (arguments_of (declared T) Γ ds r)) where
-      pub action_out : (j : ℕ) → b ≡ get_or T 17 0 → ds ≡ row T (18 + 3 * d) → q ≡ Not j → Refused j ≡ weighed (declared T) (callee T) (rule_action_of (declared T) Γ t)
+      pub action_out : (j : Refusal) → b ≡ get_or T 17 0 → ds ≡ row T (18 + 3 * d) → q ≡ Err j → Err j ≡ weighed (declared T) (callee T) (rule_action_of (declared T) Γ t)
       unfolding rule_action_of
       action_out j x i g = asked_out T Γ t rule_perform (length (declared T).labels) (label (declared T)) p q n r ds (rw (← labels_limit x) e) h l (i ∙ label_row x) f j g
 
-      pub action_in : (m c : ℕ) (w : Weight) → b ≡ get_or T 17 0 → ds ≡ row T (18 + 3 * d) → q ≡ Left m → c ≡ length ds → measure w ≡ leaf (sat cap) (2 + 2 * c) → Found m w ≡ weighed (declared T) (callee T) (rule_action_of (declared T) Γ t)
+      pub action_in : (m c : ℕ) (w : Weight) → b ≡ get_or T 17 0 → ds ≡ row T (18 + 3 * d) → q ≡ Ok m → c ≡ length ds → measure w ≡ leaf (sat cap) (2 + 2 * c) → found m w ≡ weighed (declared T) (callee T) (rule_action_of (declared T) Γ t)
       unfolding rule_action_of measure_term declared
       action_in m c w x i g o u =
           asked_in T Γ t rule_perform (length (declared T).labels) (label (declared T)) p q n r ds (rw (← labels_limit x) e) h l (i ∙ label_row x) f m w g
           (λ rs v. u ∙ ap (λ s. leaf (sat cap) (2 + s)) (ap (λ s. 2 * s) (o ∙ sym v) ∙ sym (arguments_double (length rs))))
 
-      pub call_out : (j : ℕ) → b ≡ get_or T 211 0 → ds ≡ row T (212 + 9 * d) → q ≡ Not j → Refused j ≡ weighed (declared T) (callee T) (call_of (declared T) Γ t)
+      pub call_out : (j : Refusal) → b ≡ get_or T 211 0 → ds ≡ row T (212 + 9 * d) → q ≡ Err j → Err j ≡ weighed (declared T) (callee T) (call_of (declared T) Γ t)
       unfolding call_of
       call_out j x i g = asked_out T Γ t call (length (declared T).processes) (λ c. (process (declared T) c).parameters) p q n r ds (rw (← processes_limit x) e) h l (i ∙ process_parameters x) f j g
 
-      pub call_in : (m : ℕ) (w : Weight) → b ≡ get_or T 211 0 → ds ≡ row T (212 + 9 * d) → q ≡ Left m → measure w ≡ callee T d → Found m w ≡ weighed (declared T) (callee T) (call_of (declared T) Γ t)
+      pub call_in : (m : ℕ) (w : Weight) → b ≡ get_or T 211 0 → ds ≡ row T (212 + 9 * d) → q ≡ Ok m → measure w ≡ callee T d → found m w ≡ weighed (declared T) (callee T) (call_of (declared T) Γ t)
       unfolding call_of measure_term
       call_in m w x i g u =
           asked_in T Γ t call (length (declared T).processes) (λ c. (process (declared T) c).parameters) p q n r ds (rw (← processes_limit x) e) h l (i ∙ process_parameters x) f m w g

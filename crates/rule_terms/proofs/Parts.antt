@@ -1,7 +1,7 @@
 -- A case for each way that a check of a term's parts returns. The premises have the form of what the code tells there, so that `search` finds them.
 use Prim.Native.Nat.{ℕ}
 use mathlib.Core.Path.{◌≡◌, refl, sym, ap, ◌∙◌}
-use mathlib.Core.Bool.{Bool, true, false}
+use mathlib.Core.Bool.{Bool}
 use mathlib.Core.List.{List}
 use lib.ListN.{length, take, get_or}
 use Rattle.eb3.specs.Sizes.{zero_mask}
@@ -11,95 +11,99 @@ use Rattle.eb3.specs.Measures.{sat, Measure, nothing, sequence_of, choice_of, me
 use Rattle.eb3.specs.Reading.{Read, refused, taken, Reader, giving, then, both}
 use Rattle.eb3.specs.TermReading.{mask_of}
 use Rattle.eb3.specs.RuleReading.{rule_mask_of, read_rule_term}
-use Rattle.scan.specs.declared.Checked.{Checked}
-use Rattle.scan.specs.declared.Checked.TheVariants.{Left, Refused as Not}
-use Rattle.scan.specs.Checking.{checked, last_of}
+use Rattle.scan.specs.Checking.{checked, last_of, Checked}
 use Rattle.scan.specs.Laws.{Ends, tail_here}
-use Rattle.scan.specs.ReadingLaws.{Taken, checked_refused, checked_taken, giving_refused, giving_taken, both_first, both_second, both_taken}
+use Rattle.scan.specs.ReadingLaws.{Taken, checked_refused, checked_taken, giving_refused, giving_taken, both_first, both_second, both_taken, RefusedAs, same_refused}
 use Rattle.weights.specs.declared.Weight.{Weight}
 use Rattle.weights.specs.Weighing.{cap, measure, weight, parallel_by}
 use Rattle.arguments.specs.Tables.{declared, callee}
 use Rattle.arguments.specs.TableLaws.{labels_length, mask_read}
 use Rattle.rule_terms.specs.declared.Weighed.{Weighed}
-use Rattle.rule_terms.specs.declared.Weighed.TheVariants.{Found, Refused}
-use Rattle.rule_terms.specs.Weighed.{weighed, weighed_sides, mask_if, copies_of, weighed_copies}
+use Rattle.rule_terms.specs.Weighed.{weighed, weighed_sides, mask_if, copies_of, weighed_copies, Answer, found}
 use Rattle.rule_terms.specs.Laws.{term_ends, rule_mask_ends}
 use Rattle.rule_terms.specs.WeighedLaws.{weighed_out, weighed_got, weighed_in, refused_in}
+use Rattle.std.specs.Prelude.{Ok, Err}
+use Rattle.refusals.specs.declared.Refusal.{Refusal}
+use Rattle.rule_terms.specs.declared.Quantifier.{Quantifier}
+use Rattle.rule_terms.specs.declared.Quantifier.TheVariants.{Choice, Parallel}
 
 -- The terms read under a table, and the answer of a check of them.
 abbrev pub terms : List ℕ → List ℕ → Reader RuleTerm
 terms T Γ = read_rule_term (declared T) Γ
 
-abbrev pub answer : List ℕ → Read RuleTerm → Weighed
+abbrev pub answer : List ℕ → Read RuleTerm → Answer
 answer T r = weighed (declared T) (callee T) r
 
 -- What the answers of callees say of the readings.
-pub got_term : (T Γ t : List ℕ) (n : ℕ) (v : Weight) (p : Weighed) → p ≡ answer T (terms T Γ t) → p ≡ Found n v
+pub got_term : (T Γ t : List ℕ) (n : ℕ) (v : Weight) (p : Answer) → p ≡ answer T (terms T Γ t) → p ≡ found n v
     → (g : Taken t n (terms T Γ t)) × (measure v ≡ measure_term (sat cap) (declared T) (callee T) g.value)
 got_term T Γ t n v p e h = weighed_got (declared T) (callee T) t n v (terms T Γ t) (term_ends (declared T) Γ t) (sym h ∙ e)
 
-pub no_term : (T Γ t : List ℕ) (k : ℕ) (p : Weighed) → p ≡ answer T (terms T Γ t) → p ≡ Refused k → terms T Γ t ≡ refused k
+pub no_term : (T Γ t : List ℕ) (k : Refusal) (p : Answer) → p ≡ answer T (terms T Γ t) → p ≡ Err k → RefusedAs k (terms T Γ t)
 no_term T Γ t k p e h = weighed_out (declared T) (callee T) (terms T Γ t) k (sym h ∙ e)
 
 -- The words behind, as the code has them.
 pub behind_got : {A B : Type 0} (f : Reader B) (t r : List ℕ) (n : ℕ) (s : Read A) (g : Taken t n s) → r ≡ last_of n t → f g.rest ≡ f r
 behind_got f t r n s g l = ap f (sym g.words ∙ sym l)
 
+pub refused_behind : {A B : Type 0} (f : Reader B) (t r : List ℕ) (n : ℕ) (s : Read A) (k : Refusal) (g : Taken t n s) → r ≡ last_of n t → RefusedAs k (f r) → RefusedAs k (f g.rest)
+refused_behind f t r n s k g l h = same_refused _ _ k (behind_got f t r n s g l) h
+
 -- ── two terms ──
 
-module _ (T Γ t : List ℕ) (p : Weighed) (e : p ≡ answer T (terms T Γ t)) where
-  no_first : (k : ℕ) → p ≡ Refused k → both (terms T Γ) (terms T Γ) t ≡ refused k
+module _ (T Γ t : List ℕ) (p : Answer) (e : p ≡ answer T (terms T Γ t)) where
+  no_first : (k : Refusal) → p ≡ Err k → RefusedAs k (both (terms T Γ) (terms T Γ) t)
   no_first k h = both_first (terms T Γ) (terms T Γ) t k (no_term T Γ t k p e h)
 
-  pub pair_first : (f : RuleTerm × RuleTerm → RuleTerm) (k : ℕ) → p ≡ Refused k → Refused k ≡ answer T (giving f (both (terms T Γ) (terms T Γ) t))
+  pub pair_first : (f : RuleTerm × RuleTerm → RuleTerm) (k : Refusal) → p ≡ Err k → Err k ≡ answer T (giving f (both (terms T Γ) (terms T Γ) t))
   pair_first f k h = refused_in (declared T) (callee T) _ k (giving_refused f _ k (no_first k h))
 
-  pub sides_first : (z : Bool) (k : ℕ) → p ≡ Refused k → Refused k ≡ weighed_sides (declared T) (callee T) z (both (terms T Γ) (terms T Γ) t)
+  pub sides_first : (z : Bool) (k : Refusal) → p ≡ Err k → Err k ≡ weighed_sides (declared T) (callee T) z (both (terms T Γ) (terms T Γ) t)
   unfolding weighed_sides
-  sides_first z k h = rw (no_first k h)
+  sides_first z k h = let n = no_first k h in rw n.read (ap Err n.named)
 
-  module _ (n : ℕ) (v : Weight) (r : List ℕ) (q : Weighed) (h : p ≡ Found n v) (l : r ≡ last_of n t) (f : q ≡ answer T (terms T Γ r)) where
-    no_second : (k : ℕ) → q ≡ Refused k → both (terms T Γ) (terms T Γ) t ≡ refused k
+  module _ (one : Weighed) (r : List ℕ) (q : Answer) (h : p ≡ Ok one) (l : r ≡ last_of one.left t) (f : q ≡ answer T (terms T Γ r)) where
+    no_second : (k : Refusal) → q ≡ Err k → RefusedAs k (both (terms T Γ) (terms T Γ) t)
     no_second k i =
-        let g = (got_term T Γ t n v p e h).0 in
-        both_second (terms T Γ) (terms T Γ) t g.value g.rest k g.read (behind_got (terms T Γ) t r n _ g l ∙ no_term T Γ r k q f i)
+        let g = (got_term T Γ t one.left one.weight p e h).0 in
+        both_second (terms T Γ) (terms T Γ) t g.value g.rest k g.read (refused_behind (terms T Γ) t r one.left _ k g l (no_term T Γ r k q f i))
 
-    pub pair_second : (g : RuleTerm × RuleTerm → RuleTerm) (k : ℕ) → q ≡ Refused k → Refused k ≡ answer T (giving g (both (terms T Γ) (terms T Γ) t))
+    pub pair_second : (g : RuleTerm × RuleTerm → RuleTerm) (k : Refusal) → q ≡ Err k → Err k ≡ answer T (giving g (both (terms T Γ) (terms T Γ) t))
     pair_second g k i = refused_in (declared T) (callee T) _ k (giving_refused g _ k (no_second k i))
 
-    pub sides_second : (z : Bool) (k : ℕ) → q ≡ Refused k → Refused k ≡ weighed_sides (declared T) (callee T) z (both (terms T Γ) (terms T Γ) t)
+    pub sides_second : (z : Bool) (k : Refusal) → q ≡ Err k → Err k ≡ weighed_sides (declared T) (callee T) z (both (terms T Γ) (terms T Γ) t)
     unfolding weighed_sides
-    sides_second z k i = rw (no_second k i)
+    sides_second z k i = let n = no_second k i in rw n.read (ap Err n.named)
 
-    module _ (m : ℕ) (w x : Weight) (i : q ≡ Found m w) where
-      two_read : both (terms T Γ) (terms T Γ) t ≡ taken ((got_term T Γ t n v p e h).0.value, (got_term T Γ r m w q f i).0.value) (got_term T Γ r m w q f i).0.rest
+    module _ (m : ℕ) (w x : Weight) (i : q ≡ found m w) where
+      two_read : both (terms T Γ) (terms T Γ) t ≡ taken ((got_term T Γ t one.left one.weight p e h).0.value, (got_term T Γ r m w q f i).0.value) (got_term T Γ r m w q f i).0.rest
       two_read =
-          let a = got_term T Γ t n v p e h in
+          let a = got_term T Γ t one.left one.weight p e h in
           let b = got_term T Γ r m w q f i in
-          both_taken (terms T Γ) (terms T Γ) t a.0.value a.0.rest b.0.value b.0.rest a.0.read (behind_got (terms T Γ) t r n _ a.0 l ∙ b.0.read)
+          both_taken (terms T Γ) (terms T Γ) t a.0.value a.0.rest b.0.value b.0.rest a.0.read (behind_got (terms T Γ) t r one.left _ a.0 l ∙ b.0.read)
 
-      pub sequence_in : measure x ≡ sequence_of (sat cap) (measure v) (measure w) → Found m x ≡ answer T (giving (λ s. rule_sequence s.0 s.1) (both (terms T Γ) (terms T Γ) t))
+      pub sequence_in : measure x ≡ sequence_of (sat cap) (measure one.weight) (measure w) → found m x ≡ answer T (giving (λ s. rule_sequence s.0 s.1) (both (terms T Γ) (terms T Γ) t))
       unfolding measure_term
       sequence_in d =
-          let a = got_term T Γ t n v p e h in
+          let a = got_term T Γ t one.left one.weight p e h in
           let b = got_term T Γ r m w q f i in
           weighed_in (declared T) (callee T) m x _ (rule_sequence a.0.value b.0.value) b.0.rest (giving_taken _ _ (a.0.value, b.0.value) b.0.rest two_read) b.0.left
           (d ∙ (λ j. sequence_of (sat cap) (a.1 j) (b.1 j)))
 
-      pub choice_in : measure x ≡ choice_of (sat cap) (measure v) (measure w) → Found m x ≡ answer T (giving (λ s. rule_choice s.0 s.1) (both (terms T Γ) (terms T Γ) t))
+      pub choice_in : measure x ≡ choice_of (sat cap) (measure one.weight) (measure w) → found m x ≡ answer T (giving (λ s. rule_choice s.0 s.1) (both (terms T Γ) (terms T Γ) t))
       unfolding measure_term
       choice_in d =
-          let a = got_term T Γ t n v p e h in
+          let a = got_term T Γ t one.left one.weight p e h in
           let b = got_term T Γ r m w q f i in
           weighed_in (declared T) (callee T) m x _ (rule_choice a.0.value b.0.value) b.0.rest (giving_taken _ _ (a.0.value, b.0.value) b.0.rest two_read) b.0.left
           (d ∙ (λ j. choice_of (sat cap) (a.1 j) (b.1 j)))
 
-      pub sides_in : (z : Bool) → measure x ≡ parallel_by z (measure v) (measure w) → Found m x ≡ weighed_sides (declared T) (callee T) z (both (terms T Γ) (terms T Γ) t)
+      pub sides_in : (z : Bool) → measure x ≡ parallel_by z (measure one.weight) (measure w) → found m x ≡ weighed_sides (declared T) (callee T) z (both (terms T Γ) (terms T Γ) t)
       unfolding weighed_sides
       sides_in z d =
-          let a = got_term T Γ t n v p e h in
+          let a = got_term T Γ t one.left one.weight p e h in
           let b = got_term T Γ r m w q f i in
-          rw two_read ((λ j. Found (b.0.left j) (weight (d j))) ∙ (λ j. Found (length b.0.rest) (weight (parallel_by z (a.1 j) (b.1 j)))))
+          rw two_read ((λ j. found (b.0.left j) (weight (d j))) ∙ (λ j. found (length b.0.rest) (weight (parallel_by z (a.1 j) (b.1 j)))))
 
 -- ── a mask, then two terms ──
 
@@ -122,10 +126,10 @@ module _ (T t : List ℕ) (b : ℕ) (p : Checked) (i : b ≡ get_or T 17 0) (e :
     abbrev parallels : Read RuleTerm
     parallels = giving (λ s. rule_parallel s.0 s.1.0 s.1.1) (both (rule_mask_of (declared T)) (both (terms T Γ) (terms T Γ)) t)
 
-    pub parallel_none : (k : ℕ) → p ≡ Not k → Refused k ≡ answer T parallels
+    pub parallel_none : (k : Refusal) → p ≡ Err k → Err k ≡ answer T parallels
     parallel_none k h = refused_in (declared T) (callee T) _ k (giving_refused _ _ k (both_first (rule_mask_of (declared T)) (both (terms T Γ) (terms T Γ)) t k (checked_refused (rule_mask_of (declared T) t) k (sym h ∙ as_declared))))
 
-    pub parallel_in : (n : ℕ) (r : List ℕ) (q : Weighed) (z : Bool) → p ≡ Left n → r ≡ last_of n t → z ≡ zero_mask (take 4 t) → q ≡ weighed_sides (declared T) (callee T) z (both (terms T Γ) (terms T Γ) r) → q ≡ answer T parallels
+    pub parallel_in : (n : ℕ) (r : List ℕ) (q : Answer) (z : Bool) → p ≡ Ok n → r ≡ last_of n t → z ≡ zero_mask (take 4 t) → q ≡ weighed_sides (declared T) (callee T) z (both (terms T Γ) (terms T Γ) r) → q ≡ answer T parallels
     parallel_in n r q z h l c f =
         let g : Taken t n (rule_mask_of (declared T) t) = checked_taken t n (rule_mask_of (declared T) t) (rule_mask_ends (declared T) t) (sym h ∙ as_declared) in
         let m : g.value ≡ take 4 t = mask_read 4 (length (declared T).labels) t g.value g.rest g.read in
@@ -135,54 +139,57 @@ module _ (T t : List ℕ) (b : ℕ) (p : Checked) (i : b ≡ get_or T 17 0) (e :
 
 -- ── a mask where there is one, then a term ──
 
-pub mask_some : (T t : List ℕ) (w : Bool) (b : ℕ) (p : Checked) → w ≡ true → b ≡ get_or T 17 0 → p ≡ checked (mask_of 4 b t) → p ≡ checked (mask_if w (declared T) t)
+pub mask_some : (T t : List ℕ) (w : Quantifier) (b : ℕ) (p : Checked) → w ≡ Parallel → b ≡ get_or T 17 0 → p ≡ checked (mask_of 4 b t) → p ≡ checked (mask_if w (declared T) t)
 unfolding mask_if
 mask_some T t w b p h i e = as_declared T t b p i e ∙ rw h
 
-pub mask_none : (T t : List ℕ) (w : Bool) → w ≡ false → Left (length t) ≡ checked (mask_if w (declared T) t)
+pub mask_none : (T t : List ℕ) (w : Quantifier) → w ≡ Choice → Ok (length t) ≡ checked (mask_if w (declared T) t)
 unfolding mask_if checked
 mask_none T t w h = rw h
 
-pub copied_parallel : (w z : Bool) (n : ℕ) (v x : Weight) → w ≡ true → measure x ≡ right_nest (nothing (sat cap)) (parallel_by z) n (λ y. measure v) → measure x ≡ copies_of w z n (measure v)
+pub copied_parallel : (w : Quantifier) (z : Bool) (n : ℕ) (v x : Weight) → w ≡ Parallel → measure x ≡ right_nest (nothing (sat cap)) (parallel_by z) n (λ y. measure v) → measure x ≡ copies_of w z n (measure v)
 unfolding copies_of
 copied_parallel w z n v x h e = rw h e
 
-pub copied_choice : (w z : Bool) (n : ℕ) (v x : Weight) → w ≡ false → measure x ≡ right_nest (nothing (sat cap)) (choice_of (sat cap)) n (λ y. measure v) → measure x ≡ copies_of w z n (measure v)
+pub copied_choice : (w : Quantifier) (z : Bool) (n : ℕ) (v x : Weight) → w ≡ Choice → measure x ≡ right_nest (nothing (sat cap)) (choice_of (sat cap)) n (λ y. measure v) → measure x ≡ copies_of w z n (measure v)
 unfolding copies_of
 copied_choice w z n v x h e = rw h e
 
-mask_if_ends : (w : Bool) (R : RuleSet) → Ends (mask_if w R)
+mask_if_ends : (w : Quantifier) (R : RuleSet) → Ends (mask_if w R)
 unfolding mask_if
-mask_if_ends true R t = rule_mask_ends R t
-mask_if_ends false R t = tail_here t
+mask_if_ends Parallel R t = rule_mask_ends R t
+mask_if_ends Choice R t = tail_here t
 
-same_copies : (w z : Bool) (R : RuleSet) (c : ℕ) (m : Measure) (t Δ u : List ℕ) → mask_if w R t ≡ taken Δ u → z ≡ zero_mask (take 4 t) → copies_of w z c m ≡ copies_of w (zero_mask Δ) c m
+same_copies : (w : Quantifier) (z : Bool) (R : RuleSet) (c : ℕ) (m : Measure) (t Δ u : List ℕ) → mask_if w R t ≡ taken Δ u → z ≡ zero_mask (take 4 t) → copies_of w z c m ≡ copies_of w (zero_mask Δ) c m
 unfolding mask_if copies_of
-same_copies true z R c m t Δ u e h = ap (λ y. copies_of true y c m) (h ∙ ap zero_mask (sym (mask_read 4 (length R.labels) t Δ u e)))
-same_copies false z R c m t Δ u e h = refl
+same_copies Parallel z R c m t Δ u e h = ap (λ y. copies_of Parallel y c m) (h ∙ ap zero_mask (sym (mask_read 4 (length R.labels) t Δ u e)))
+same_copies Choice z R c m t Δ u e h = refl
 
-module _ (T Γ t : List ℕ) (w : Bool) (c : ℕ) (p : Checked) (e : p ≡ checked (mask_if w (declared T) t)) where
+module _ (T Γ t : List ℕ) (w : Quantifier) (c : ℕ) (p : Checked) (e : p ≡ checked (mask_if w (declared T) t)) where
   abbrev copies : Read (List ℕ × RuleTerm)
   copies = both (mask_if w (declared T)) (terms T Γ) t
 
-  pub copies_none : (k : ℕ) → p ≡ Not k → Refused k ≡ weighed_copies (declared T) (callee T) w c copies
+  pub copies_none : (k : Refusal) → p ≡ Err k → Err k ≡ weighed_copies (declared T) (callee T) w c copies
   unfolding weighed_copies
-  copies_none k h = rw (both_first (mask_if w (declared T)) (terms T Γ) t k (checked_refused (mask_if w (declared T) t) k (sym h ∙ e)))
+  copies_none k h =
+      let n = both_first (mask_if w (declared T)) (terms T Γ) t k (checked_refused (mask_if w (declared T) t) k (sym h ∙ e)) in
+      rw n.read (ap Err n.named)
 
-  module _ (n : ℕ) (r : List ℕ) (q : Weighed) (h : p ≡ Left n) (l : r ≡ last_of n t) (f : q ≡ answer T (terms T Γ r)) where
+  module _ (n : ℕ) (r : List ℕ) (q : Answer) (h : p ≡ Ok n) (l : r ≡ last_of n t) (f : q ≡ answer T (terms T Γ r)) where
     got_mask : Taken t n (mask_if w (declared T) t)
     got_mask = checked_taken t n (mask_if w (declared T) t) (mask_if_ends w (declared T) t) (sym h ∙ e)
 
-    pub copies_out : (k : ℕ) → q ≡ Refused k → Refused k ≡ weighed_copies (declared T) (callee T) w c copies
+    pub copies_out : (k : Refusal) → q ≡ Err k → Err k ≡ weighed_copies (declared T) (callee T) w c copies
     unfolding weighed_copies
     copies_out k o =
         let g = got_mask in
-        rw (both_second (mask_if w (declared T)) (terms T Γ) t g.value g.rest k g.read (behind_got (terms T Γ) t r n _ g l ∙ no_term T Γ r k q f o))
+        let m = both_second (mask_if w (declared T)) (terms T Γ) t g.value g.rest k g.read (refused_behind (terms T Γ) t r n _ k g l (no_term T Γ r k q f o)) in
+        rw m.read (ap Err m.named)
 
-    pub copies_in : (m : ℕ) (z : Bool) (v x : Weight) → q ≡ Found m v → z ≡ zero_mask (take 4 t) → measure x ≡ copies_of w z c (measure v) → Found m x ≡ weighed_copies (declared T) (callee T) w c copies
+    pub copies_in : (m : ℕ) (z : Bool) (v x : Weight) → q ≡ found m v → z ≡ zero_mask (take 4 t) → measure x ≡ copies_of w z c (measure v) → found m x ≡ weighed_copies (declared T) (callee T) w c copies
     unfolding weighed_copies
     copies_in m z v x o u d =
         let g = got_mask in
         let s = got_term T Γ r m v q f o in
         rw (both_taken (mask_if w (declared T)) (terms T Γ) t g.value g.rest s.0.value s.0.rest g.read (behind_got (terms T Γ) t r n _ g l ∙ s.0.read))
-        ((λ j. Found (s.0.left j) (weight ((d ∙ same_copies w z (declared T) c (measure v) t g.value g.rest g.read u) j))) ∙ (λ j. Found (length s.0.rest) (weight (copies_of w (zero_mask g.value) c (s.1 j)))))
+        ((λ j. found (s.0.left j) (weight ((d ∙ same_copies w z (declared T) c (measure v) t g.value g.rest g.read u) j))) ∙ (λ j. found (length s.0.rest) (weight (copies_of w (zero_mask g.value) c (s.1 j)))))

@@ -2,23 +2,26 @@
 use Prim.Native.Nat.{ℕ, zero, suc, ◌+◌, ◌≤◌, ◌<◌}
 use native.Mathlib.Omega.{arith}
 use native.Mathlib.Numerals.{add-one}
-use mathlib.Core.Path.{◌≡◌, refl, sym, ap, ◌∙◌}
+use mathlib.Core.Path.{◌≡◌, refl, sym, ap, subst, ◌∙◌}
+use native.Mathlib.Nat.{le_refl}
 use mathlib.Core.List.{List, ◌∷◌}
 use lib.ListN.{length, drop, get_or, length-drop, drop_of_length-le}
 use lib.Seq.{drop-cons}
 use Rattle.eb3.specs.RuleSets.{RuleTerm, rule_star, RuleSet}
 use Rattle.eb3.specs.Measures.{sat, Measure, star_of, measure_term}
-use Rattle.eb3.specs.Reading.{Read, refused, taken, giving}
+use Rattle.eb3.specs.Reading.{Read, taken, giving}
 use Rattle.eb3.specs.RuleReading.{RuleKind, rule_kind, read_rule_term}
 use Rattle.weights.specs.declared.Weight.{Weight}
 use Rattle.weights.specs.Weighing.{cap, measure, stars_of}
 use Rattle.arguments.specs.Tables.{declared, callee}
-use Rattle.rule_terms.specs.declared.Weighed.{Weighed}
-use Rattle.rule_terms.specs.declared.Weighed.TheVariants.{Found, Refused}
 use Rattle.rule_terms.specs.Starred.{starred, Stars}
+use Rattle.scan.specs.ReadingLaws.{giving_refused, RefusedAs, same_refused}
 use Rattle.rule_terms.specs.Laws.{term_case}
 use Rattle.rule_terms.specs.WeighedLaws.{weighed_in, refused_in}
 use Rattle.rule_terms.proofs.Parts.{terms, answer, got_term, no_term}
+use Rattle.std.specs.Prelude.{Err}
+use Rattle.refusals.specs.declared.Refusal.{Refusal}
+use Rattle.rule_terms.specs.Weighed.{Answer, found}
 
 -- ── the count ──
 
@@ -44,8 +47,10 @@ next_star s i c l e = record {
 pub stars_stop : (s : List ℕ) (i : ℕ) → Stars s i → i < length s → (get_or s i 0 ≡ 24 → ⊥) → Stars s i × (get_or (drop i s) 0 0 ≡ 24 → ⊥)
 stars_stop s i c l h = (c, λ e. h (sym (ap (λ u. get_or u 0 0) (drop-cons s i 0 l)) ∙ e))
 
-pub stars_end : (s : List ℕ) (i : ℕ) → Stars s i → length s ≤ i → Stars s i × (get_or (drop i s) 0 0 ≡ 24 → ⊥)
-stars_end s i c l = (c, λ e. let z : ◌≡◌ {A = ℕ} 0 24 = sym (ap (λ u. get_or u 0 0) (drop_of_length-le s {i = i} l)) ∙ e in omega arith)
+pub stars_end : (s : List ℕ) (i : ℕ) → Stars s i → length s ≤ i → Stars s (length s) × (get_or (drop (length s) s) 0 0 ≡ 24 → ⊥)
+stars_end s i c l =
+    let e : i ≡ length s = omega (arith, c.within) in
+    (subst (Stars s) e c, λ f. let z : ◌≡◌ {A = ℕ} 0 24 = sym (ap (λ u. get_or u 0 0) (drop_of_length-le s {i = length s} (le_refl (length s)))) ∙ f in omega arith)
 
 -- ── the words behind ──
 
@@ -57,10 +62,10 @@ beyond_front s t k e h f = h (ap (λ u. get_or u 0 0) (sym e) ∙ f)
 
 -- ── the whole, by what stands behind ──
 
-starred_refused : (k j : ℕ) (r : Read RuleTerm) → r ≡ refused j → starred k r ≡ refused j
-unfolding starred giving
+starred_refused : (k : ℕ) (j : Refusal) (r : Read RuleTerm) → RefusedAs j r → RefusedAs j (starred k r)
+unfolding starred
 starred_refused zero j r e = e
-starred_refused (suc k) j r e = ap (giving rule_star) (starred_refused k j r e)
+starred_refused (suc k) j r e = giving_refused rule_star (starred k r) j (starred_refused k j r e)
 
 abbrev nest : ℕ → RuleTerm → RuleTerm
 nest zero E = E
@@ -77,14 +82,14 @@ nest_measure R M zero E = refl
 nest_measure R M (suc k) E = ap (star_of (sat cap)) (nest_measure R M k E)
 
 -- t is the words behind k stars
-module _ (T Γ s t : List ℕ) (k : ℕ) (p : Weighed) (c : Stars s k) (q : t ≡ drop k s) (e : p ≡ answer T (terms T Γ t)) where
+module _ (T Γ s t : List ℕ) (k : ℕ) (p : Answer) (c : Stars s k) (q : t ≡ drop k s) (e : p ≡ answer T (terms T Γ t)) where
   whole : terms T Γ s ≡ starred k (terms T Γ t)
   whole = c.reads (declared T) Γ ∙ ap (λ u. starred k (terms T Γ u)) (sym q)
 
-  pub stars_out : (j : ℕ) → p ≡ Refused j → Refused j ≡ answer T (terms T Γ s)
-  stars_out j h = refused_in (declared T) (callee T) _ j (whole ∙ starred_refused k j _ (no_term T Γ t j p e h))
+  pub stars_out : (j : Refusal) → p ≡ Err j → Err j ≡ answer T (terms T Γ s)
+  stars_out j h = refused_in (declared T) (callee T) _ j (same_refused _ _ j whole (starred_refused k j _ (no_term T Γ t j p e h)))
 
-  pub stars_in : (n : ℕ) (v x : Weight) → p ≡ Found n v → measure x ≡ stars_of k (measure v) → Found n x ≡ answer T (terms T Γ s)
+  pub stars_in : (n : ℕ) (v x : Weight) → p ≡ found n v → measure x ≡ stars_of k (measure v) → found n x ≡ answer T (terms T Γ s)
   stars_in n v x h i =
       let a = got_term T Γ t n v p e h in
       weighed_in (declared T) (callee T) n x _ (nest k a.0.value) a.0.rest (whole ∙ starred_taken k _ a.0.value a.0.rest a.0.read) a.0.left

@@ -1,42 +1,52 @@
 -- What a check of process terms answers of a reading: how many words are left, and the measures of what was read.
 -- Document 01, "Blocks and the rule stream", item 5; "Unfolding, size and breadth".
-use Rattle.std.specs.Prelude.{Bool, true, false, List, [], ℕ, length}
+use Rattle.std.specs.Prelude.{Bool, List, [], ℕ, length, Result, Ok, Err}
 use Rattle.eb3.specs.RuleSets.{RuleTerm, RuleSet}
 use Rattle.eb3.specs.Sizes.{zero_mask}
 use Rattle.eb3.specs.Measures.{sat, Measure, nothing, choice_of, measure_term}
 use Rattle.eb3.specs.Unfolding.{right_nest}
 use Rattle.eb3.specs.Reading.{Read, refused, taken, Reader}
 use Rattle.eb3.specs.RuleReading.{rule_mask_of, RuleKind}
+use Rattle.weights.specs.declared.Weight.{Weight}
 use Rattle.weights.specs.Weighing.{cap, weight, parallel_by}
+use Rattle.refusals.specs.declared.Refusal.{Refusal}
+use Rattle.refusals.specs.Numbers.{refusal}
 use Rattle.rule_terms.specs.declared.Weighed.{Weighed}
-use Rattle.rule_terms.specs.declared.Weighed.TheVariants.{Found, Refused}
+use Rattle.rule_terms.specs.declared.Quantifier.{Quantifier}
+use Rattle.rule_terms.specs.declared.Quantifier.TheVariants.{Choice, Parallel}
+
+abbrev pub Answer : Type 0
+Answer = Result Weighed Refusal
+
+abbrev pub found : ℕ → Weight → Answer
+found n w = Ok (record { left = n; weight = w })
 
 -- Over the rule set R declared before the term, and its processes' measures M.
-unfoldable pub weighed : RuleSet → (ℕ → Measure) → Read RuleTerm → Weighed
-weighed R M (refused k) = Refused k
-weighed R M (taken E t) = Found (length t) (weight (measure_term (sat cap) R M E))
+unfoldable pub weighed : RuleSet → (ℕ → Measure) → Read RuleTerm → Answer
+weighed R M (refused k) = Err (refusal k)
+weighed R M (taken E t) = found (length t) (weight (measure_term (sat cap) R M E))
 
 -- The same of the two sides of a parallel, whose mask is zero or is not.
-unfoldable pub weighed_sides : RuleSet → (ℕ → Measure) → Bool → Read (RuleTerm × RuleTerm) → Weighed
-weighed_sides R M z (refused k) = Refused k
-weighed_sides R M z (taken p t) = Found (length t) (weight (parallel_by z (measure_term (sat cap) R M p.0) (measure_term (sat cap) R M p.1)))
+unfoldable pub weighed_sides : RuleSet → (ℕ → Measure) → Bool → Read (RuleTerm × RuleTerm) → Answer
+weighed_sides R M z (refused k) = Err (refusal k)
+weighed_sides R M z (taken p t) = found (length t) (weight (parallel_by z (measure_term (sat cap) R M p.0) (measure_term (sat cap) R M p.1)))
 
--- ── quantifiers, by whether they have a mask ──
+-- ── quantifiers: a choice, or a parallel, which has a mask ──
 
-abbrev pub quantifier : Bool → RuleKind
-quantifier true = RuleKind.parallel_quantifier
-quantifier false = RuleKind.choice_quantifier
+abbrev pub quantifier : Quantifier → RuleKind
+quantifier Parallel = RuleKind.parallel_quantifier
+quantifier Choice = RuleKind.choice_quantifier
 
-unfoldable pub mask_if : Bool → RuleSet → Reader (List ℕ)
-mask_if true R t = rule_mask_of R t
-mask_if false R t = taken [] t
+unfoldable pub mask_if : Quantifier → RuleSet → Reader (List ℕ)
+mask_if Parallel R t = rule_mask_of R t
+mask_if Choice R t = taken [] t
 
 -- n copies of a term of that measure.
-unfoldable pub copies_of : Bool → Bool → ℕ → Measure → Measure
-copies_of true z n m = right_nest (nothing (sat cap)) (parallel_by z) n (λ x. m)
-copies_of false z n m = right_nest (nothing (sat cap)) (choice_of (sat cap)) n (λ x. m)
+unfoldable pub copies_of : Quantifier → Bool → ℕ → Measure → Measure
+copies_of Parallel z n m = right_nest (nothing (sat cap)) (parallel_by z) n (λ x. m)
+copies_of Choice z n m = right_nest (nothing (sat cap)) (choice_of (sat cap)) n (λ x. m)
 
 -- The answer of a mask where there is one, and a term, of which there are n copies.
-unfoldable pub weighed_copies : RuleSet → (ℕ → Measure) → Bool → ℕ → Read (List ℕ × RuleTerm) → Weighed
-weighed_copies R M b n (refused k) = Refused k
-weighed_copies R M b n (taken p t) = Found (length t) (weight (copies_of b (zero_mask p.0) n (measure_term (sat cap) R M p.1)))
+unfoldable pub weighed_copies : RuleSet → (ℕ → Measure) → Quantifier → ℕ → Read (List ℕ × RuleTerm) → Answer
+weighed_copies R M b n (refused k) = Err (refusal k)
+weighed_copies R M b n (taken p t) = found (length t) (weight (copies_of b (zero_mask p.0) n (measure_term (sat cap) R M p.1)))

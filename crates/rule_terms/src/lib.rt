@@ -19,7 +19,8 @@ use arguments::{
     size_of, with,
 };
 use grammar::{Scope, check_cond};
-use scan::{Checked, behind, first, last, number};
+use refusals::Refusal;
+use scan::{behind, first, last, number};
 use weights::{
     Weight, choice, choices, empty, guard, narrow, parallel, parallels, sequence, single, stars,
 };
@@ -27,11 +28,18 @@ use weights::{
 // The most variables in scope: a process's parameters, and one for each quantifier around.
 const VARIABLES: usize = 8;
 
-// How many words are left, and what the term measures; or the number of a refusal.
+// How many words are left after a term, and what the term measures.
 #[derive(Clone, Copy)]
-pub enum Weighed {
-    Found(usize, Weight),
-    Refused(u8),
+pub struct Weighed {
+    pub left: usize,
+    pub weight: Weight,
+}
+
+// Over the elements of a domain: a choice of copies, or copies in parallel, for which a mask is given.
+#[derive(Clone, Copy, PartialEq, Eq)]
+enum Quantifier {
+    Choice,
+    Parallel,
 }
 
 // ── the tables ──
@@ -54,41 +62,35 @@ fn weight_of(tb: &[u32], p: usize) -> Weight
 // ── terms ──
 
 // A label and its arguments.
-fn action(t: &[u16], tb: &[u32], vars: &[u16]) -> Weighed
+fn action(t: &[u16], tb: &[u32], vars: &[u16]) -> Result<Weighed, Refusal>
     ensures { result ≡ weighed (declared tb.now) (callee tb.now) (rule_action_of (declared tb.now) vars.now t.now) }
 {
-    match number(t, 5, labels(tb)) {
-        Checked::Left(n) => {
-            let ds = row_at(tb, 18 + 3 * first(t));
-            match check_arguments(last(t, n), tb, vars, ds) {
-                Checked::Left(m) => Weighed::Found(m, single(2 + 2 * narrow(ds.len()))),
-                Checked::Refused(k) => Weighed::Refused(k),
-            }
-        }
-        Checked::Refused(k) => Weighed::Refused(k),
-    }
+    let n = number(t, Refusal::Reference, labels(tb))?;
+    let ds = row_at(tb, 18 + 3 * first(t));
+    let left = check_arguments(last(t, n), tb, vars, ds)?;
+    Ok(Weighed {
+        left,
+        weight: single(2 + 2 * narrow(ds.len())),
+    })
 }
 
 // A lower process and its arguments.
-fn call(t: &[u16], tb: &[u32], vars: &[u16]) -> Weighed
+fn call(t: &[u16], tb: &[u32], vars: &[u16]) -> Result<Weighed, Refusal>
     ensures { result ≡ weighed (declared tb.now) (callee tb.now) (call_of (declared tb.now) vars.now t.now) }
 {
-    match number(t, 5, processes(tb)) {
-        Checked::Left(n) => {
-            let p = first(t);
-            match check_arguments(last(t, n), tb, vars, row_at(tb, 212 + 9 * p)) {
-                Checked::Left(m) => Weighed::Found(m, weight_of(tb, p)),
-                Checked::Refused(k) => Weighed::Refused(k),
-            }
-        }
-        Checked::Refused(k) => Weighed::Refused(k),
-    }
+    let n = number(t, Refusal::Reference, processes(tb))?;
+    let p = first(t);
+    let left = check_arguments(last(t, n), tb, vars, row_at(tb, 212 + 9 * p))?;
+    Ok(Weighed {
+        left,
+        weight: weight_of(tb, p),
+    })
 }
 
 // A term inside a term. Each level of nesting is one frame of `check_term`, where what a call hands over (three slices and
 // the answer) has its place only while this runs, so that the calls of all arms share one place.
-#[cycle(check_plain_check_term_copies_guarded_in_choice_in_parallel_in_sequence_many_operand_over_quantified_sides)]
-fn operand(t: &[u16], tb: &[u32], vars: &[u16]) -> Weighed
+#[cycle(terms)]
+fn operand(t: &[u16], tb: &[u32], vars: &[u16]) -> Result<Weighed, Refusal>
     requires { (length vars.now ≤ 8) × (length t.now ≤ 65535) }
     ensures { result ≡ weighed (declared tb.now) (callee tb.now) (read_rule_term (declared tb.now) vars.now t.now) }
 {
@@ -96,64 +98,59 @@ fn operand(t: &[u16], tb: &[u32], vars: &[u16]) -> Weighed
 }
 
 // Two terms in a row.
-#[cycle(check_plain_check_term_copies_guarded_in_choice_in_parallel_in_sequence_many_operand_over_quantified_sides)]
-fn in_sequence(t: &[u16], tb: &[u32], vars: &[u16]) -> Weighed
+#[cycle(terms)]
+fn in_sequence(t: &[u16], tb: &[u32], vars: &[u16]) -> Result<Weighed, Refusal>
     requires { (length vars.now ≤ 8) × (length t.now ≤ 65535) }
     ensures { result ≡ weighed (declared tb.now) (callee tb.now) (rule_by (declared tb.now) (read_rule_term (declared tb.now)) vars.now (RuleKind.pair rule_sequence) t.now) }
 {
-    match operand(t, tb, vars) {
-        Weighed::Found(n, a) => match operand(last(t, n), tb, vars) {
-            Weighed::Found(m, b) => Weighed::Found(m, sequence(a, b)),
-            Weighed::Refused(k) => Weighed::Refused(k),
-        },
-        Weighed::Refused(k) => Weighed::Refused(k),
-    }
+    let a = operand(t, tb, vars)?;
+    let b = operand(last(t, a.left), tb, vars)?;
+    Ok(Weighed {
+        left: b.left,
+        weight: sequence(a.weight, b.weight),
+    })
 }
 
-#[cycle(check_plain_check_term_copies_guarded_in_choice_in_parallel_in_sequence_many_operand_over_quantified_sides)]
-fn in_choice(t: &[u16], tb: &[u32], vars: &[u16]) -> Weighed
+#[cycle(terms)]
+fn in_choice(t: &[u16], tb: &[u32], vars: &[u16]) -> Result<Weighed, Refusal>
     requires { (length vars.now ≤ 8) × (length t.now ≤ 65535) }
     ensures { result ≡ weighed (declared tb.now) (callee tb.now) (rule_by (declared tb.now) (read_rule_term (declared tb.now)) vars.now (RuleKind.pair rule_choice) t.now) }
 {
-    match operand(t, tb, vars) {
-        Weighed::Found(n, a) => match operand(last(t, n), tb, vars) {
-            Weighed::Found(m, b) => Weighed::Found(m, choice(a, b)),
-            Weighed::Refused(k) => Weighed::Refused(k),
-        },
-        Weighed::Refused(k) => Weighed::Refused(k),
-    }
+    let a = operand(t, tb, vars)?;
+    let b = operand(last(t, a.left), tb, vars)?;
+    Ok(Weighed {
+        left: b.left,
+        weight: choice(a.weight, b.weight),
+    })
 }
 
 // The two sides of a parallel whose mask is zero, or is not.
-#[cycle(check_plain_check_term_copies_guarded_in_choice_in_parallel_in_sequence_many_operand_over_quantified_sides)]
-fn sides(t: &[u16], tb: &[u32], vars: &[u16], zero: bool) -> Weighed
+#[cycle(terms)]
+fn sides(t: &[u16], tb: &[u32], vars: &[u16], zero: bool) -> Result<Weighed, Refusal>
     requires { (length vars.now ≤ 8) × (length t.now ≤ 65535) }
     ensures { result ≡ weighed_sides (declared tb.now) (callee tb.now) zero (both (read_rule_term (declared tb.now) vars.now) (read_rule_term (declared tb.now) vars.now) t.now) }
 {
-    match operand(t, tb, vars) {
-        Weighed::Found(n, a) => match operand(last(t, n), tb, vars) {
-            Weighed::Found(m, b) => Weighed::Found(m, parallel(zero, a, b)),
-            Weighed::Refused(k) => Weighed::Refused(k),
-        },
-        Weighed::Refused(k) => Weighed::Refused(k),
-    }
+    let a = operand(t, tb, vars)?;
+    let b = operand(last(t, a.left), tb, vars)?;
+    Ok(Weighed {
+        left: b.left,
+        weight: parallel(zero, a.weight, b.weight),
+    })
 }
 
 // A mask and two terms.
-#[cycle(check_plain_check_term_copies_guarded_in_choice_in_parallel_in_sequence_many_operand_over_quantified_sides)]
-fn in_parallel(t: &[u16], tb: &[u32], vars: &[u16]) -> Weighed
+#[cycle(terms)]
+fn in_parallel(t: &[u16], tb: &[u32], vars: &[u16]) -> Result<Weighed, Refusal>
     requires { (length vars.now ≤ 8) × (length t.now ≤ 65535) }
     ensures { result ≡ weighed (declared tb.now) (callee tb.now) (rule_by (declared tb.now) (read_rule_term (declared tb.now)) vars.now RuleKind.parallel t.now) }
 {
-    match check_mask(t, 4, labels(tb)) {
-        Checked::Left(n) => sides(last(t, n), tb, vars, mask_zero(t)),
-        Checked::Refused(k) => Weighed::Refused(k),
-    }
+    let n = check_mask(t, 4, labels(tb))?;
+    sides(last(t, n), tb, vars, mask_zero(t))
 }
 
 // A guard's condition, which names no function before. Apart from `guarded`, so that what it hands over shares its place in
 // the frame with what `operand` does.
-fn condition(t: &[u16], tb: &[u32], vars: &[u16]) -> Checked
+fn condition(t: &[u16], tb: &[u32], vars: &[u16]) -> Result<usize, Refusal>
     ensures { result ≡ checked (read_cond 1 (guard_scope (attributes (declared tb.now)) (length vars.now)) t.now) }
 {
     let c = Scope {
@@ -165,97 +162,87 @@ fn condition(t: &[u16], tb: &[u32], vars: &[u16]) -> Checked
 }
 
 // A condition, whose size is the words that it took, and a term.
-#[cycle(check_plain_check_term_copies_guarded_in_choice_in_parallel_in_sequence_many_operand_over_quantified_sides)]
-fn guarded(t: &[u16], tb: &[u32], vars: &[u16]) -> Weighed
+#[cycle(terms)]
+fn guarded(t: &[u16], tb: &[u32], vars: &[u16]) -> Result<Weighed, Refusal>
     requires { (length vars.now ≤ 8) × (length t.now ≤ 65535) }
     ensures { result ≡ weighed (declared tb.now) (callee tb.now) (rule_by (declared tb.now) (read_rule_term (declared tb.now)) vars.now RuleKind.guard t.now) }
 {
-    match condition(t, tb, vars) {
-        Checked::Left(n) => match operand(last(t, n), tb, vars) {
-            Weighed::Found(m, a) => Weighed::Found(m, guard(taken_of(t, n), a)),
-            Weighed::Refused(k) => Weighed::Refused(k),
-        },
-        Checked::Refused(k) => Weighed::Refused(k),
-    }
-}
-
-// How many words were taken where n are left.
-fn taken_of(t: &[u16], n: usize) -> u64
-    ensures { result ≡ length t.now - n }
-{
-    if n <= t.len() {
-        return narrow(t.len() - n);
-    }
-    0
+    let n = condition(t, tb, vars)?;
+    let a = operand(last(t, n), tb, vars)?;
+    Ok(Weighed {
+        left: a.left,
+        weight: guard(narrow(t.len().saturating_sub(n)), a.weight),
+    })
 }
 
 // ── quantifiers: a choice, or with a mask a parallel, of a copy for each element of a domain ──
 
-fn mask_if(masked: bool, t: &[u16], tb: &[u32]) -> Checked
-    ensures { result ≡ checked (mask_if masked (declared tb.now) t.now) }
+fn mask_if(over: Quantifier, t: &[u16], tb: &[u32]) -> Result<usize, Refusal>
+    ensures { result ≡ checked (mask_if over (declared tb.now) t.now) }
 {
-    if masked {
-        return check_mask(t, 4, labels(tb));
+    match over {
+        Quantifier::Choice => Ok(t.len()),
+        Quantifier::Parallel => check_mask(t, 4, labels(tb)),
     }
-    Checked::Left(t.len())
 }
 
-fn copied(masked: bool, n: usize, zero: bool, a: Weight) -> Weight
-    ensures { measure result ≡ copies_of masked zero n (measure a) }
+fn copied(over: Quantifier, n: usize, zero: bool, a: Weight) -> Weight
+    ensures { measure result ≡ copies_of over zero n (measure a) }
 {
-    if masked {
-        return parallels(n, zero, a);
+    match over {
+        Quantifier::Choice => choices(n, a),
+        Quantifier::Parallel => parallels(n, zero, a),
     }
-    choices(n, a)
 }
 
 // A mask where there is one, and a term, of which there are n copies.
-#[cycle(check_plain_check_term_copies_guarded_in_choice_in_parallel_in_sequence_many_operand_over_quantified_sides)]
-fn copies(t: &[u16], tb: &[u32], vars: &[u16], n: usize, masked: bool) -> Weighed
+#[cycle(terms)]
+fn copies(
+    t: &[u16],
+    tb: &[u32],
+    vars: &[u16],
+    n: usize,
+    over: Quantifier,
+) -> Result<Weighed, Refusal>
     requires { (length vars.now ≤ 8) × (length t.now ≤ 65535) }
-    ensures { result ≡ weighed_copies (declared tb.now) (callee tb.now) masked n (both (mask_if masked (declared tb.now)) (read_rule_term (declared tb.now) vars.now) t.now) }
+    ensures { result ≡ weighed_copies (declared tb.now) (callee tb.now) over n (both (mask_if over (declared tb.now)) (read_rule_term (declared tb.now) vars.now) t.now) }
 {
-    match mask_if(masked, t, tb) {
-        Checked::Left(m) => match operand(last(t, m), tb, vars) {
-            Weighed::Found(i, a) => Weighed::Found(i, copied(masked, n, mask_zero(t), a)),
-            Weighed::Refused(k) => Weighed::Refused(k),
-        },
-        Checked::Refused(k) => Weighed::Refused(k),
-    }
+    let m = mask_if(over, t, tb)?;
+    let a = operand(last(t, m), tb, vars)?;
+    Ok(Weighed {
+        left: a.left,
+        weight: copied(over, n, mask_zero(t), a.weight),
+    })
 }
 
 // A domain, and copies of a term with one variable more.
-#[cycle(check_plain_check_term_copies_guarded_in_choice_in_parallel_in_sequence_many_operand_over_quantified_sides)]
-fn quantified(t: &[u16], tb: &[u32], vars: &[u16], masked: bool) -> Weighed
+#[cycle(terms)]
+fn quantified(t: &[u16], tb: &[u32], vars: &[u16], over: Quantifier) -> Result<Weighed, Refusal>
     requires { (length vars.now < 8) × (length t.now ≤ 65535) }
-    ensures { result ≡ weighed (declared tb.now) (callee tb.now) (rule_by (declared tb.now) (read_rule_term (declared tb.now)) vars.now (quantifier masked) t.now) }
+    ensures { result ≡ weighed (declared tb.now) (callee tb.now) (rule_by (declared tb.now) (read_rule_term (declared tb.now)) vars.now (quantifier over) t.now) }
 {
-    match number(t, 5, domains(tb)) {
-        Checked::Left(n) => {
-            let more = with(vars, t[0]);
-            let k = vars.len() + 1;
-            copies(last(t, n), tb, &more[..k], size_of(tb, first(t)), masked)
-        }
-        Checked::Refused(j) => Weighed::Refused(j),
-    }
+    let n = number(t, Refusal::Reference, domains(tb))?;
+    let more = with(vars, t[0]);
+    let k = vars.len() + 1;
+    copies(last(t, n), tb, &more[..k], size_of(tb, first(t)), over)
 }
 
 // A choice, and a parallel: each calls `quantified`, which as a function with two callers keeps a frame of its own and takes
 // nothing of `check_term`'s.
-#[cycle(check_plain_check_term_copies_guarded_in_choice_in_parallel_in_sequence_many_operand_over_quantified_sides)]
-fn over(t: &[u16], tb: &[u32], vars: &[u16]) -> Weighed
+#[cycle(terms)]
+fn over(t: &[u16], tb: &[u32], vars: &[u16]) -> Result<Weighed, Refusal>
     requires { (length vars.now < 8) × (length t.now ≤ 65535) }
     ensures { result ≡ weighed (declared tb.now) (callee tb.now) (rule_by (declared tb.now) (read_rule_term (declared tb.now)) vars.now RuleKind.choice_quantifier t.now) }
 {
-    quantified(t, tb, vars, false)
+    quantified(t, tb, vars, Quantifier::Choice)
 }
 
-#[cycle(check_plain_check_term_copies_guarded_in_choice_in_parallel_in_sequence_many_operand_over_quantified_sides)]
-fn many(t: &[u16], tb: &[u32], vars: &[u16]) -> Weighed
+#[cycle(terms)]
+fn many(t: &[u16], tb: &[u32], vars: &[u16]) -> Result<Weighed, Refusal>
     requires { (length vars.now < 8) × (length t.now ≤ 65535) }
     ensures { result ≡ weighed (declared tb.now) (callee tb.now) (rule_by (declared tb.now) (read_rule_term (declared tb.now)) vars.now RuleKind.parallel_quantifier t.now) }
 {
-    quantified(t, tb, vars, true)
+    quantified(t, tb, vars, Quantifier::Parallel)
 }
 
 // ── any term ──
@@ -264,14 +251,12 @@ fn many(t: &[u16], tb: &[u32], vars: &[u16]) -> Weighed
 fn stars_in(s: &[u16]) -> usize
     ensures { Stars s.now result × (get_or (drop result s.now) 0 0 ≡ 24 → ⊥) }
 {
-    let mut i = 0;
-    while i < s.len() {
+    for i in 0..s.len() {
         if s[i] != 24 {
             return i;
         }
-        i = i + 1;
     }
-    i
+    s.len()
 }
 
 // The words behind the first k.
@@ -283,18 +268,21 @@ fn beyond(s: &[u16], k: usize) -> &[u16]
 }
 
 // A term that is no star.
-#[cycle(check_plain_check_term_copies_guarded_in_choice_in_parallel_in_sequence_many_operand_over_quantified_sides)]
-fn check_plain(s: &[u16], tb: &[u32], vars: &[u16]) -> Weighed
+#[cycle(terms)]
+fn check_plain(s: &[u16], tb: &[u32], vars: &[u16]) -> Result<Weighed, Refusal>
     requires { (length vars.now ≤ 8) × (length s.now ≤ 65535) × (get_or s.now 0 0 ≡ 24 → ⊥) }
     ensures { result ≡ weighed (declared tb.now) (callee tb.now) (read_rule_term (declared tb.now) vars.now s.now) }
 {
     if s.len() == 0 {
-        return Weighed::Refused(4);
+        return Err(Refusal::Form);
     }
     let c = s[0];
     let t = behind(s);
     match c {
-        20 => Weighed::Found(t.len(), single(1)),
+        20 => Ok(Weighed {
+            left: t.len(),
+            weight: single(1),
+        }),
         21 => action(t, tb, vars),
         22 => in_sequence(t, tb, vars),
         23 => in_choice(t, tb, vars),
@@ -304,28 +292,29 @@ fn check_plain(s: &[u16], tb: &[u32], vars: &[u16]) -> Weighed
             if vars.len() < VARIABLES {
                 return over(t, tb, vars);
             }
-            Weighed::Refused(4)
+            Err(Refusal::Form)
         }
         28 => {
             if vars.len() < VARIABLES {
                 return many(t, tb, vars);
             }
-            Weighed::Refused(4)
+            Err(Refusal::Form)
         }
         29 => call(t, tb, vars),
-        _ => Weighed::Refused(4),
+        _ => Err(Refusal::Form),
     }
 }
 
 // One term, where the domains of the variables in scope are given. Stars in a row are counted and not descended into.
-#[cycle(check_plain_check_term_copies_guarded_in_choice_in_parallel_in_sequence_many_operand_over_quantified_sides)]
-pub fn check_term(s: &[u16], tb: &[u32], vars: &[u16]) -> Weighed
+#[cycle(terms)]
+pub fn check_term(s: &[u16], tb: &[u32], vars: &[u16]) -> Result<Weighed, Refusal>
     requires { (length vars.now ≤ 8) × (length s.now ≤ 65535) }
     ensures { result ≡ weighed (declared tb.now) (callee tb.now) (read_rule_term (declared tb.now) vars.now s.now) }
 {
     let k = stars_in(s);
-    match check_plain(beyond(s, k), tb, vars) {
-        Weighed::Found(n, a) => Weighed::Found(n, stars(k, a)),
-        Weighed::Refused(j) => Weighed::Refused(j),
-    }
+    let a = check_plain(beyond(s, k), tb, vars)?;
+    Ok(Weighed {
+        left: a.left,
+        weight: stars(k, a.weight),
+    })
 }

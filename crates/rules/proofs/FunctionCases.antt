@@ -10,21 +10,15 @@ use Rattle.eb3.specs.RuleSets.{Function, RuleSet}
 use Rattle.eb3.specs.Measures.{sat, measure_main}
 use Rattle.eb3.specs.Reading.{Read, refused, taken, Reader, then, count_of, series}
 use Rattle.eb3.specs.RuleReading.{parameter_limit, read_parameter_counts, read_function, read_functions, read_process, with_process, read_processes, without_processes}
-use Rattle.scan.specs.declared.Checked.{Checked}
-use Rattle.scan.specs.declared.Checked.TheVariants.{Left, Refused as Checked_refused}
-use Rattle.scan.specs.Checking.{checked, last_of}
+use Rattle.scan.specs.Checking.{checked, last_of, Checked}
 use Rattle.scan.specs.Laws.{Tail, Fine, tail_at, tail_on, last_tail}
-use Rattle.scan.specs.ReadingLaws.{checked_refused, then_refused, then_taken, not_taken}
+use Rattle.scan.specs.ReadingLaws.{checked_refused, then_refused, then_taken, not_taken, RefusedAs, same_refused}
 use Rattle.scan.specs.RowLaws.{count_word}
-use Rattle.rule_terms.specs.declared.Weighed.{Weighed}
-use Rattle.rule_terms.specs.declared.Weighed.TheVariants.{Found, Refused}
 use Rattle.weights.specs.Weighing.{cap, weight}
-use Rattle.weights.specs.declared.Weight.{Weight}
 use Rattle.arguments.specs.Tables.{declared}
 use Rattle.arguments.specs.TableLaws.{domains_length, labels_length}
 use Rattle.declarations.specs.declared.Counted.{Counted}
-use Rattle.declarations.specs.declared.Counted.TheVariants.{Cells, Refused as Counted_refused}
-use Rattle.declarations.specs.Entering.{labels_of, all_cells, functions_cells}
+use Rattle.declarations.specs.Entering.{labels_of, all_cells, functions_cells, found_cells}
 use Rattle.declarations.specs.Declaring.{Heads, Tables}
 use Rattle.declarations.specs.DeclaringLaws.{functions_entered}
 use Rattle.declarations.specs.FunctionLaws.{functions_end}
@@ -33,10 +27,13 @@ use Rattle.declarations.specs.SectionFacts.{functions_read, cells_total}
 use Rattle.declarations.specs.Directory.{FunctionRows, row_width}
 use Rattle.declarations.specs.Noting.{function_of, FunctionsNoted}
 use Rattle.rules.specs.declared.Rules.{Rules}
-use Rattle.rules.specs.declared.Rules.TheVariants.{Found as Rules_found, Refused as Rules_refused}
 use Rattle.rules.specs.Filling.{ProcessSectionRead, Filled, FunctionSectionRead}
-use Rattle.rules.specs.Sections.{main_weighed, rules_weighed, joined, process_section, function_section}
+use Rattle.rules.specs.Sections.{main_weighed, rules_weighed, joined, process_section, function_section, found_rules}
 use Rattle.rules.proofs.SectionCases.{count_between, rules_out}
+use Rattle.std.specs.Prelude.{Ok, Err, Result}
+use Rattle.refusals.specs.declared.Refusal.{Refusal}
+use Rattle.rule_terms.specs.Weighed.{Answer}
+use Rattle.rule_terms.specs.declared.Weighed.{Weighed}
 
 -- ── the processes' answer, with the functions' cells ──
 
@@ -65,15 +62,13 @@ section_kept ds ls fs t = then_kept (without_processes edition_1 ds ls fs) (coun
 joined_main : (R : RuleSet) (c : ℕ) (r : Read RuleSet) → c ≡ all_cells R.domains R.functions → Kept R r → joined c (main_weighed r) ≡ rules_weighed r
 unfolding main_weighed rules_weighed
 joined_main R c (refused k) e s = refl
-joined_main R c (taken Q u) e s = ap (λ n. Rules_found (length u) n (weight (measure_main (sat cap) Q))) (e ∙ (λ i. all_cells (sym s.0 i) (sym s.1 i)) ∙ sym (cells_total Q))
+joined_main R c (taken Q u) e s = ap (λ n. found_rules (length u) n (weight (measure_main (sat cap) Q))) (e ∙ (λ i. all_cells (sym s.0 i) (sym s.1 i)) ∙ sym (cells_total Q))
 
-pub joined_found : (c m : ℕ) (a : Weight) (w : Weighed) → w ≡ Found m a → Rules_found m c a ≡ joined c w
-joined_found c m a w e = rw e
+pub joined_found : (c : ℕ) (a : Weighed) (w : Answer) → w ≡ Ok a → found_rules a.left c a.weight ≡ joined c w
+joined_found c a w e = rw e
 
-pub joined_refused : (c k : ℕ) (w : Weighed) → w ≡ Refused k → Rules_refused k ≡ joined c w
+pub joined_refused : (c : ℕ) (k : Refusal) (w : Answer) → w ≡ Err k → Err k ≡ joined c w
 joined_refused c k w e = rw e
-
-pub ruleset joining = (joined_found, joined_refused)
 
 -- ── functions ──
 
@@ -87,10 +82,10 @@ rows_same ds ds' ls ls' Fs Fs' t D a b c h =
     subst (λ E. FunctionRows E t D (row_width (length ls')) 0 0 Fs') (sym a) (subst (λ k. FunctionRows ds t D (row_width (length k)) 0 0 Fs') (sym b) (subst (FunctionRows ds t D (row_width (length ls)) 0 0) (sym c) h))
 
 module _ (T t : List ℕ) (p : Checked) (e : p ≡ checked (count_of 0 16 t)) where
-  pub functions_none : (D : List ℕ) (k : ℕ) → p ≡ Checked_refused k → FunctionSectionRead t T D (Rules_refused k) T D
+  pub functions_none : (D : List ℕ) (k : Refusal) → p ≡ Err k → FunctionSectionRead t T D (Err k) T D
   unfolding function_section read_functions
   functions_none D k h =
-      let r : (ds : List ℕ) (ls : List (List ℕ)) → read_functions edition_1 (length ds) ls t ≡ refused k = λ ds ls. then_refused (count_of 0 16 t) _ k (checked_refused (count_of 0 16 t) k (sym h ∙ e)) in
+      let r : (ds : List ℕ) (ls : List (List ℕ)) → RefusedAs k (read_functions edition_1 (length ds) ls t) = λ ds ls. then_refused (count_of 0 16 t) _ k (checked_refused (count_of 0 16 t) k (sym h ∙ e)) in
       record {
         answer = λ ds ls z. rules_out (read_functions edition_1 (length ds) ls t) _ k (r ds ls);
         same_tables = refl;
@@ -98,14 +93,14 @@ module _ (T t : List ℕ) (p : Checked) (e : p ≡ checked (count_of 0 16 t)) wh
         filled = λ ds ls z whole R u tl small g room. absurd (not_taken (function_section ds ls t) k R u (then_refused (read_functions edition_1 (length ds) ls t) _ k (r ds ls)) g);
       }
 
-  module _ (m n x : ℕ) (s : length T ≡ 500) (b : Bounded T) (h : p ≡ Left m) (i : n ≡ get_or t 0 0) (f : x ≡ n) where
+  module _ (m n x : ℕ) (s : length T ≡ 500) (b : Bounded T) (h : p ≡ Ok m) (i : n ≡ get_or t 0 0) (f : x ≡ n) where
     pub functions_asks : (n + 0 < 65536) × (length (set T 210 x) ≡ 500) × (get_or (set T 210 x) 17 0 ≤ 64) × Bounded (set T 210 x)
     functions_asks =
         let b' = set_bounded T 210 x (omega arith) (omega arith) b in
         (omega (arith, count_between 0 16 m n t p e h i), length-set T 210 x ∙ s, b'.labels_few, b')
 
     -- D is the directory before, D' behind the functions
-    module _ (u D D' : List ℕ) (l : u ≡ last_of m t) (a : Counted) (g : FunctionsNoted (set T 210 x) n n 0 u D 0 a D') (ds : List ℕ) (ls : List (List ℕ)) (z : Heads T ds ls) where
+    module _ (u D D' : List ℕ) (l : u ≡ last_of m t) (a : Result Counted Refusal) (g : FunctionsNoted (set T 210 x) n n 0 u D 0 a D') (ds : List ℕ) (ls : List (List ℕ)) (z : Heads T ds ls) where
       heads : Heads (set T 210 x) ds ls
       heads = functions_entered T ds ls x (omega arith) b.domains_few b.labels_few b.label_rows z
 
@@ -124,23 +119,24 @@ module _ (T t : List ℕ) (p : Checked) (e : p ≡ checked (count_of 0 16 t)) wh
           let c : get_or (set T 210 x) 0 0 ≡ length ds = sym (domains_length (set T 210 x)) ∙ ap length heads.same_domains in
           g.answer ∙ (λ j. functions_cells (heads.same_domains j) (series n 0 (read_function edition_1 (c j) (labels_are j) (replicate n 1)) u))
 
-      refused_here : (k : ℕ) (r : Read (List Function)) → Counted_refused k ≡ functions_cells ds r → r ≡ refused k
+      refused_here : (k : Refusal) (r : Read (List Function)) → Err k ≡ functions_cells ds r → RefusedAs k r
       unfolding functions_cells
-      refused_here k (refused j) q = (let y : j ≡ k = cc in ap refused y)
+      refused_here k (refused j) q = record { code = j; read = refl; named = cc }
       refused_here k (taken Fs v) q = absurd (let y : ◌≡◌ {A = ℕ} 0 1 = cc in omega arith)
 
-      taken_here : (j c : ℕ) (r : Read (List Function)) → Fine u r → Cells j c ≡ functions_cells ds r → (Fs : List Function) × (r ≡ taken Fs (last_of j u)) × (c ≡ all_cells ds Fs)
+      taken_here : (j c : ℕ) (r : Read (List Function)) → Fine u r → found_cells j c ≡ functions_cells ds r → (Fs : List Function) × (r ≡ taken Fs (last_of j u)) × (c ≡ all_cells ds Fs)
       unfolding functions_cells
       taken_here j c (refused k) fine q = absurd (let y : ◌≡◌ {A = ℕ} 0 1 = cc in omega arith)
       taken_here j c (taken Fs v) fine q =
-          let o : j ≡ length v = cc in
-          let y : c ≡ all_cells ds Fs = cc in
+          let x : ◌≡◌ {A = Counted} (record { left = j; cells = c }) (record { left = length v; cells = all_cells ds Fs }) = cc in
+          let o : j ≡ length v = ap (λ x. x.left) x in
+          let y : c ≡ all_cells ds Fs = ap (λ x. x.cells) x in
           (Fs, ap (taken Fs) (sym (ap (λ n. last_of n u) o ∙ tail_at v u fine)), y)
 
-      functions_refused : (k : ℕ) → a ≡ Counted_refused k → read_functions edition_1 (length ds) ls t ≡ refused k
-      functions_refused k q = are ∙ refused_here k behind (sym q ∙ counts)
+      functions_refused : (k : Refusal) → a ≡ Err k → RefusedAs k (read_functions edition_1 (length ds) ls t)
+      functions_refused k q = same_refused _ _ k are (refused_here k behind (sym q ∙ counts))
 
-      module _ (j c : ℕ) (v : List ℕ) (y : a ≡ Cells j c) (o : v ≡ last_of j u) where
+      module _ (j c : ℕ) (v : List ℕ) (y : a ≡ found_cells j c) (o : v ≡ last_of j u) where
         r : (Fs : List Function) × (behind ≡ taken Fs (last_of j u)) × (c ≡ all_cells ds Fs)
         r = taken_here j c behind (functions_end edition_1 (length ds) ls (replicate n 1) n 0 u) (sym y ∙ counts)
 
@@ -154,7 +150,7 @@ module _ (T t : List ℕ) (p : Checked) (e : p ≡ checked (count_of 0 16 t)) wh
         unfolding function_section
         section_is = then_taken (read_functions edition_1 (length ds) ls t) (λ fs. process_section ds ls fs) r.0 (last_of j u) (are ∙ r.1) ∙ ap (process_section ds ls r.0) (sym o)
 
-        functions_answer : (q : Weighed) (w : Rules) → q ≡ main_weighed (process_section ds ls r.0 v) → w ≡ joined c q → w ≡ rules_weighed (function_section ds ls t)
+        functions_answer : (q : Answer) (w : Result Rules Refusal) → q ≡ main_weighed (process_section ds ls r.0 v) → w ≡ joined c q → w ≡ rules_weighed (function_section ds ls t)
         functions_answer q w k d =
             d ∙ ap (joined c) k
             ∙ joined_main (without_processes edition_1 ds ls r.0) c (process_section ds ls r.0 v) r.2 (section_kept ds ls r.0 v)
@@ -170,7 +166,7 @@ module _ (T t : List ℕ) (p : Checked) (e : p ≡ checked (count_of 0 16 t)) wh
             let rows = g.found whole r.0 (last_of j u) (tail_on u t whole tl (subst (λ y. Tail y t) (sym l) (last_tail m t))) small enough reading in
             subst (λ E. FunctionRows E whole D' (row_width (length ls)) 0 0 r.0) heads.same_domains (subst (λ k. FunctionRows (declared (set T 210 x)).domains whole D' (row_width k) 0 0 r.0) w rows)
 
-        functions_filled : (q : Weighed) (T' : List ℕ) → ProcessSectionRead v (set T 210 x) q T' → Filled t D (function_section ds ls) T' D'
+        functions_filled : (q : Answer) (T' : List ℕ) → ProcessSectionRead v (set T 210 x) q T' → Filled t D (function_section ds ls) T' D'
         functions_filled q T' k whole R w tl small e room =
             let s : process_section ds ls r.0 v ≡ taken R w = sym section_is ∙ e in
             let same : Same (without_processes edition_1 ds ls r.0) R = subst (Kept (without_processes edition_1 ds ls r.0)) s (section_kept ds ls r.0 v) in
@@ -183,7 +179,7 @@ module _ (T t : List ℕ) (p : Checked) (e : p ≡ checked (count_of 0 16 t)) wh
               processes = placed.rows;
             }
 
-    pub functions_out : (u D D' : List ℕ) (a : Counted) (k : ℕ) → u ≡ last_of m t → FunctionsNoted (set T 210 x) n n 0 u D 0 a D' → a ≡ Counted_refused k → FunctionSectionRead t T D (Rules_refused k) (set T 210 x) D'
+    pub functions_out : (u D D' : List ℕ) (a : Result Counted Refusal) (k : Refusal) → u ≡ last_of m t → FunctionsNoted (set T 210 x) n n 0 u D 0 a D' → a ≡ Err k → FunctionSectionRead t T D (Err k) (set T 210 x) D'
     unfolding function_section
     functions_out u D D' a k l g q = record {
       answer = λ ds ls z. rules_out (read_functions edition_1 (length ds) ls t) _ k (functions_refused u D D' l a g ds ls z k q);
@@ -192,7 +188,7 @@ module _ (T t : List ℕ) (p : Checked) (e : p ≡ checked (count_of 0 16 t)) wh
       filled = λ ds ls z whole R w tl small e room. absurd (not_taken (function_section ds ls t) k R w (then_refused (read_functions edition_1 (length ds) ls t) _ k (functions_refused u D D' l a g ds ls z k q)) e);
     }
 
-    pub functions_in : (u v D D' T' : List ℕ) (a : Counted) (j c : ℕ) (q : Weighed) (w : Rules) → u ≡ last_of m t → FunctionsNoted (set T 210 x) n n 0 u D 0 a D' → a ≡ Cells j c → v ≡ last_of j u
+    pub functions_in : (u v D D' T' : List ℕ) (a : Result Counted Refusal) (j c : ℕ) (q : Answer) (w : Result Rules Refusal) → u ≡ last_of m t → FunctionsNoted (set T 210 x) n n 0 u D 0 a D' → a ≡ found_cells j c → v ≡ last_of j u
         → ProcessSectionRead v (set T 210 x) q T' → w ≡ joined c q → FunctionSectionRead t T D w T' D'
     functions_in u v D D' T' a j c q w l g y o k d = record {
       answer = λ ds ls z. functions_answer u D D' l a g ds ls z j c v y o q w (k.answer ds ls (r u D D' l a g ds ls z j c v y o).0 (tables u D D' l a g ds ls z j c v y o)) d;

@@ -12,13 +12,9 @@ use Rattle.eb3.specs.Reading.{Read, refused, taken, giving, then, counted, numbe
 use Rattle.eb3.specs.RuleReading.{parameter_limit, read_rule_term, read_process, read_processes}
 use Rattle.weights.specs.Weighing.{measure}
 use Rattle.weights.specs.declared.Weight.{Weight}
-use Rattle.scan.specs.declared.Checked.{Checked}
-use Rattle.scan.specs.declared.Checked.TheVariants.{Left, Refused as Checked_refused}
-use Rattle.scan.specs.Checking.{checked, last_of}
+use Rattle.scan.specs.Checking.{checked, last_of, Checked}
 use Rattle.scan.specs.Laws.{Tail, tail_on, last_tail}
-use Rattle.rule_terms.specs.declared.Weighed.{Weighed}
-use Rattle.rule_terms.specs.declared.Weighed.TheVariants.{Found, Refused}
-use Rattle.rule_terms.specs.Weighed.{weighed}
+use Rattle.rule_terms.specs.Weighed.{weighed, Answer, found}
 use Rattle.arguments.specs.Tables.{row, declared, callee}
 use Rattle.arguments.specs.TableLaws.{domains_length}
 use Rattle.declarations.specs.Declaring.{Declares, entered_process}
@@ -28,6 +24,9 @@ use Rattle.declarations.specs.Rows.{RowAt, numbers_row}
 use Rattle.rules.specs.Sections.{process_weighed, main_weighed}
 use Rattle.rules.specs.Filling.{ProcessesRead}
 use Rattle.rules.specs.SectionLaws.{processes_refused, process_row_front, last_answers, last_placed, next_answers, next_placed}
+use Rattle.std.specs.Prelude.{Ok, Err}
+use Rattle.refusals.specs.declared.Refusal.{Refusal}
+use Rattle.refusals.specs.Numbers.{refusal}
 
 pub limit_more : (n : ℕ) → (n ≡ 0 → ⊥) → 4 ≡ parameter_limit n
 limit_more zero z = absurd (z refl)
@@ -47,14 +46,14 @@ module _ (T t : List ℕ) (hi d x : ℕ) (p : Checked) (e : p ≡ checked (count
   by_tables : d ≡ length (declared T).domains
   by_tables = f ∙ g ∙ sym (domains_length T)
 
-  there : (m : ℕ) → p ≡ Left m → RowAt hi t (counted 0 hi (number_of 5 d) t) m
+  there : (m : ℕ) → p ≡ Ok m → RowAt hi t (counted 0 hi (number_of 5 d) t) m
   there m h = numbers_row 0 hi 5 d m t p e h
 
-  module _ (m k : ℕ) (h : p ≡ Left m) (i : k ≡ get_or t 0 0) where
+  module _ (m k : ℕ) (h : p ≡ Ok m) (i : k ≡ get_or t 0 0) where
     pub row_ends : (k + 1 ≤ length t) × (k ≤ hi)
     row_ends = (omega (arith, i, (there m h).room), omega (arith, i, (there m h).small))
 
-    pub process_in : (s : List ℕ) (q : Weighed) → s ≡ last_of m t → q ≡ weighed (declared T) (callee T) (read_rule_term (declared T) (take (k + 1 - 1) (drop 1 t)) s)
+    pub process_in : (s : List ℕ) (q : Answer) → s ≡ last_of m t → q ≡ weighed (declared T) (callee T) (read_rule_term (declared T) (take (k + 1 - 1) (drop 1 t)) s)
         → q ≡ process_weighed (declared T) (callee T) (read_process (declared T) hi t)
     unfolding read_process then row
     process_in s q l w =
@@ -64,12 +63,12 @@ module _ (T t : List ℕ) (hi d x : ℕ) (p : Checked) (e : p ≡ checked (count
         ∙ ap (λ r. process_weighed (declared T) (callee T) (then r after)) (sym (there m h).is)
         ∙ ap (λ n. process_weighed (declared T) (callee T) (then (counted 0 hi (number_of 5 n) t) after)) by_tables
 
-  pub process_out : (k : ℕ) → p ≡ Checked_refused k → Refused k ≡ process_weighed (declared T) (callee T) (read_process (declared T) hi t)
+  pub process_out : (k : Refusal) → p ≡ Err k → Err k ≡ process_weighed (declared T) (callee T) (read_process (declared T) hi t)
   unfolding read_process then process_weighed checked
   process_out k h = go (counted 0 hi (number_of 5 d) t) (sym h ∙ e) ∙ ap (λ n. process_weighed (declared T) (callee T) (then (counted 0 hi (number_of 5 n) t) after)) by_tables
     where
-      go : (r : Read (List ℕ)) → Checked_refused k ≡ checked r → Refused k ≡ process_weighed (declared T) (callee T) (then r after)
-      go (refused j) q = (let z : k ≡ j = cc in ap Refused z)
+      go : (r : Read (List ℕ)) → Err k ≡ checked r → Err k ≡ process_weighed (declared T) (callee T) (then r after)
+      go (refused j) q = (let z : k ≡ refusal j = cc in ap Err z)
       go (taken l u) q = absurd (let z : ◌≡◌ {A = ℕ} 0 1 = cc in omega arith)
 
 -- ── entering it ──
@@ -113,24 +112,24 @@ next_asks T T' t p left w b few room e =
 -- ── all of them ──
 
 -- What is refused was not taken.
-unread : (r : Read RuleSet) (k : ℕ) (Q : RuleSet) (u : List ℕ) → Refused k ≡ main_weighed r → r ≡ taken Q u → ⊥
+unread : (r : Read RuleSet) (k : Refusal) (Q : RuleSet) (u : List ℕ) → Err k ≡ main_weighed r → r ≡ taken Q u → ⊥
 unfolding main_weighed
 unread r k Q u e f =
-    let o : Refused k ≡ main_weighed (taken Q u) = e ∙ ap main_weighed f in
+    let o : Err k ≡ main_weighed (taken Q u) = e ∙ ap main_weighed f in
     let z : ◌≡◌ {A = ℕ} 0 1 = cc in
     omega arith
 
-module _ (T t : List ℕ) (hi : ℕ) (q : Weighed) (e : q ≡ process_weighed (declared T) (callee T) (read_process (declared T) hi t)) where
-  pub all_refused : (n k : ℕ) → 1 ≤ n → hi ≡ parameter_limit (n - 1) → q ≡ Refused k → ProcessesRead t T n (Refused k) T
+module _ (T t : List ℕ) (hi : ℕ) (q : Answer) (e : q ≡ process_weighed (declared T) (callee T) (read_process (declared T) hi t)) where
+  pub all_refused : (n : ℕ) (k : Refusal) → 1 ≤ n → hi ≡ parameter_limit (n - 1) → q ≡ Err k → ProcessesRead t T n (Err k) T
   all_refused zero k l h f = absurd (let z : ⊥ = omega arith in z)
   all_refused (suc n) k l h f =
       let z : hi ≡ parameter_limit n = h ∙ ap parameter_limit (sub-one (suc n)) in
-      let a : (R : RuleSet) → Declares T R → Refused k ≡ main_weighed (read_processes (suc n) R t) =
+      let a : (R : RuleSet) → Declares T R → Err k ≡ main_weighed (read_processes (suc n) R t) =
       processes_refused T t n k (sym f ∙ e ∙ ap (λ j. process_weighed (declared T) (callee T) (read_process (declared T) j t)) z) in
       record { answer = λ R d narrow. a R d; same_length = refl; placed = λ whole R Q u tl p narrow g. absurd (unread (read_processes (suc n) R t) k Q u (a R p.declares) g) }
 
-  module _ (n m : ℕ) (w : Weight) (h : hi ≡ parameter_limit n) (f : q ≡ Found m w) where
-    was : Found m w ≡ process_weighed (declared T) (callee T) (read_process (declared T) (parameter_limit n) t)
+  module _ (n m : ℕ) (w : Weight) (h : hi ≡ parameter_limit n) (f : q ≡ found m w) where
+    was : found m w ≡ process_weighed (declared T) (callee T) (read_process (declared T) (parameter_limit n) t)
     was = sym f ∙ e ∙ ap (λ j. process_weighed (declared T) (callee T) (read_process (declared T) j t)) h
 
     pub all_front : hi ≤ 4 → (get_or t 0 0 ≤ 4) × (get_or t 0 0 + 1 ≤ length t)
@@ -147,14 +146,14 @@ module _ (T t : List ℕ) (hi : ℕ) (q : Weighed) (e : q ≡ process_weighed (d
       asks : (length T' ≡ length T) × (get_or T' 211 0 ≡ p + 1) × Bounded T'
       asks = next_asks T T' t p (length t - (x + 1)) w b (all_front small).0 room en
 
-      one_last : n ≡ 0 → ProcessesRead t T (suc n) (Found m w) T'
+      one_last : n ≡ 0 → ProcessesRead t T (suc n) (found m w) T'
       one_last z = record {
         answer = λ R d narrow. last_answers T t n m w was R d p T' b narrow count room entered z;
         same_length = asks.0;
         placed = λ whole R Q u tl o narrow g. last_placed T t n m w was R o.declares p T' b narrow count room entered z whole Q u tl o.rows g;
       }
 
-      one_next : (r T'' : List ℕ) (v : Weighed) → r ≡ last_of m t → ProcessesRead r T' n v T'' → ProcessesRead t T (suc n) v T''
+      one_next : (r T'' : List ℕ) (v : Answer) → r ≡ last_of m t → ProcessesRead r T' n v T'' → ProcessesRead t T (suc n) v T''
       one_next r T'' v rest next = record {
         answer = λ R d narrow. next_answers T t n m w was R d p T' b narrow count room entered r rest v next.answer;
         same_length = next.same_length ∙ asks.0;
@@ -162,13 +161,13 @@ module _ (T t : List ℕ) (hi : ℕ) (q : Weighed) (e : q ≡ process_weighed (d
             (λ P S y z k. next.placed whole P S u (tail_on r t whole tl (subst (λ y. Tail y t) (sym rest) (last_tail m t))) y z k);
       }
 
-  pub all_last : (n m p x : ℕ) (w : Weight) (T' : List ℕ) → n ≡ 1 → hi ≡ parameter_limit (n - 1) → hi ≤ 4 → q ≡ Found m w → Bounded T → get_or T 211 0 ≡ p → 212 + 9 * (n + p) ≤ length T → x ≡ get_or t 0 0
-      → T' ≡ entered_process T p (take (get_or t 0 0 + 1) t) w.size w.reach w.breadth (length t - (x + 1)) → ProcessesRead t T n (Found m w) T'
+  pub all_last : (n m p x : ℕ) (w : Weight) (T' : List ℕ) → n ≡ 1 → hi ≡ parameter_limit (n - 1) → hi ≤ 4 → q ≡ found m w → Bounded T → get_or T 211 0 ≡ p → 212 + 9 * (n + p) ≤ length T → x ≡ get_or t 0 0
+      → T' ≡ entered_process T p (take (get_or t 0 0 + 1) t) w.size w.reach w.breadth (length t - (x + 1)) → ProcessesRead t T n (found m w) T'
   all_last n m p x w T' o h small f b count room i en =
       let z : n - 1 ≡ 0 = omega arith in
-      subst (λ y. ProcessesRead t T y (Found m w) T') (sym o) (one_last 0 m w (h ∙ ap parameter_limit z) f p x T' small b count (omega arith) i en refl)
+      subst (λ y. ProcessesRead t T y (found m w) T') (sym o) (one_last 0 m w (h ∙ ap parameter_limit z) f p x T' small b count (omega arith) i en refl)
 
-  pub all_next : (n m p x : ℕ) (w : Weight) (T' r T'' : List ℕ) (v : Weighed) → 1 ≤ n → hi ≡ parameter_limit (n - 1) → hi ≤ 4 → q ≡ Found m w → Bounded T → get_or T 211 0 ≡ p → 212 + 9 * (n + p) ≤ length T → x ≡ get_or t 0 0
+  pub all_next : (n m p x : ℕ) (w : Weight) (T' r T'' : List ℕ) (v : Answer) → 1 ≤ n → hi ≡ parameter_limit (n - 1) → hi ≤ 4 → q ≡ found m w → Bounded T → get_or T 211 0 ≡ p → 212 + 9 * (n + p) ≤ length T → x ≡ get_or t 0 0
       → T' ≡ entered_process T p (take (get_or t 0 0 + 1) t) w.size w.reach w.breadth (length t - (x + 1)) → r ≡ last_of m t → ProcessesRead r T' (n - 1) v T'' → ProcessesRead t T n v T''
   all_next zero m p x w T' r T'' v l h small f b count room i en rest next = absurd (let z : ⊥ = omega arith in z)
   all_next (suc n) m p x w T' r T'' v l h small f b count room i en rest next =

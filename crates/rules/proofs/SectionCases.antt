@@ -9,17 +9,13 @@ use Rattle.eb3.specs.Generic.AllLists.{All}
 use Rattle.eb3.specs.Editions.{edition_1}
 use Rattle.eb3.specs.RuleSets.{Function, RuleSet}
 use Rattle.eb3.specs.RuleSpelling.{one_word}
-use Rattle.eb3.specs.Reading.{Read, refused, taken, Reader, then, count_of, number_of, repeat, counted}
+use Rattle.eb3.specs.Reading.{Read, taken, Reader, then, count_of, number_of, repeat, counted}
 use Rattle.eb3.specs.RuleReading.{read_domains, read_labels, read_processes, without_processes, read_rules}
 use Rattle.eb3.proofs.Laws.Reading.{Sound, count_sound}
-use Rattle.scan.specs.declared.Checked.{Checked}
-use Rattle.scan.specs.declared.Checked.TheVariants.{Left, Refused as Checked_refused}
-use Rattle.scan.specs.Checking.{checked, last_of}
+use Rattle.scan.specs.Checking.{checked, last_of, Checked}
 use Rattle.scan.specs.Laws.{Tail, tail_on, number_ends, got, last_tail}
-use Rattle.scan.specs.ReadingLaws.{checked_refused, then_refused, then_taken, not_taken}
+use Rattle.scan.specs.ReadingLaws.{checked_refused, then_refused, then_taken, not_taken, RefusedAs, same_refused}
 use Rattle.scan.specs.RowLaws.{count_word, repeat_ends, counted_ends}
-use Rattle.rule_terms.specs.declared.Weighed.{Weighed}
-use Rattle.rule_terms.specs.declared.Weighed.TheVariants.{Refused}
 use Rattle.arguments.specs.Tables.{row, declared}
 use Rattle.arguments.specs.TableLaws.{domains_length}
 use Rattle.declarations.specs.Entering.{put_rows, Entered}
@@ -29,29 +25,31 @@ use Rattle.declarations.specs.ProcessLaws.{Bounded, set_bounded}
 use Rattle.declarations.specs.Rows.{RowAt, domains_row}
 use Rattle.declarations.specs.SectionFacts.{labels_read}
 use Rattle.rules.specs.declared.Rules.{Rules}
-use Rattle.rules.specs.declared.Rules.TheVariants.{Refused as Rules_refused}
 use Rattle.rules.specs.Filling.{ProcessesRead, ProcessSectionRead, FunctionSectionRead, LabelSectionRead, RulesRead}
 use Rattle.rules.specs.Sections.{main_weighed, rules_weighed, process_section, function_section, label_section}
+use Rattle.std.specs.Prelude.{Ok, Err, Result}
+use Rattle.refusals.specs.declared.Refusal.{Refusal}
+use Rattle.rule_terms.specs.Weighed.{Answer}
 
 -- ── counts and refusals ──
 
-pub count_between : (lo hi m x : ℕ) (t : List ℕ) (p : Checked) → p ≡ checked (count_of lo hi t) → p ≡ Left m → x ≡ get_or t 0 0 → (lo ≤ x) × (x ≤ hi)
+pub count_between : (lo hi m x : ℕ) (t : List ℕ) (p : Checked) → p ≡ checked (count_of lo hi t) → p ≡ Ok m → x ≡ get_or t 0 0 → (lo ≤ x) × (x ≤ hi)
 count_between lo hi m x t p e h i =
     let s = subst (Sound one_word (λ n. (lo ≤ n) × (n ≤ hi)) t) (count_word lo hi m t (sym h ∙ e)) (count_sound lo hi t) in
     (omega (arith, s.1.0, i), omega (arith, s.1.1, i))
 
-main_out : {A : Type 0} (r : Read A) (g : A → Reader RuleSet) (k : ℕ) → r ≡ refused k → Refused k ≡ main_weighed (then r g)
+main_out : {A : Type 0} (r : Read A) (g : A → Reader RuleSet) (k : Refusal) → RefusedAs k r → Err k ≡ main_weighed (then r g)
 unfolding then main_weighed
-main_out r g k e = rw e
+main_out r g k h = rw h.read (ap Err h.named)
 
-pub rules_out : {A : Type 0} (r : Read A) (g : A → Reader RuleSet) (k : ℕ) → r ≡ refused k → Rules_refused k ≡ rules_weighed (then r g)
+pub rules_out : {A : Type 0} (r : Read A) (g : A → Reader RuleSet) (k : Refusal) → RefusedAs k r → Err k ≡ rules_weighed (then r g)
 unfolding then rules_weighed
-rules_out r g k e = rw e
+rules_out r g k h = rw h.read (ap Err h.named)
 
 -- ── processes ──
 
 module _ (T t : List ℕ) (p : Checked) (e : p ≡ checked (count_of 1 32 t)) where
-  pub section_out : (k : ℕ) → p ≡ Checked_refused k → ProcessSectionRead t T (Refused k) T
+  pub section_out : (k : Refusal) → p ≡ Err k → ProcessSectionRead t T (Err k) T
   unfolding process_section
   section_out k h =
       let r = checked_refused (count_of 1 32 t) k (sym h ∙ e) in
@@ -61,7 +59,7 @@ module _ (T t : List ℕ) (p : Checked) (e : p ≡ checked (count_of 1 32 t)) wh
         placed = λ whole ds ls fs R u tl z g. absurd (not_taken (process_section ds ls fs t) k R u (then_refused (count_of 1 32 t) _ k r) g);
       }
 
-  pub section_in : (m n : ℕ) (r T' : List ℕ) (q : Weighed) → 212 ≤ length T → Bounded T → p ≡ Left m → n ≡ get_or t 0 0 → r ≡ last_of m t → ProcessesRead r (set T 211 0) n q T' → ProcessSectionRead t T q T'
+  pub section_in : (m n : ℕ) (r T' : List ℕ) (q : Answer) → 212 ≤ length T → Bounded T → p ≡ Ok m → n ≡ get_or t 0 0 → r ≡ last_of m t → ProcessesRead r (set T 211 0) n q T' → ProcessSectionRead t T q T'
   unfolding process_section
   section_in m n r T' q room b h i l k =
       let start : (ds : List ℕ) (ls : List (List ℕ)) (fs : List Function) → Tables T ds ls fs → Declares (set T 211 0) (without_processes edition_1 ds ls fs) =
@@ -76,7 +74,7 @@ module _ (T t : List ℕ) (p : Checked) (e : p ≡ checked (count_of 1 32 t)) wh
             k.placed whole (without_processes edition_1 ds ls fs) R u (tail_on r t whole tl (subst (λ y. Tail y t) (sym l) (last_tail m t))) (record { declares = start ds ls fs z; rows = tt }) tt (sym (same ds ls fs) ∙ g);
       }
 
-  pub section_asks : (m n : ℕ) → length T ≡ 500 → Bounded T → p ≡ Left m → n ≡ get_or t 0 0 → (1 ≤ n) × (212 + 9 * (n + 0) ≤ length (set T 211 0)) × (n + 0 < 65536) × (get_or (set T 211 0) 211 0 ≡ 0) × Bounded (set T 211 0)
+  pub section_asks : (m n : ℕ) → length T ≡ 500 → Bounded T → p ≡ Ok m → n ≡ get_or t 0 0 → (1 ≤ n) × (212 + 9 * (n + 0) ≤ length (set T 211 0)) × (n + 0 < 65536) × (get_or (set T 211 0) 211 0 ≡ 0) × Bounded (set T 211 0)
   section_asks m n s b h i =
       let c = count_between 1 32 m n t p e h i in
       (c.0, omega (arith, c.1, length-set T 211 0), omega (arith, c.1), get_or-set_same T 211 0 0 (omega arith), set_bounded T 211 0 (omega arith) (omega arith) b)
@@ -87,10 +85,10 @@ abbrev label_of : ℕ → Reader (List ℕ)
 label_of d = counted 0 2 (number_of 5 d)
 
 module _ (T t : List ℕ) (p : Checked) (e : p ≡ checked (count_of 1 64 t)) where
-  pub labels_none : (D : List ℕ) (k : ℕ) → p ≡ Checked_refused k → LabelSectionRead t T D (Rules_refused k) T D
+  pub labels_none : (D : List ℕ) (k : Refusal) → p ≡ Err k → LabelSectionRead t T D (Err k) T D
   unfolding label_section counted
   labels_none D k h =
-      let r : (ds : List ℕ) → read_labels (length ds) t ≡ refused k = λ ds. then_refused (count_of 1 64 t) _ k (checked_refused (count_of 1 64 t) k (sym h ∙ e)) in
+      let r : (ds : List ℕ) → RefusedAs k (read_labels (length ds) t) = λ ds. then_refused (count_of 1 64 t) _ k (checked_refused (count_of 1 64 t) k (sym h ∙ e)) in
       record {
         answer = λ ds z. rules_out (read_labels (length ds) t) _ k (r ds);
         same_tables = refl;
@@ -98,7 +96,7 @@ module _ (T t : List ℕ) (p : Checked) (e : p ≡ checked (count_of 1 64 t)) wh
         filled = λ ds z whole R u tl small g room. absurd (not_taken (label_section ds t) k R u (then_refused (read_labels (length ds) t) _ k (r ds)) g);
       }
 
-  module _ (m n x d y : ℕ) (s : length T ≡ 500) (few : get_or T 0 0 ≤ 16) (h : p ≡ Left m) (i : n ≡ get_or t 0 0) (f : x ≡ n) (fd : d ≡ y) (fy : y ≡ get_or (set T 17 x) 0 0) where
+  module _ (m n x d y : ℕ) (s : length T ≡ 500) (few : get_or T 0 0 ≤ 16) (h : p ≡ Ok m) (i : n ≡ get_or t 0 0) (f : x ≡ n) (fd : d ≡ y) (fy : y ≡ get_or (set T 17 x) 0 0) where
     pub labels_asks : 18 + 3 * n ≤ length (set T 17 x)
     labels_asks = omega (arith, count_between 1 64 m n t p e h i, length-set T 17 x)
 
@@ -110,10 +108,10 @@ module _ (T t : List ℕ) (p : Checked) (e : p ≡ checked (count_of 1 64 t)) wh
           then_taken (count_of 1 64 t) (λ n. repeat n (label_of (length ds))) (get_or t 0 0) (last_of m t) (count_word 1 64 m t (sym h ∙ e))
           ∙ (λ j. repeat (sym i j) (label_of (c j)) (sym l j))
 
-      labels_refused : (k : ℕ) → r ≡ Checked_refused k → (ds : List ℕ) → (declared T).domains ≡ ds → read_labels (length ds) t ≡ refused k
-      labels_refused k q ds z = labels_read_are ds z ∙ checked_refused (repeat n (label_of d) u) k (sym q ∙ entered.answer)
+      labels_refused : (k : Refusal) → r ≡ Err k → (ds : List ℕ) → (declared T).domains ≡ ds → RefusedAs k (read_labels (length ds) t)
+      labels_refused k q ds z = same_refused _ _ k (labels_read_are ds z) (checked_refused (repeat n (label_of d) u) k (sym q ∙ entered.answer))
 
-      module _ (j : ℕ) (q : r ≡ Left j) where
+      module _ (j : ℕ) (q : r ≡ Ok j) where
         labels_got : (ls : List (List ℕ)) × (repeat n (label_of d) u ≡ taken ls (last_of j u))
         labels_got = got (repeat n (label_of d)) (repeat_ends n (label_of d) (counted_ends 0 2 (number_of 5 d) (number_ends 5 d))) u j r entered.answer q
 
@@ -143,7 +141,7 @@ module _ (T t : List ℕ) (p : Checked) (e : p ≡ checked (count_of 1 64 t)) wh
         unfolding label_section
         section_by v o ds z = then_taken (read_labels (length ds) t) (λ ls. function_section ds ls) labels_got.0 (last_of j u) (labels_read_are ds z ∙ labels_got.1) ∙ ap (function_section ds labels_got.0) (sym o)
 
-        labels_go : (v T'' D D' : List ℕ) (w : Rules) → v ≡ last_of j u → FunctionSectionRead v T' D w T'' D' → LabelSectionRead t T D w T'' D'
+        labels_go : (v T'' D D' : List ℕ) (w : Result Rules Refusal) → v ≡ last_of j u → FunctionSectionRead v T' D w T'' D' → LabelSectionRead t T D w T'' D'
         labels_go v T'' D D' w o k = record {
           answer = λ ds z. k.answer ds labels_got.0 (heads_for ds z) ∙ sym (ap rules_weighed (section_by v o ds z));
           same_tables = k.same_tables ∙ entered.same_length ∙ length-set T 17 x;
@@ -152,7 +150,7 @@ module _ (T t : List ℕ) (p : Checked) (e : p ≡ checked (count_of 1 64 t)) wh
               (tail_on v u whole (tail_on u t whole tl (subst (λ y. Tail y t) (sym l) (last_tail m t))) (subst (λ y. Tail y u) (sym o) (last_tail j u))) small (sym (section_by v o ds z) ∙ g) room;
         }
 
-    pub labels_out : (u T' D : List ℕ) (r : Checked) (k : ℕ) → u ≡ last_of m t → Entered u (set T 17 x) n 18 d r T' → r ≡ Checked_refused k → LabelSectionRead t T D (Rules_refused k) T' D
+    pub labels_out : (u T' D : List ℕ) (r : Checked) (k : Refusal) → u ≡ last_of m t → Entered u (set T 17 x) n 18 d r T' → r ≡ Err k → LabelSectionRead t T D (Err k) T' D
     unfolding label_section
     labels_out u T' D r k l en q = record {
       answer = λ ds z. rules_out (read_labels (length ds) t) _ k (labels_refused u l r T' en k q ds z);
@@ -161,16 +159,16 @@ module _ (T t : List ℕ) (p : Checked) (e : p ≡ checked (count_of 1 64 t)) wh
       filled = λ ds z whole R c tl small g room. absurd (not_taken (label_section ds t) k R c (then_refused (read_labels (length ds) t) _ k (labels_refused u l r T' en k q ds z)) g);
     }
 
-    pub labels_bounded : (u T' : List ℕ) (r : Checked) (j : ℕ) → u ≡ last_of m t → Entered u (set T 17 x) n 18 d r T' → r ≡ Left j → (length T' ≡ 500) × Bounded T'
+    pub labels_bounded : (u T' : List ℕ) (r : Checked) (j : ℕ) → u ≡ last_of m t → Entered u (set T 17 x) n 18 d r T' → r ≡ Ok j → (length T' ≡ 500) × Bounded T'
     labels_bounded u T' r j l en q = (en.same_length ∙ length-set T 17 x ∙ s, bounded u l r T' en j q)
 
-    pub labels_in : (u v T' T'' D D' : List ℕ) (r : Checked) (j : ℕ) (w : Rules) → u ≡ last_of m t → Entered u (set T 17 x) n 18 d r T' → r ≡ Left j → v ≡ last_of j u → FunctionSectionRead v T' D w T'' D' → LabelSectionRead t T D w T'' D'
+    pub labels_in : (u v T' T'' D D' : List ℕ) (r : Checked) (j : ℕ) (w : Result Rules Refusal) → u ≡ last_of m t → Entered u (set T 17 x) n 18 d r T' → r ≡ Ok j → v ≡ last_of j u → FunctionSectionRead v T' D w T'' D' → LabelSectionRead t T D w T'' D'
     labels_in u v T' T'' D D' r j w l en q o k = labels_go u l r T' en j q v T'' D D' w o k
 
 -- ── the whole ──
 
 module _ (T t : List ℕ) (p : Checked) (e : p ≡ checked (read_domains t)) where
-  pub read_out : (D : List ℕ) (k : ℕ) → p ≡ Checked_refused k → RulesRead t T D (Rules_refused k) T D
+  pub read_out : (D : List ℕ) (k : Refusal) → p ≡ Err k → RulesRead t T D (Err k) T D
   unfolding read_rules
   read_out D k h =
       let r = checked_refused (read_domains t) k (sym h ∙ e) in
@@ -181,7 +179,7 @@ module _ (T t : List ℕ) (p : Checked) (e : p ≡ checked (read_domains t)) whe
         directory = λ R u g room. absurd (not_taken (read_rules edition_1 t) k R u (then_refused (read_domains t) _ k r) g);
       }
 
-  module _ (m k : ℕ) (s : length T ≡ 500) (h : p ≡ Left m) (i : k ≡ get_or t 0 0) where
+  module _ (m k : ℕ) (s : length T ≡ 500) (h : p ≡ Ok m) (i : k ≡ get_or t 0 0) where
     domains_here : RowAt 16 t (read_domains t) m
     domains_here = domains_row m t p e h
 
@@ -205,7 +203,7 @@ module _ (T t : List ℕ) (p : Checked) (e : p ≡ checked (read_domains t)) whe
       unfolding read_rules label_section function_section process_section
       whole_is v o = then_taken (read_domains t) (λ ds. label_section ds) (row t 0) (last_of m t) domains_here.is ∙ ap (label_section (row t 0)) (sym o)
 
-      pub read_in : (v T'' D D' : List ℕ) (w : Rules) → length t ≤ 65535 → v ≡ last_of m t → LabelSectionRead v T' D w T'' D' → RulesRead t T D w T'' D'
+      pub read_in : (v T'' D D' : List ℕ) (w : Result Rules Refusal) → length t ≤ 65535 → v ≡ last_of m t → LabelSectionRead v T' D w T'' D' → RulesRead t T D w T'' D'
       read_in v T'' D D' w short o g = record {
         answer = g.answer (row t 0) named ∙ sym (ap rules_weighed (whole_is v o));
         same_tables = g.same_tables ∙ ap length c ∙ length-paste T 0 t (k + 1) read_copies.0 read_copies.1;

@@ -1,6 +1,6 @@
 -- One process read and entered, then the rest: what the check of the processes answers, case by case.
 -- Document 01, "Blocks and the rule stream", items 2 to 5; refusals 4 to 6.
-use Rattle.std.specs.Prelude.{◌≡◌, refl, List, [], ◌∷◌, ℕ, zero, suc, ◌+◌, ◌-◌, ◌*◌, ◌≤◌, length, get_or, take}
+use Rattle.std.specs.Prelude.{◌≡◌, refl, List, [], ◌∷◌, ℕ, zero, suc, ◌+◌, ◌-◌, ◌*◌, ◌≤◌, length, get_or, take, Ok, Err}
 use Rattle.std.proofs.Math.Path.{ap, sym, subst}
 use Rattle.std.proofs.Common.{◌∙◌, arith, length-append}
 use Rattle.eb3.specs.RuleSets.{Process, RuleSet, main_process, process}
@@ -16,8 +16,6 @@ use Rattle.scan.specs.Checking.{last_of}
 use Rattle.scan.specs.Laws.{Tail, Fine, Ends, then_fine, giving_fine, tail_at, tail_short, number_ends}
 use Rattle.scan.specs.RowLaws.{counted_ends}
 use Rattle.rule_terms.specs.Laws.{term_ends}
-use Rattle.rule_terms.specs.declared.Weighed.{Weighed}
-use Rattle.rule_terms.specs.declared.Weighed.TheVariants.{Found, Refused}
 use Rattle.arguments.specs.Tables.{declared, callee}
 use Rattle.arguments.specs.TableLaws.{width_declared}
 use Rattle.declarations.specs.Declaring.{Declares, entered_process}
@@ -28,35 +26,38 @@ use Rattle.declarations.specs.Regions.{count_of_same}
 use Rattle.declarations.specs.ProcessLaws.{process_alike, term_alike, Front, process_front, Bounded, Narrow, narrow_next, next_declares}
 use Rattle.rules.specs.Filling.{Placed}
 use Rattle.rules.specs.Sections.{process_weighed, main_weighed}
+use Rattle.rule_terms.specs.Weighed.{Answer, found}
+use Rattle.scan.specs.ReadingLaws.{RefusedAs}
+use Rattle.refusals.specs.declared.Refusal.{Refusal}
 
-abbrev IsFound : Weighed → Type 0
-IsFound (Found n w) = Unit
-IsFound (Refused k) = ⊥
+abbrev IsFound : Answer → Type 0
+IsFound (Ok a) = Unit
+IsFound (Err k) = ⊥
 
-abbrev number_in : ℕ → Weighed → ℕ
-number_in d (Found n w) = d
-number_in d (Refused k) = k
+abbrev refusal_in : Refusal → Answer → Refusal
+refusal_in d (Ok a) = d
+refusal_in d (Err k) = k
 
-abbrev left_in : Weighed → ℕ
-left_in (Found n w) = n
-left_in (Refused k) = 0
+abbrev left_in : Answer → ℕ
+left_in (Ok a) = a.left
+left_in (Err k) = 0
 
-abbrev weight_in : Weight → Weighed → Weight
-weight_in d (Found n w) = w
-weight_in d (Refused k) = d
+abbrev weight_in : Weight → Answer → Weight
+weight_in d (Ok a) = a.weight
+weight_in d (Err k) = d
 
 -- What an answer says of the reading behind it.
 abbrev Reads : RuleSet → (ℕ → Measure) → Read Process → ℕ → Weight → Type 0
 Reads R M r n w = (P : Process) × (u : List ℕ) × (r ≡ taken P u) × (n ≡ length u) × (measure w ≡ measure_term (sat cap) R M P.term)
 
-pub found_reads : (R : RuleSet) (M : ℕ → Measure) (r : Read Process) (n : ℕ) (w : Weight) → Found n w ≡ process_weighed R M r → Reads R M r n w
+pub found_reads : (R : RuleSet) (M : ℕ → Measure) (r : Read Process) (n : ℕ) (w : Weight) → found n w ≡ process_weighed R M r → Reads R M r n w
 unfolding process_weighed
 found_reads R M (refused k) n w e = absurd (subst IsFound e tt)
 found_reads R M (taken P u) n w e = (P, u, refl, ap left_in e, ap (λ x. measure (weight_in w x)) e)
 
-pub refused_reads : (R : RuleSet) (M : ℕ → Measure) (r : Read Process) (k : ℕ) → Refused k ≡ process_weighed R M r → r ≡ refused k
+pub refused_reads : (R : RuleSet) (M : ℕ → Measure) (r : Read Process) (k : Refusal) → Err k ≡ process_weighed R M r → RefusedAs k r
 unfolding process_weighed
-refused_reads R M (refused j) k e = ap refused (sym (ap (number_in k) e))
+refused_reads R M (refused j) k e = record { code = j; read = refl; named = ap (refusal_in k) e }
 refused_reads R M (taken P u) k e = absurd (subst IsFound (sym e) tt)
 
 -- What is left of words that were read is their end.
@@ -86,15 +87,15 @@ module _ (T t : List ℕ) (n : ℕ) where
   abbrev first_process : Read Process
   first_process = read_process (declared T) (parameter_limit n) t
 
-  -- Refused,
-  pub processes_refused : (k : ℕ) → Refused k ≡ process_weighed (declared T) (callee T) first_process
-      → (R : RuleSet) → Declares T R → Refused k ≡ main_weighed (read_processes (suc n) R t)
+  -- A refusal,
+  pub processes_refused : (k : Refusal) → Err k ≡ process_weighed (declared T) (callee T) first_process
+      → (R : RuleSet) → Declares T R → Err k ≡ main_weighed (read_processes (suc n) R t)
   unfolding read_processes then main_weighed
   processes_refused k e R d =
-      let q = sym (process_alike T R d (parameter_limit n) t) ∙ refused_reads (declared T) (callee T) first_process k e in
-      sym (ap (λ r. main_weighed (then r λ P. read_processes n (with_process R P))) q)
+      let q = refused_reads (declared T) (callee T) first_process k e in
+      ap Err q.named ∙ sym (ap (λ r. main_weighed (then r λ P. read_processes n (with_process R P))) (sym (process_alike T R d (parameter_limit n) t) ∙ q.read))
 
-  module _ (m : ℕ) (w : Weight) (e : Found m w ≡ process_weighed (declared T) (callee T) first_process) where
+  module _ (m : ℕ) (w : Weight) (e : found m w ≡ process_weighed (declared T) (callee T) first_process) where
     abbrev got : Reads (declared T) (callee T) first_process m w
     got = found_reads (declared T) (callee T) first_process m w e
 
@@ -158,10 +159,10 @@ module _ (T t : List ℕ) (n : ℕ) where
             }
 
         -- the last: it is main;
-        pub last_answers : n ≡ 0 → Found m w ≡ main_weighed (read_processes (suc n) R t)
+        pub last_answers : n ≡ 0 → found m w ≡ main_weighed (read_processes (suc n) R t)
         unfolding read_processes main_weighed
         last_answers z =
-            let q : Found m w ≡ main_weighed (taken (with_process R got.0) got.1) = λ i. Found (got.3 i) (weight ((weighs ∙ sym (main_read R got.0)) i)) in
+            let q : found m w ≡ main_weighed (taken (with_process R got.0) got.1) = λ i. found (got.3 i) (weight ((weighs ∙ sym (main_read R got.0)) i)) in
             q ∙ (ap (λ k. main_weighed (read_processes k (with_process R got.0) got.1)) (sym z) ∙ sym (ap main_weighed rest_reads))
 
         pub last_placed : n ≡ 0 → (whole : List ℕ) (Q : RuleSet) (u : List ℕ) → Tail t whole → ProcessRows whole T 0 R.processes → read_processes (suc n) R t ≡ taken Q u → Placed whole T' Q
@@ -175,7 +176,7 @@ module _ (T t : List ℕ) (n : ℕ) where
           left : r ≡ got.1
           left = rest ∙ sym (process_left (declared T) (parameter_limit n) t got.0 got.1 m got.2 got.3)
 
-          pub next_answers : (q : Weighed) → ((Q : RuleSet) → Declares T' Q → Narrow Q → q ≡ main_weighed (read_processes n Q r)) → q ≡ main_weighed (read_processes (suc n) R t)
+          pub next_answers : (q : Answer) → ((Q : RuleSet) → Declares T' Q → Narrow Q → q ≡ main_weighed (read_processes n Q r)) → q ≡ main_weighed (read_processes (suc n) R t)
           next_answers q next = next (with_process R got.0) grown grown_narrow ∙ ap (λ u. main_weighed (read_processes n (with_process R got.0) u)) left ∙ sym (ap main_weighed rest_reads)
 
           pub next_placed : (T'' whole : List ℕ) (Q : RuleSet) (u : List ℕ) → Tail t whole → ProcessRows whole T 0 R.processes → read_processes (suc n) R t ≡ taken Q u

@@ -1,6 +1,6 @@
 -- From what the check of a rule set answers to what Admit answers of its words: the end, then main's measures.
 -- Document 01, "Blocks and the rule stream", items 2 to 5; refusals 4 to 6.
-use Rattle.std.specs.Prelude.{◌≡◌, refl, List, ℕ, ◌≤◌, ◌<◌, T, ltb, length}
+use Rattle.std.specs.Prelude.{◌≡◌, refl, List, ℕ, ◌≤◌, ◌<◌, T, ltb, length, Ok, Err, Result}
 use Rattle.std.proofs.Math.Path.{ap}
 use Rattle.std.proofs.Common.{sym, ◌∙◌, subst, arith, ltb→lt, lt→ltb}
 use Rattle.eb3.specs.Refusal
@@ -26,28 +26,29 @@ use Rattle.weights.specs.declared.Weight.{Weight}
 use Rattle.scan.specs.Checking.{last_of}
 use Rattle.scan.specs.Laws.{behind_part}
 use Rattle.rules.specs.declared.Rules.{Rules}
-use Rattle.rules.specs.declared.Rules.TheVariants.{Found, Refused}
-use Rattle.rules.specs.Sections.{rules_weighed}
+use Rattle.rules.specs.Sections.{rules_weighed, found_rules}
+use Rattle.refusals.specs.Numbers.{refusal}
+use Rattle.refusals.specs.declared.Refusal.{Refusal}
 
-abbrev IsFound : Rules → Type 0
-IsFound (Found n c w) = Unit
-IsFound (Refused k) = ⊥
+abbrev IsFound : Result Rules Refusal → Type 0
+IsFound (Ok a) = Unit
+IsFound (Err k) = ⊥
 
-abbrev number_in : ℕ → Rules → ℕ
-number_in d (Found n c w) = d
-number_in d (Refused k) = k
+abbrev refusal_in : Refusal → Result Rules Refusal → Refusal
+refusal_in d (Ok a) = d
+refusal_in d (Err k) = k
 
-abbrev left_in : Rules → ℕ
-left_in (Found n c w) = n
-left_in (Refused k) = 0
+abbrev left_in : Result Rules Refusal → ℕ
+left_in (Ok a) = a.left
+left_in (Err k) = 0
 
-abbrev cells_in : Rules → ℕ
-cells_in (Found n c w) = c
-cells_in (Refused k) = 0
+abbrev cells_in : Result Rules Refusal → ℕ
+cells_in (Ok a) = a.cells
+cells_in (Err k) = 0
 
-abbrev weight_in : Weight → Rules → Weight
-weight_in d (Found n c w) = w
-weight_in d (Refused k) = d
+abbrev weight_in : Weight → Result Rules Refusal → Weight
+weight_in d (Ok a) = a.weight
+weight_in d (Err k) = d
 
 -- What an answer says of the reading behind it.
 pub record Whole (t : List ℕ) (r : Read RuleSet) (left cells : ℕ) (w : Weight) : Type 0 where
@@ -60,7 +61,7 @@ pub record Whole (t : List ℕ) (r : Read RuleSet) (left cells : ℕ) (w : Weigh
   pub few : cells ≤ 1024
   pub weighs : measure w ≡ measure_main (sat cap) R
 
-whole_by : (t : List ℕ) (r : Read RuleSet) → Sound rules_words (FormOf edition_1) t r → (left cells : ℕ) (w : Weight) → Found left cells w ≡ rules_weighed r → Whole t r left cells w
+whole_by : (t : List ℕ) (r : Read RuleSet) → Sound rules_words (FormOf edition_1) t r → (left cells : ℕ) (w : Weight) → found_rules left cells w ≡ rules_weighed r → Whole t r left cells w
 unfolding rules_weighed
 whole_by t (refused k) s left cells w e = absurd (subst IsFound e tt)
 whole_by t (taken R rest) s left cells w e =
@@ -78,18 +79,18 @@ whole_by t (taken R rest) s left cells w e =
     }
 
 module _ (t : List ℕ) where
-  pub rules_found : (left cells : ℕ) (w : Weight) → Found left cells w ≡ rules_weighed (read_rules edition_1 t) → Whole t (read_rules edition_1 t) left cells w
+  pub rules_found : (left cells : ℕ) (w : Weight) → found_rules left cells w ≡ rules_weighed (read_rules edition_1 t) → Whole t (read_rules edition_1 t) left cells w
   rules_found left cells w e = whole_by t (read_rules edition_1 t) (rules_sound edition_1 edition_1_defined t) left cells w e
 
-  pub rules_refused : (k : ℕ) → Refused k ≡ rules_weighed (read_rules edition_1 t) → whole_of (read_rules edition_1 t) ≡ Answer.refused k
+  pub rules_refused : (k : Refusal) → Err k ≡ rules_weighed (read_rules edition_1 t) → (j : ℕ) × (whole_of (read_rules edition_1 t) ≡ Answer.refused j) × (k ≡ refusal j)
   unfolding rules_weighed
   rules_refused k e = go (read_rules edition_1 t) e
     where
-      go : (r : Read RuleSet) → Refused k ≡ rules_weighed r → whole_of r ≡ Answer.refused k
-      go (refused j) e = whole_refused j ∙ ap Answer.refused (sym (ap (number_in k) e))
+      go : (r : Read RuleSet) → Err k ≡ rules_weighed r → (j : ℕ) × (whole_of r ≡ Answer.refused j) × (k ≡ refusal j)
+      go (refused j) e = (j, whole_refused j, ap (refusal_in k) e)
       go (taken R rest) e = absurd (subst IsFound (sym e) tt)
 
-  module _ (left cells : ℕ) (w : Weight) (e : Found left cells w ≡ rules_weighed (read_rules edition_1 t)) where
+  module _ (left cells : ℕ) (w : Weight) (e : found_rules left cells w ≡ rules_weighed (read_rules edition_1 t)) where
     abbrev F : Whole t (read_rules edition_1 t) left cells w
     F = rules_found left cells w e
 

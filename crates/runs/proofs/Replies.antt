@@ -2,7 +2,8 @@
 -- (document 01, "Memory and the history machine"; "Operations": Run).
 use mathlib.Core.Path.{◌≡◌, refl, sym, ap, ◌∙◌, subst}
 use mathlib.Core.List.{List, [], ◌∷◌, map}
-use mathlib.Core.Option.{Option, none, some, none-ne-some}
+use mathlib.Core.Option.{Option as Maybe, none, some, none-ne-some}
+use Rattle.std.specs.Prelude.{Option, None, Some}
 use Prim.Native.Nat.{ℕ, zero, suc, ◌≤◌, ◌<◌}
 use native.Mathlib.Omega.{arith}
 use lib.ListN.{length, get_elem?}
@@ -26,7 +27,7 @@ use Rattle.steps.specs.Storing.{Ruled, StoreRenewed}
 use Rattle.steps.specs.Judging.{moves_judged}
 use Rattle.runs.specs.Running.{Holding, Situated, done_as, Once}
 use Rattle.runs.specs.declared.Done.{Done}
-use Rattle.runs.specs.declared.Done.TheVariants.{Visible, Internal, NotOffered}
+use Rattle.runs.specs.declared.Done.TheVariants.{Visible, Internal}
 
 mapped_none : {X Y : Type 0} (f : X → Y) (l : List X) (k : ℕ) → get_elem? l k ≡ none → get_elem? (map f l) k ≡ none
 mapped_none f [] k e = refl
@@ -53,17 +54,17 @@ taken_not_refused : (ρ : Action) → taken ρ ≡ refused → ⊥
 taken_not_refused internal e = absurd (let z : ◌≡◌ {A = ℕ} 0 1 = ap outcome_number e in omega arith)
 taken_not_refused (visible a) e = absurd (let z : ◌≡◌ {A = ℕ} 0 1 = ap outcome_number e in omega arith)
 
-pub done_internal : (ρ : Action) (a n : ℕ) → a ≡ action_code ρ → a ≤ 0 → Internal n ≡ done_as (taken ρ) n
+pub done_internal : (ρ : Action) (a n : ℕ) → a ≡ action_code ρ → a ≤ 0 → Some (Internal n) ≡ done_as (taken ρ) n
 unfolding action_code done_as
 done_internal internal a n e h = refl
 done_internal (visible b) a n e h = absurd (let z : ⊥ = omega (arith, e) in z)
 
-pub done_visible : (ρ : Action) (a n : ℕ) → a ≡ action_code ρ → 0 < a → Visible n ≡ done_as (taken ρ) n
+pub done_visible : (ρ : Action) (a n : ℕ) → a ≡ action_code ρ → 0 < a → Some (Visible n) ≡ done_as (taken ρ) n
 unfolding action_code done_as
 done_visible internal a n e h = absurd (let z : ⊥ = omega (arith, e) in z)
 done_visible (visible b) a n e h = refl
 
-once_by : (H : Holding) (R : RuleSet) (s : Situation (Sem_M (attributes R))) (n k : ℕ) (ws' M' : List ℕ) (r : Done) (o : Outcome) (z : Situation (Sem_M (attributes R))) (size : ℕ)
+once_by : (H : Holding) (R : RuleSet) (s : Situation (Sem_M (attributes R))) (n k : ℕ) (ws' M' : List ℕ) (r : Option Done) (o : Outcome) (z : Situation (Sem_M (attributes R))) (size : ℕ)
     → Path (Outcome × Situation (Sem_M (attributes R))) (reply (system (Sem_M (attributes R))) s k) (o, z)
     → r ≡ done_as o size → (o ≡ refused → size ≡ n) → Situated H R z size ws' M' → Once H R s n k ws' M' r
 once_by H R s n k ws' M' r o z size e a kept h = record {
@@ -77,7 +78,7 @@ once_by H R s n k ws' M' r o z size e a kept h = record {
 
 module _ {H : Holding} (t D : List ℕ) (w functions c n k : ℕ) (ws M : List ℕ) (R : RuleSet) (T : List ℕ) (ruled : Ruled R t T D w functions c) (s : Situation (Sem_M (attributes R)))
     (at : Situated H R s n ws M) where
-  abbrev pub offered : Option Move
+  abbrev pub offered : Maybe Move
   offered = get_elem? (moves (holding M) s.term) k
 
   pub spelled_length : (E : Term) → WellFormedTerm R E → length (words 1 E) ≡ size 1 E
@@ -95,12 +96,12 @@ module _ {H : Holding} (t D : List ℕ) (w functions c n k : ℕ) (ws M : List �
   same_moves = sym (moves_judged R ruled.form s.term at.running.form s.state M at.stored)
 
   -- No such move: all stays as it is.
-  pub refused_once : offered ≡ none → Once H R s n k ws M NotOffered
+  pub refused_once : offered ≡ none → Once H R s n k ws M None
   unfolding done_as
-  refused_once e = once_by H R s n k ws M NotOffered refused s n (reply_none (Sem_M (attributes R)) s k (ap (λ l. get_elem? l k) same_moves ∙ e)) refl (λ _. refl) at
+  refused_once e = once_by H R s n k ws M None refused s n (reply_none (Sem_M (attributes R)) s k (ap (λ l. get_elem? l k) same_moves ∙ e)) refl (λ _. refl) at
 
   -- The move x is made: its successor is held and the cells are renewed.
-  pub made_once : (x : Move) → offered ≡ some x → {ws' M' : List ℕ} {a size' : ℕ} {d : Done} → a ≡ action_code x.action → StoreRenewed t D M M' w functions c a → H R x.successor size' ws'
+  pub made_once : (x : Move) → offered ≡ some x → {ws' M' : List ℕ} {a size' : ℕ} {d : Option Done} → a ≡ action_code x.action → StoreRenewed t D M M' w functions c a → H R x.successor size' ws'
       → d ≡ done_as (taken x.action) size' → Once H R s n k ws' M' d
   made_once x listed {ws'} {M'} {a} {size'} {d} number renewed held told =
       once_by H R s n k ws' M' d (taken x.action) (situation x.successor (state_after (Sem_M (attributes R)) s.state x.action)) size'

@@ -6,6 +6,7 @@ use Prim.Native.Nat.{ℕ, suc, ◌+◌, ◌≤◌, ◌<◌}
 use native.Mathlib.Omega.{arith}
 use lib.ListN.{length, take, get_or}
 use lib.Seq.{take-suc, take_all}
+use Rattle.std.specs.Prelude.{Option, None, Some}
 use Rattle.eb3.specs.RuleSets.{RuleSet, attributes}
 use Rattle.eb3.proofs.Laws.Sizes.{run_reach}
 use Rattle.eb3.specs.Bytes.{words_in, word_count}
@@ -17,7 +18,7 @@ use Rattle.runs.specs.Scratch.{WordsOnly}
 use Rattle.runs.specs.ScratchLaws.{words_kept, words_then}
 use Rattle.runs.specs.Running.{Holding, Spelled, Situated, Roomy, done_as, Once, Steps, StepsOnce, counted, Ended, RunsBy, Runs}
 use Rattle.runs.specs.declared.Done.{Done}
-use Rattle.runs.specs.declared.Done.TheVariants.{Visible, Internal, NotOffered}
+use Rattle.runs.specs.declared.Done.TheVariants.{Visible, Internal}
 use Rattle.runs.specs.declared.Tally.{Tally}
 
 -- ── one number more ──
@@ -31,10 +32,10 @@ run_more L h (j ∷ ks) k = run_more L (step L h j) ks k
 abbrev pub total : Tally → ℕ
 total r = r.visible + r.internal + r.refused
 
-pub counted_once : (r : Tally) (d : Done) → total (counted r d) ≡ total r + 1
-counted_once r (Visible n) = omega arith
-counted_once r (Internal n) = omega arith
-counted_once r NotOffered = omega arith
+pub counted_once : (r : Tally) (d : Option Done) → total (counted r d) ≡ total r + 1
+counted_once r (Some (Visible n)) = omega arith
+counted_once r (Some (Internal n)) = omega arith
+counted_once r None = omega arith
 
 -- However the term is held.
 module _ (H : Holding) where
@@ -65,7 +66,7 @@ module _ (H : Holding) where
       after = subst (λ n. Situated H R z n ws' M') (same refl) at;
     }
 
-    ended_next : (h : Machine (Sem_M (attributes R))) (k : ℕ) (ws M ws' M' : List ℕ) (r : Tally) (d : Done) → Ended H R h ws M r → Once H R h.state r.size k ws' M' d
+    ended_next : (h : Machine (Sem_M (attributes R))) (k : ℕ) (ws M ws' M' : List ℕ) (r : Tally) (d : Option Done) → Ended H R h ws M r → Once H R h.state r.size k ws' M' d
         → Ended H R (step L h k) ws' M' (counted r d)
     unfolding step
     ended_next h k ws M ws' M' r d e o =
@@ -79,7 +80,7 @@ module _ (H : Holding) where
     unfolding run
     by_start z R T ruled s at room = (record { visible_is = refl; internal_is = refl; refused_is = refl; after = at }, z)
 
-    pub by_next : (i : ℕ) {Z Z₁ Z₂ : Type 0} {k : ℕ} {ws₁ M₁ ws₂ M₂ : List ℕ} {r r' : Tally} {d : Done} → i < word_count numbers → (Z → Z₁ → Z₂) → RunsBy H bound Z (take i (words_in numbers)) t D w functions c n ws M ws₁ M₁ r
+    pub by_next : (i : ℕ) {Z Z₁ Z₂ : Type 0} {k : ℕ} {ws₁ M₁ ws₂ M₂ : List ℕ} {r r' : Tally} {d : Option Done} → i < word_count numbers → (Z → Z₁ → Z₂) → RunsBy H bound Z (take i (words_in numbers)) t D w functions c n ws M ws₁ M₁ r
         → k ≡ get_or (words_in numbers) i 0 → Steps H bound Z₁ t D w functions c r.size k ws₁ M₁ ws₂ M₂ d → r' ≡ counted r d → RunsBy H bound Z₂ (take (i + 1) (words_in numbers)) t D w functions c n ws M ws₂ M₂ r'
     by_next i {k = k} {ws₁} {M₁} {ws₂} {M₂} {r} {r'} {d} less both go number once counting R T ruled s at room =
         let L = system (Sem_M (attributes R)) in
@@ -114,7 +115,7 @@ module _ (numbers : List ℕ) {t D : List ℕ} {w functions c n : ℕ} {ws M out
   pub run_start : RunningTo numbers t D w functions c n ws M out path 0 ws M out (record { size = n; visible = 0; internal = 0; refused = 0 })
   run_start bound room = by_start Spelled bound numbers (words_kept out out refl)
 
-  pub run_next : (i : ℕ) {k : ℕ} {ws₁ M₁ out₁ path₁ ws₂ M₂ out₂ : List ℕ} {r r' : Tally} {d : Done} → i < word_count numbers → length ws₁ ≡ length ws → length out₁ ≡ length out → length path₁ ≡ length path
+  pub run_next : (i : ℕ) {k : ℕ} {ws₁ M₁ out₁ path₁ ws₂ M₂ out₂ : List ℕ} {r r' : Tally} {d : Option Done} → i < word_count numbers → length ws₁ ≡ length ws → length out₁ ≡ length out → length path₁ ≡ length path
       → RunningTo numbers t D w functions c n ws M out path i ws₁ M₁ out₁ r → k ≡ get_or (words_in numbers) i 0 → StepsOnce t D w functions c r.size k ws₁ M₁ out₁ path₁ ws₂ M₂ out₂ d
       → r' ≡ counted r d → RunningTo numbers t D w functions c n ws M out path (i + 1) ws₂ M₂ out₂ r'
   run_next i {out₁ = out₁} {out₂ = out₂} less same same_out same_path go number once counting bound room =

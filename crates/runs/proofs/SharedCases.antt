@@ -2,7 +2,8 @@
 -- history machine"; "Operations": Run).
 use mathlib.Core.Path.{◌≡◌, refl, sym, ap, ◌∙◌, subst}
 use mathlib.Core.List.{List}
-use mathlib.Core.Option.{Option, none, some}
+use mathlib.Core.Option.{Option as Maybe, none, some}
+use Rattle.std.specs.Prelude.{Option, None, Some}
 use Prim.Native.Nat.{ℕ, ◌+◌, ◌/◌, ◌%◌, ◌≤◌, ◌<◌}
 use native.Mathlib.Omega.{arith}
 use lib.ListN.{length, take, get_or, get_elem?, length-take}
@@ -24,7 +25,7 @@ use Rattle.sharing.specs.Stepping.{StepTaken, Stepped}
 use Rattle.runs.specs.Running.{Situated, done_as, Once, counted, RunsBy}
 use Rattle.runs.specs.Sharing.{SharedOver, RoomyOver, StepsShared, RunsShared}
 use Rattle.runs.specs.declared.Done.{Done}
-use Rattle.runs.specs.declared.Done.TheVariants.{Visible, Internal, NotOffered}
+use Rattle.runs.specs.declared.Done.TheVariants.{Visible, Internal}
 use Rattle.runs.specs.declared.Tally.{Tally}
 use Rattle.runs.proofs.Replies.{done_internal, done_visible, refused_once, made_once}
 use Rattle.runs.proofs.RunCases.{by_start, by_next, by_end}
@@ -35,7 +36,7 @@ held_within {n = n} {d} h = omega (arith, h.size_is, ap length h.words_are, leng
 
 module _ (t D : List ℕ) (w functions c : ℕ) (u : List ℕ) (n k : ℕ) (d M : List ℕ) (paths numbers middle : ℕ) (bound : ℕ) (room : RoomyOver bound u d paths numbers middle)
     (R : RuleSet) (T : List ℕ) (ruled : Ruled R t T D w functions c) (s : Situation (Sem_M (attributes R))) (at : Situated (SharedOver u) R s n d M) (reaches : reach 1 s.term ≤ bound) where
-  abbrev offered : Option Move
+  abbrev offered : Maybe Move
   offered = get_elem? (moves (holding M) s.term) k
 
   abbrev P : Scope
@@ -54,15 +55,15 @@ module _ (t D : List ℕ) (w functions c : ℕ) (u : List ℕ) (n k : ℕ) (d M 
     step_none : offered ≡ none → (passed ≤ r) × (d' ≡ d)
     step_none e = stepped.not_offered P at.held.shared (held_within at.held) at.held.words_are at.held.stands room.path_room room.numbers_room (meant ∙ e)
 
-    none_so : (o : Option Move) → offered ≡ o → passed ≤ r → Once (SharedOver u) R s n k d' M NotOffered
-    none_so none e h = subst (λ v. Once (SharedOver u) R s n k v M NotOffered) (sym (step_none e).1) (refused_once t D w functions c n k d M R T ruled s at e)
+    none_so : (o : Maybe Move) → offered ≡ o → passed ≤ r → Once (SharedOver u) R s n k d' M None
+    none_so none e h = subst (λ v. Once (SharedOver u) R s n k v M None) (sym (step_none e).1) (refused_once t D w functions c n k d M R T ruled s at e)
     none_so (some x) e h = absurd (let z : ⊥ = omega (arith, (step_some x e).low) in z)
 
     -- A move made, told by its action's number and how many words hold its successor.
-    made_so : (o : Option Move) → offered ≡ o → r < passed → length d ≤ 65535 → (a : ℕ) → a ≡ r / 65536 % 4294967296 → (M' : List ℕ) → StoreRenewed t D M M' w functions c a → (done : Done)
-        → ((ρ : Action) → a ≡ action_code ρ → done ≡ done_as (taken ρ) (r % 65536)) → Once (SharedOver u) R s n k d' M' done
-    made_so none e low few a number M' renewed done told = absurd (let z : ⊥ = omega (arith, (step_none e).0) in z)
-    made_so (some x) e low few a number M' renewed done told =
+    made_so : (o : Maybe Move) → offered ≡ o → r < passed → length d ≤ 65535 → (a : ℕ) → a ≡ r / 65536 % 4294967296 → (M' : List ℕ) → StoreRenewed t D M M' w functions c a → (as_told : Option Done)
+        → ((ρ : Action) → a ≡ action_code ρ → as_told ≡ done_as (taken ρ) (r % 65536)) → Once (SharedOver u) R s n k d' M' as_told
+    made_so none e low few a number M' renewed as_told told = absurd (let z : ⊥ = omega (arith, (step_none e).0) in z)
+    made_so (some x) e low few a number M' renewed as_told told =
         let y = step_some x e in
         let l : ℕ = length (shared_words y.shared) in
         let within : l ≤ length d' = omega (arith, ap length y.held, length-take l d') in
@@ -78,16 +79,16 @@ module _ (t D : List ℕ) (w functions c : ℕ) (u : List ℕ) (n k : ℕ) (d M 
 
 module _ {t D : List ℕ} {w functions c : ℕ} {u : List ℕ} {n k : ℕ} {d M : List ℕ} {paths numbers middle : ℕ} {d' : List ℕ} {r : ℕ} where
   pub shared_internal : Stepped u d n M k paths numbers middle d' r → length d ≤ 65535 → r < passed → {a : ℕ} {M' : List ℕ} → a ≡ r / 65536 % 4294967296 → StoreRenewed t D M M' w functions c a → a ≤ 0
-      → StepsShared t D w functions c u n k d M paths numbers middle d' M' (Internal (r % 65536))
+      → StepsShared t D w functions c u n k d M paths numbers middle d' M' (Some (Internal (r % 65536)))
   shared_internal stepped few low {a} {M'} number renewed z bound room R T ruled s at reaches =
       (made_so t D w functions c u n k d M paths numbers middle bound room R T ruled s at reaches d' r stepped _ refl low few a number M' renewed _ (λ ρ e. done_internal ρ a (r % 65536) e z), tt)
 
   pub shared_visible : Stepped u d n M k paths numbers middle d' r → length d ≤ 65535 → r < passed → {a : ℕ} {M' : List ℕ} → a ≡ r / 65536 % 4294967296 → StoreRenewed t D M M' w functions c a → 0 < a
-      → StepsShared t D w functions c u n k d M paths numbers middle d' M' (Visible (r % 65536))
+      → StepsShared t D w functions c u n k d M paths numbers middle d' M' (Some (Visible (r % 65536)))
   shared_visible stepped few low {a} {M'} number renewed z bound room R T ruled s at reaches =
       (made_so t D w functions c u n k d M paths numbers middle bound room R T ruled s at reaches d' r stepped _ refl low few a number M' renewed _ (λ ρ e. done_visible ρ a (r % 65536) e z), tt)
 
-  pub shared_refused : Stepped u d n M k paths numbers middle d' r → passed ≤ r → StepsShared t D w functions c u n k d M paths numbers middle d' M NotOffered
+  pub shared_refused : Stepped u d n M k paths numbers middle d' r → passed ≤ r → StepsShared t D w functions c u n k d M paths numbers middle d' M None
   shared_refused stepped high bound room R T ruled s at reaches =
       (none_so t D w functions c u n k d M paths numbers middle bound room R T ruled s at reaches d' r stepped _ refl high, tt)
 
@@ -101,7 +102,7 @@ module _ (numbers : List ℕ) {t D : List ℕ} {w functions c : ℕ} {u : List �
   pub shared_start : SharedTo numbers t D w functions c u n d M paths acts middle 0 d M (record { size = n; visible = 0; internal = 0; refused = 0 })
   shared_start bound room = by_start (SharedOver u) bound numbers tt
 
-  pub shared_next : (i : ℕ) {k : ℕ} {d₁ M₁ : List ℕ} {paths₁ acts₁ middle₁ : ℕ} {d₂ M₂ : List ℕ} {r r' : Tally} {o : Done} → i < word_count numbers → length d₁ ≡ length d → paths₁ ≡ paths → acts₁ ≡ acts → middle₁ ≡ middle
+  pub shared_next : (i : ℕ) {k : ℕ} {d₁ M₁ : List ℕ} {paths₁ acts₁ middle₁ : ℕ} {d₂ M₂ : List ℕ} {r r' : Tally} {o : Option Done} → i < word_count numbers → length d₁ ≡ length d → paths₁ ≡ paths → acts₁ ≡ acts → middle₁ ≡ middle
       → SharedTo numbers t D w functions c u n d M paths acts middle i d₁ M₁ r → k ≡ get_or (words_in numbers) i 0 → StepsShared t D w functions c u r.size k d₁ M₁ paths₁ acts₁ middle₁ d₂ M₂ o
       → r' ≡ counted r o → SharedTo numbers t D w functions c u n d M paths acts middle (i + 1) d₂ M₂ r'
   shared_next i less same same_path same_acts same_middle go number once counting bound room =

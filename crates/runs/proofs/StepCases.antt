@@ -1,8 +1,10 @@
 -- A case for each way that one number's step returns: what it does to the term in words and to the cells in the store is what the memory machine does
 -- (document 01, "Memory and the history machine"; "Operations": Run).
-use mathlib.Core.Path.{◌≡◌, refl, ap, ◌∙◌, subst}
+use mathlib.Core.Path.{◌≡◌, refl, sym, ap, ◌∙◌, subst}
 use mathlib.Core.List.{List}
-use mathlib.Core.Option.{Option, none, some}
+use mathlib.Core.Option.{Option as Maybe, none, some}
+use Rattle.std.specs.Prelude.{Option, None, Some}
+use Rattle.std.proofs.lemmas.Option.{none-some, same_Some}
 use Prim.Native.Nat.{ℕ, ◌≤◌, ◌<◌}
 use native.Mathlib.Omega.{arith}
 use lib.ListN.{length, take, get_elem?}
@@ -28,46 +30,45 @@ use Rattle.steps.specs.Taking.{taken_as, built_over, SuccessorFits, Took}
 use Rattle.steps.specs.Storing.{Ruled, StoreRenewed}
 use Rattle.steps.specs.Judging.{whole}
 use Rattle.steps.specs.declared.moving.Taken.{Taken}
-use Rattle.steps.specs.declared.moving.Taken.TheVariants.{Made, NotOffered as No_move}
 use Rattle.runs.specs.Scratch.{WordsOnly}
 use Rattle.runs.specs.ScratchLaws.{words_kept, words_written}
 use Rattle.runs.specs.Running.{Spelled, Situated, Roomy, done_as, Once, StepsOnce}
 use Rattle.runs.specs.declared.Done.{Done}
-use Rattle.runs.specs.declared.Done.TheVariants.{Visible, Internal, NotOffered}
+use Rattle.runs.specs.declared.Done.TheVariants.{Visible, Internal}
 use Rattle.runs.proofs.Replies.{done_internal, done_visible, next_running, next_length, refused_once, made_once}
 
 -- ── a move sought in the term's words ──
 
 -- Only an offered move is made,
-some_made : (o : Option Move) (a n : ℕ) → Made a n ≡ taken_as o → (x : Move) × (o ≡ some x) × (a ≡ action_code x.action) × (n ≡ length (words 1 x.successor))
+some_made : (o : Maybe Move) (m : Taken) → Some m ≡ taken_as o → (x : Move) × (o ≡ some x) × (m.action ≡ action_code x.action) × (m.size ≡ length (words 1 x.successor))
 unfolding taken_as
-some_made none a n e = absurd (let z : ◌≡◌ {A = ℕ} 0 1 = cc in omega arith)
-some_made (some x) a n e = (x, refl, cc, cc)
+some_made none m e = absurd (none-some m (sym e))
+some_made (some x) m e = let q = same_Some m _ e in (x, refl, ap (λ (y : Taken). y.action) q, ap (λ (y : Taken). y.size) q)
 
 -- and only where there is none, none.
-none_made : (o : Option Move) → No_move ≡ taken_as o → o ≡ none
+none_made : (o : Maybe Move) → None ≡ taken_as o → o ≡ none
 unfolding taken_as
 none_made none e = refl
-none_made (some x) e = absurd (let z : ◌≡◌ {A = ℕ} 0 1 = cc in omega arith)
+none_made (some x) e = absurd (none-some _ e)
 
 -- What taking a move says, of the words f and a lent array for its path.
-abbrev pub TakenFrom : (f M : List ℕ) (k : ℕ) (path out out' : List ℕ) (r : Taken) → Type 0
+abbrev pub TakenFrom : (f M : List ℕ) (k : ℕ) (path out out' : List ℕ) (r : Option Taken) → Type 0
 TakenFrom f M k path out out' r = (P : Scope) (E : Term) → Whole f P E → size 1 E ≤ length path → SuccessorFits (get_elem? (moves (holding M) E) k) out
     → Took (get_elem? (moves (holding M) E) k) out out' r
 
 module _ (t D : List ℕ) (w functions c n k : ℕ) (ws M out path : List ℕ) (bound : ℕ) (room : Roomy bound ws out path) (R : RuleSet) (T : List ℕ) (ruled : Ruled R t T D w functions c)
     (s : Situation (Sem_M (attributes R))) (at : Situated Spelled R s n ws M) (reaches : reach 1 s.term ≤ bound) where
-  abbrev offered : Option Move
+  abbrev offered : Maybe Move
   offered = get_elem? (moves (holding M) s.term) k
 
   next_fits : (x : Move) → offered ≡ some x → length (words 1 x.successor) ≤ bound
   next_fits x e = omega (arith, next_length t D w functions c n k ws M R T ruled s at x e)
 
-  fits_in : (o : Option Move) → offered ≡ o → SuccessorFits o out
+  fits_in : (o : Maybe Move) → offered ≡ o → SuccessorFits o out
   fits_in none e = tt
   fits_in (some x) e = omega (arith, next_fits x e, room.bytes_room)
 
-  took : (f out' : List ℕ) (r : Taken) → f ≡ take n ws → TakenFrom f M k path out out' r → Took offered out out' r
+  took : (f out' : List ℕ) (r : Option Taken) → f ≡ take n ws → TakenFrom f M k path out out' r → Took offered out out' r
   took f out' r front sought = sought _ s.term (whole R ruled.form s.term at.running f (front ∙ at.held.spelled))
       (omega (arith, size_below_reach 1 s.term, room.path_room)) (fits_in offered refl)
 
@@ -81,40 +82,39 @@ module _ (t D : List ℕ) (w functions c n k : ℕ) (ws M out path : List ℕ) (
         (omega (arith, next_fits x e, room.words_room)) (subst (λ B. Loaded B ws ws' 0 size') buffer loaded);
   }
 
-  none_so : (out' : List ℕ) → Took offered out out' No_move → Once Spelled R s n k ws M NotOffered × WordsOnly out out'
+  none_so : (out' : List ℕ) → Took offered out out' None → Once Spelled R s n k ws M None × WordsOnly out out'
   unfolding built_over
   none_so out' h =
       let e : offered ≡ none = none_made offered h.answer in
       (refused_once t D w functions c n k ws M R T ruled s at e, words_kept out out' (h.buffer ∙ ap (λ o. built_over o out) e))
 
   -- A move made, told by its action's number and its successor's size.
-  made_so : (out' M' ws' : List ℕ) (a size' : ℕ) (d : Done) → Took offered out out' (Made a size') → StoreRenewed t D M M' w functions c a → Loaded out' ws ws' 0 size'
-      → ((ρ : Action) → a ≡ action_code ρ → d ≡ done_as (taken ρ) size') → Once Spelled R s n k ws' M' d × WordsOnly out out'
+  made_so : (out' M' ws' : List ℕ) (m : Taken) (d : Option Done) → Took offered out out' (Some m) → StoreRenewed t D M M' w functions c m.action → Loaded out' ws ws' 0 m.size
+      → ((ρ : Action) → m.action ≡ action_code ρ → d ≡ done_as (taken ρ) m.size) → Once Spelled R s n k ws' M' d × WordsOnly out out'
   unfolding built_over
-  made_so out' M' ws' a size' d h renewed loaded told =
-      let p = some_made offered a size' h.answer in
+  made_so out' M' ws' m d h renewed loaded told =
+      let p = some_made offered m h.answer in
       let x : Move = p.0 in
       let buffer : out' ≡ written (words 1 x.successor) out = h.buffer ∙ ap (λ o. built_over o out) p.1 in (
-        made_once t D w functions c n k ws M R T ruled s at x p.1 p.2 renewed (next_spelled x p.1 out' ws' buffer size' p.3 loaded) (told x.action p.2),
+        made_once t D w functions c n k ws M R T ruled s at x p.1 p.2 renewed (next_spelled x p.1 out' ws' buffer m.size p.3 loaded) (told x.action p.2),
         words_written (words 1 x.successor) out out' (omega (arith, next_fits x p.1, room.bytes_room)) buffer,
       )
 
 -- ── the three returns ──
 
 module _ {t D : List ℕ} {w functions c n k : ℕ} {ws M out path : List ℕ} where
-  pub step_internal : {f out' M' ws' : List ℕ} {r : Taken} {a size' : ℕ} → f ≡ take n ws → TakenFrom f M k path out out' r → r ≡ Made a size' → StoreRenewed t D M M' w functions c a
-      → Loaded out' ws ws' 0 size' → a ≤ 0 → StepsOnce t D w functions c n k ws M out path ws' M' out' (Internal size')
-  step_internal {f} {out'} {M'} {ws'} {r} {a} {size'} front sought made renewed loaded z bound room R T ruled s at reaches =
-      made_so t D w functions c n k ws M out path bound room R T ruled s at reaches out' M' ws' a size' (Internal size')
-      (subst (Took _ out out') made (took t D w functions c n k ws M out path bound room R T ruled s at reaches f out' r front sought)) renewed loaded (λ ρ e. done_internal ρ a size' e z)
+  pub step_internal : {f out' M' ws' : List ℕ} {m : Taken} → f ≡ take n ws → TakenFrom f M k path out out' (Some m) → StoreRenewed t D M M' w functions c m.action
+      → Loaded out' ws ws' 0 m.size → m.action ≤ 0 → StepsOnce t D w functions c n k ws M out path ws' M' out' (Some (Internal m.size))
+  step_internal {f} {out'} {M'} {ws'} {m} front sought renewed loaded z bound room R T ruled s at reaches =
+      made_so t D w functions c n k ws M out path bound room R T ruled s at reaches out' M' ws' m _
+      (took t D w functions c n k ws M out path bound room R T ruled s at reaches f out' _ front sought) renewed loaded (λ ρ e. done_internal ρ m.action m.size e z)
 
-  pub step_visible : {f out' M' ws' : List ℕ} {r : Taken} {a size' : ℕ} → f ≡ take n ws → TakenFrom f M k path out out' r → r ≡ Made a size' → StoreRenewed t D M M' w functions c a
-      → Loaded out' ws ws' 0 size' → 0 < a → StepsOnce t D w functions c n k ws M out path ws' M' out' (Visible size')
-  step_visible {f} {out'} {M'} {ws'} {r} {a} {size'} front sought made renewed loaded z bound room R T ruled s at reaches =
-      made_so t D w functions c n k ws M out path bound room R T ruled s at reaches out' M' ws' a size' (Visible size')
-      (subst (Took _ out out') made (took t D w functions c n k ws M out path bound room R T ruled s at reaches f out' r front sought)) renewed loaded (λ ρ e. done_visible ρ a size' e z)
+  pub step_visible : {f out' M' ws' : List ℕ} {m : Taken} → f ≡ take n ws → TakenFrom f M k path out out' (Some m) → StoreRenewed t D M M' w functions c m.action
+      → Loaded out' ws ws' 0 m.size → 0 < m.action → StepsOnce t D w functions c n k ws M out path ws' M' out' (Some (Visible m.size))
+  step_visible {f} {out'} {M'} {ws'} {m} front sought renewed loaded z bound room R T ruled s at reaches =
+      made_so t D w functions c n k ws M out path bound room R T ruled s at reaches out' M' ws' m _
+      (took t D w functions c n k ws M out path bound room R T ruled s at reaches f out' _ front sought) renewed loaded (λ ρ e. done_visible ρ m.action m.size e z)
 
-  pub step_refused : {f out' : List ℕ} {r : Taken} → f ≡ take n ws → TakenFrom f M k path out out' r → r ≡ No_move → StepsOnce t D w functions c n k ws M out path ws M out' NotOffered
-  step_refused {f} {out'} {r} front sought none_there bound room R T ruled s at reaches =
-      none_so t D w functions c n k ws M out path bound room R T ruled s at reaches out'
-      (subst (Took _ out out') none_there (took t D w functions c n k ws M out path bound room R T ruled s at reaches f out' r front sought))
+  pub step_refused : {f out' : List ℕ} {d : Option Done} → f ≡ take n ws → TakenFrom f M k path out out' None → d ≡ None → StepsOnce t D w functions c n k ws M out path ws M out' d
+  step_refused {f} {out'} {d} front sought e bound room R T ruled s at reaches =
+      subst (λ d. Once Spelled R s n k ws M d × WordsOnly out out') (sym e) (none_so t D w functions c n k ws M out path bound room R T ruled s at reaches out' (took t D w functions c n k ws M out path bound room R T ruled s at reaches f out' _ front sought))

@@ -1,5 +1,5 @@
 -- The memory machine with its term in words and its cells in a store, fed move numbers (document 01, "Memory and the history machine"; "Operations": Run).
-use Rattle.std.specs.Prelude.{◌≡◌, List, ℕ, ◌+◌, ◌≤◌, length, take}
+use Rattle.std.specs.Prelude.{◌≡◌, List, ℕ, ◌+◌, ◌≤◌, length, take, Option, None, Some}
 use Rattle.eb3.specs.RuleSets.{RuleSet, attributes}
 use Rattle.eb3.specs.Terms.{Term}
 use Rattle.eb3.specs.Sizes.{reach}
@@ -12,7 +12,7 @@ use Rattle.eb3.specs.WellFormedness.{Running}
 use Rattle.steps.specs.Storing.{Stored, Ruled}
 use Rattle.runs.specs.Scratch.{WordsOnly}
 use Rattle.runs.specs.declared.Done.{Done}
-use Rattle.runs.specs.declared.Done.TheVariants.{Visible, Internal, NotOffered}
+use Rattle.runs.specs.declared.Done.TheVariants.{Visible, Internal}
 use Rattle.runs.specs.declared.Tally.{Tally}
 
 -- How a term of a rule set is held in the first n words of an array. In its own words it is `Spelled`; what holds of a run whatever the way is said once.
@@ -38,36 +38,36 @@ pub record Roomy (bound : ℕ) (ws out path : List ℕ) : Type 0 where
 
 -- ── one number ──
 
--- What a number did, and how many words the term has then.
-unfoldable pub done_as : Outcome → ℕ → Done
-done_as took_visible n = Visible n
-done_as took_internal n = Internal n
-done_as refused n = NotOffered
+-- What a number did, and how many words the term has then; None where there is no such move.
+unfoldable pub done_as : Outcome → ℕ → Option Done
+done_as took_visible n = Some (Visible n)
+done_as took_internal n = Some (Internal n)
+done_as refused n = None
 
 -- A number that is refused leaves the size as it was.
-pub record Once (H : Holding) (R : RuleSet) (s : Situation (Sem_M (attributes R))) (n k : ℕ) (ws' M' : List ℕ) (r : Done) : Type 0 where
+pub record Once (H : Holding) (R : RuleSet) (s : Situation (Sem_M (attributes R))) (n k : ℕ) (ws' M' : List ℕ) (r : Option Done) : Type 0 where
   pub size : ℕ
   pub answer : r ≡ done_as (reply (system (Sem_M (attributes R))) s k).0 size
   pub kept : (reply (system (Sem_M (attributes R))) s k).0 ≡ refused → size ≡ n
   pub after : Situated H R (reply (system (Sem_M (attributes R))) s k).1 size ws' M'
 
 -- Of the stream t, the directory D, n words of ws and the store M, which are ws' and M' afterwards, where no successor has more words than the bound; and Z besides.
-abbrev pub Steps : (H : Holding) (bound : ℕ) (Z : Type 0) (t D : List ℕ) (w functions c n k : ℕ) (ws M ws' M' : List ℕ) (r : Done) → Type 0
+abbrev pub Steps : (H : Holding) (bound : ℕ) (Z : Type 0) (t D : List ℕ) (w functions c n k : ℕ) (ws M ws' M' : List ℕ) (r : Option Done) → Type 0
 Steps H bound Z t D w functions c n k ws M ws' M' r =
     (R : RuleSet) (T : List ℕ) → Ruled R t T D w functions c → (s : Situation (Sem_M (attributes R))) → Situated H R s n ws M → reach 1 s.term ≤ bound → Once H R s n k ws' M' r × Z
 
 -- A term in its own words, with the lent bytes out, which are out' afterwards, and the lent array path.
-abbrev pub StepsOnce : (t D : List ℕ) (w functions c n k : ℕ) (ws M out path ws' M' out' : List ℕ) (r : Done) → Type 0
+abbrev pub StepsOnce : (t D : List ℕ) (w functions c n k : ℕ) (ws M out path ws' M' out' : List ℕ) (r : Option Done) → Type 0
 StepsOnce t D w functions c n k ws M out path ws' M' out' r =
     (bound : ℕ) → Roomy bound ws out path → Steps Spelled bound (WordsOnly out out') t D w functions c n k ws M ws' M' r
 
 -- ── a list of numbers ──
 
 -- The tally after one number more, by what it did.
-abbrev pub counted : Tally → Done → Tally
-counted r (Visible n) = record { size = n; visible = r.visible + 1; internal = r.internal; refused = r.refused }
-counted r (Internal n) = record { size = n; visible = r.visible; internal = r.internal + 1; refused = r.refused }
-counted r NotOffered = record { size = r.size; visible = r.visible; internal = r.internal; refused = r.refused + 1 }
+abbrev pub counted : Tally → Option Done → Tally
+counted r (Some (Visible n)) = record { size = n; visible = r.visible + 1; internal = r.internal; refused = r.refused }
+counted r (Some (Internal n)) = record { size = n; visible = r.visible; internal = r.internal + 1; refused = r.refused }
+counted r None = record { size = r.size; visible = r.visible; internal = r.internal; refused = r.refused + 1 }
 
 -- The size of the last term and the three counts, and what is left in the words and the store.
 pub record Ended (H : Holding) (R : RuleSet) (h : Machine (Sem_M (attributes R))) (ws' M' : List ℕ) (r : Tally) : Type 0 where

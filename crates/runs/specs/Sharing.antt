@@ -1,5 +1,5 @@
 -- The memory machine with its term held in few words over the start's unfolding, fed move numbers (document 01, "Memory and the history machine"; "Operations": Run).
-use Rattle.std.specs.Prelude.{◌≡◌, List, ℕ, ◌≤◌, length, take}
+use Rattle.std.specs.Prelude.{◌≡◌, List, ℕ, ◌≤◌, length, take, Option}
 use Rattle.eb3.specs.Terms.{Term}
 use Rattle.eb3.specs.Scopes.{guard_scope}
 use Rattle.eb3.specs.RuleSets.{RuleSet, attributes}
@@ -26,7 +26,7 @@ pub record RoomyOver (bound : ℕ) (u d : List ℕ) (paths numbers middle : ℕ)
   pub numbers_room : length u ≤ numbers
 
 -- One number, and a list of them.
-abbrev pub StepsShared : (t D : List ℕ) (w functions c : ℕ) (u : List ℕ) (n k : ℕ) (d M : List ℕ) (paths numbers middle : ℕ) (d' M' : List ℕ) (r : Done) → Type 0
+abbrev pub StepsShared : (t D : List ℕ) (w functions c : ℕ) (u : List ℕ) (n k : ℕ) (d M : List ℕ) (paths numbers middle : ℕ) (d' M' : List ℕ) (r : Option Done) → Type 0
 StepsShared t D w functions c u n k d M paths numbers middle d' M' r =
     (bound : ℕ) → RoomyOver bound u d paths numbers middle → Steps (SharedOver u) bound Unit t D w functions c n k d M d' M' r
 

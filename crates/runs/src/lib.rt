@@ -5,21 +5,23 @@
 
 ghost use Rattle.std.specs.Prelude.{◌≡◌, ◌+◌, ◌*◌, ◌≤◌, ◌<◌, length, get_or};
 ghost use Rattle.eb3.specs.Bytes.{words_in};
+ghost use Rattle.runs.specs.Arrays.{SameArrays};
 ghost use Rattle.runs.specs.Running.{StepsOnce, counted, Runs};
 
+pub mod scratch;
 pub mod shared;
 
-use cells::load;
+use cells::{Functions, load};
 use scan::front;
-use steps::moving::{Taken, take_move_in};
+use scratch::Scratch;
+use steps::moving::take_move_in;
 use steps::renewing::renew;
 
-// What a number did: how many words the term has after a visible or an internal move, or that there was no such move.
+/// What a number did that a move was offered for: how many words the term has after a visible or an internal move.
 #[derive(Clone, Copy)]
 pub enum Done {
     Visible(usize),
     Internal(usize),
-    NotOffered,
 }
 
 // The size of the last term in words, and how many numbers did what.
@@ -31,78 +33,56 @@ pub struct Tally {
     pub refused: u64,
 }
 
-fn byte(x: u8) -> usize
-    ensures { (result ≡ x) × (result < 256) }
-{
-    x as usize
-}
-
 // Number i of a list.
 fn number_at(numbers: &[u8], i: usize) -> usize
     requires { 2 * i + 2 ≤ length numbers.now }
     ensures { (result ≡ get_or (words_in numbers.now) i 0) × (result < 65536) }
 {
-    byte(numbers[2 * i]) + 256 * byte(numbers[2 * i + 1])
+    numbers[2 * i] as usize + 256 * numbers[2 * i + 1] as usize
 }
 
 // Move k of the term in the first n words: its successor is built in lent bytes and put in the term's place, the cells are renewed.
 fn step_once(
-    t: &[u16],
-    dir: &[u32],
-    w: usize,
-    functions: usize,
-    c: usize,
+    functions: &Functions,
     n: usize,
     k: usize,
     ws: &mut [u16],
     m: &mut [u16],
     out: &mut [u8],
-    path: &mut [u16],
-    acts: &mut [u32],
-) -> Done
-    requires { (length t.now ≤ 65535) × (w ≤ 256) × (functions ≤ 16) × (c ≤ 1024) × (length ws.old ≤ 65535) × (length path.old ≤ 65535) × (length acts.old ≤ 131072) }
-    ensures { (length ws.new ≡ length ws.old) × (length m.new ≡ length m.old) × (length out.new ≡ length out.old) × (length path.new ≡ length path.old) × (length acts.new ≡ length acts.old) × StepsOnce t.now dir.now w functions c n k ws.old m.old out.old path.old ws.new m.new out.new result }
+    scratch: &mut Scratch,
+) -> Option<Done>
+    requires { length ws.old ≤ 65535 }
+    ensures { (length ws.new ≡ length ws.old) × (length m.new ≡ length m.old) × (length out.new ≡ length out.old) × SameArrays scratch.old scratch.new × StepsOnce functions.now.words.now functions.now.directory.now functions.now.width functions.now.count functions.now.cells n k ws.old m.old out.old scratch.old.path.now ws.new m.new out.new result }
 {
-    match take_move_in(front(ws, n), m, k, path, acts, out) {
-        Taken::Made(action, size) => {
-            renew(t, dir, m, w, functions, c, action);
-            load(out, ws, 0, size);
-            if 0 < action {
-                return Done::Visible(size);
-            }
-            Done::Internal(size)
-        }
-        Taken::NotOffered => Done::NotOffered,
+    let taken = take_move_in(front(ws, n), m, k, scratch.path, scratch.acts, out)?;
+    renew(functions, m, taken.action);
+    load(out, ws, 0, taken.size);
+    if 0 < taken.action {
+        return Some(Done::Visible(taken.size));
     }
+    Some(Done::Internal(taken.size))
 }
 
-// One more of what was done, and the term's size then. A list has far fewer numbers than a count can hold.
-fn counted(tally: Tally, done: Done) -> Tally
+// One more of what was done, and the term's size then; None is a number that no move was offered for. A list has far fewer numbers
+// than a count can hold.
+fn counted(tally: Tally, done: Option<Done>) -> Tally
     requires { tally.visible + tally.internal + tally.refused < 18446744073709551615 }
     ensures { result ≡ counted tally done }
 {
-    let kept = tally.size;
-    let visible = tally.visible;
-    let internal = tally.internal;
-    let refused = tally.refused;
     match done {
-        Done::Visible(n) => Tally {
-            size: n,
-            visible: visible + 1,
-            internal,
-            refused,
+        Some(Done::Visible(size)) => Tally {
+            size,
+            visible: tally.visible + 1,
+            ..tally
         },
-        Done::Internal(n) => Tally {
-            size: n,
-            visible,
-            internal: internal + 1,
-            refused,
+        Some(Done::Internal(size)) => Tally {
+            size,
+            internal: tally.internal + 1,
+            ..tally
         },
-        Done::NotOffered => Tally {
-            size: kept,
-            visible,
-            internal,
-            refused: refused + 1,
+        None => Tally {
+            refused: tally.refused + 1,
+            ..tally
         },
     }
 }
@@ -110,20 +90,15 @@ fn counted(tally: Tally, done: Done) -> Tally
 // From the term in the first n words of ws and the cells in the store, by all numbers of the list; an odd last byte is ignored.
 pub fn run_moves(
     numbers: &[u8],
-    t: &[u16],
-    dir: &[u32],
-    w: usize,
-    functions: usize,
-    c: usize,
+    functions: &Functions,
     n: usize,
     ws: &mut [u16],
     m: &mut [u16],
     out: &mut [u8],
-    path: &mut [u16],
-    acts: &mut [u32],
+    scratch: &mut Scratch,
 ) -> Tally
-    requires { (length t.now ≤ 65535) × (w ≤ 256) × (functions ≤ 16) × (c ≤ 1024) × (length ws.old ≤ 65535) × (length path.old ≤ 65535) × (length acts.old ≤ 131072) }
-    ensures { (length ws.new ≡ length ws.old) × (length m.new ≡ length m.old) × (length out.new ≡ length out.old) × (length path.new ≡ length path.old) × (length acts.new ≡ length acts.old) × Runs numbers.now t.now dir.now w functions c n ws.old m.old out.old path.old ws.new m.new out.new result }
+    requires { length ws.old ≤ 65535 }
+    ensures { (length ws.new ≡ length ws.old) × (length m.new ≡ length m.old) × (length out.new ≡ length out.old) × SameArrays scratch.old scratch.new × Runs numbers.now functions.now.words.now functions.now.directory.now functions.now.width functions.now.count functions.now.cells n ws.old m.old out.old scratch.old.path.now ws.new m.new out.new result }
 {
     let mut tally = Tally {
         size: n,
@@ -131,14 +106,10 @@ pub fn run_moves(
         internal: 0,
         refused: 0,
     };
-    let count = numbers.len() / 2;
-    let mut i = 0;
-    while i < count {
-        let size = tally.size;
+    for i in 0..numbers.len() / 2 {
         let k = number_at(numbers, i);
-        let done = step_once(t, dir, w, functions, c, size, k, ws, m, out, path, acts);
+        let done = step_once(functions, tally.size, k, ws, m, out, scratch);
         tally = counted(tally, done);
-        i = i + 1;
     }
     tally
 }

@@ -1,71 +1,56 @@
 // The memory machine run by a list of numbers, its term held in few words over the start's unfolding, which has no masks (document 01, "Memory and the history
 // machine"; "Operations": Run). A number costs the parts in front of its move, and a few words written.
-ghost use Rattle.std.specs.Prelude.{◌≡◌, ◌/◌, ◌%◌, ◌≤◌, ◌<◌, length};
+ghost use Rattle.std.specs.Prelude.{◌≡◌, ◌≤◌, ◌<◌, length};
+ghost use Rattle.runs.specs.Arrays.{SameArrays};
 ghost use Rattle.runs.specs.Sharing.{StepsShared, RunsShared};
 
+use super::scratch::Scratch;
 use super::{Done, Tally, counted, number_at};
+use cells::Functions;
 use sharing::step;
 use steps::renewing::renew;
 
-// From here on an answer says that there is no such move.
+// From here on an answer of a step says that there is no such move.
+// Stays: a step's answer is one number, which holds the action's number and how many words the term has.
 const PASSED: usize = 1099511627776;
-
-// The action's number in an answer.
-fn action_in(r: usize) -> u32
-    ensures { result ≡ r / 65536 % 4294967296 }
-{
-    (r / 65536 % 4294967296) as u32
-}
 
 // Move k of the shared term in the first n words of d; the cells are renewed.
 fn step_shared(
-    t: &[u16],
-    dir: &[u32],
-    w: usize,
-    functions: usize,
-    c: usize,
+    functions: &Functions,
     u: &[u16],
     n: usize,
     k: usize,
     d: &mut [u16],
     m: &mut [u16],
-    path: &mut [u16],
-    acts: &mut [u32],
-    mid: &mut [u16],
-) -> Done
-    requires { (length t.now ≤ 65535) × (w ≤ 256) × (functions ≤ 16) × (c ≤ 1024) × (length u.now ≤ 65503) × (length d.old ≤ 65535) × (length path.old ≤ 65535) × (length acts.old ≤ 131072) × (length mid.old ≤ 65535) × (k < 65536) }
-    ensures { (length d.new ≡ length d.old) × (length m.new ≡ length m.old) × (length path.new ≡ length path.old) × (length acts.new ≡ length acts.old) × (length mid.new ≡ length mid.old) × StepsShared t.now dir.now w functions c u.now n k d.old m.old (length path.old) (length acts.old) (length mid.old) d.new m.new result }
+    scratch: &mut Scratch,
+) -> Option<Done>
+    requires { (length u.now ≤ 65503) × (length d.old ≤ 65535) × (k < 65536) }
+    ensures { (length d.new ≡ length d.old) × (length m.new ≡ length m.old) × SameArrays scratch.old scratch.new × StepsShared functions.now.words.now functions.now.directory.now functions.now.width functions.now.count functions.now.cells u.now n k d.old m.old (length scratch.old.path.now) (length scratch.old.acts.now) (length scratch.old.mid.now) d.new m.new result }
 {
-    let r = step(u, d, n, m, k, path, acts, mid);
+    let r = step(u, d, n, m, k, scratch.path, scratch.acts, scratch.mid);
     if PASSED <= r {
-        return Done::NotOffered;
+        return None;
     }
-    let action = action_in(r);
-    renew(t, dir, m, w, functions, c, action);
+    let action = (r / 65536 % 4294967296) as u32;
+    renew(functions, m, action);
     if 0 < action {
-        return Done::Visible(r % 65536);
+        return Some(Done::Visible(r % 65536));
     }
-    Done::Internal(r % 65536)
+    Some(Done::Internal(r % 65536))
 }
 
 // From the shared term in the first n words of d and the cells in the store, by all numbers of the list; an odd last byte is ignored.
 pub fn run_shared(
     numbers: &[u8],
-    t: &[u16],
-    dir: &[u32],
-    w: usize,
-    functions: usize,
-    c: usize,
+    functions: &Functions,
     u: &[u16],
     n: usize,
     d: &mut [u16],
     m: &mut [u16],
-    path: &mut [u16],
-    acts: &mut [u32],
-    mid: &mut [u16],
+    scratch: &mut Scratch,
 ) -> Tally
-    requires { (length t.now ≤ 65535) × (w ≤ 256) × (functions ≤ 16) × (c ≤ 1024) × (length u.now ≤ 65503) × (length d.old ≤ 65535) × (length path.old ≤ 65535) × (length acts.old ≤ 131072) × (length mid.old ≤ 65535) }
-    ensures { (length d.new ≡ length d.old) × (length m.new ≡ length m.old) × (length path.new ≡ length path.old) × (length acts.new ≡ length acts.old) × (length mid.new ≡ length mid.old) × RunsShared numbers.now t.now dir.now w functions c u.now n d.old m.old (length path.old) (length acts.old) (length mid.old) d.new m.new result }
+    requires { (length u.now ≤ 65503) × (length d.old ≤ 65535) }
+    ensures { (length d.new ≡ length d.old) × (length m.new ≡ length m.old) × SameArrays scratch.old scratch.new × RunsShared numbers.now functions.now.words.now functions.now.directory.now functions.now.width functions.now.count functions.now.cells u.now n d.old m.old (length scratch.old.path.now) (length scratch.old.acts.now) (length scratch.old.mid.now) d.new m.new result }
 {
     let mut tally = Tally {
         size: n,
@@ -73,14 +58,10 @@ pub fn run_shared(
         internal: 0,
         refused: 0,
     };
-    let count = numbers.len() / 2;
-    let mut i = 0;
-    while i < count {
-        let size = tally.size;
+    for i in 0..numbers.len() / 2 {
         let k = number_at(numbers, i);
-        let done = step_shared(t, dir, w, functions, c, u, size, k, d, m, path, acts, mid);
+        let done = step_shared(functions, u, tally.size, k, d, m, scratch);
         tally = counted(tally, done);
-        i = i + 1;
     }
     tally
 }

@@ -2,14 +2,13 @@
 -- (`Same`), and how the answer of a check is made of the answers of its parts: `..-out`, the first is refused; `..-in`, the first is read and the rest
 -- is checked on what is left.
 -- Document 01, "Operations": 4, 5 and 6 by the first offending word of the stream.
-use Rattle.std.specs.Prelude.{ℕ, suc, ◌+◌, ◌-◌, ◌≤◌, ◌<◌, ◌≡◌, refl, Bool, true, false, List, [], ◌∷◌, ◌++◌, length, take, drop, get_or, set, ltb}
+use Rattle.std.specs.Prelude.{ℕ, suc, ◌+◌, ◌-◌, ◌≤◌, ◌<◌, ◌≡◌, refl, Bool, true, false, List, [], ◌∷◌, ◌++◌, length, take, drop, get_or, set, ltb, Ok, Err}
 use Rattle.std.proofs.Common.{le_refl, le_trans, arith, sym, ap, ◌∙◌, append-nil, length-drop, length-set, drop_of_length-le, take_all, drop-drop}
 use Rattle.std.proofs.Math.Decide.{dec_le}
 use Rattle.std.proofs.Math.Seq.{drop-length, drop-append_seam}
-use Rattle.scan.specs.declared.Checked.{Checked}
-use Rattle.scan.specs.declared.Checked.TheVariants.{Left, Refused}
 use Rattle.eb3.specs.Reading.{Read, refused, taken, Reader, pick, giving, then, both, number_of, by_number}
-use Rattle.scan.specs.Checking.{checked, last_of}
+use Rattle.scan.specs.Checking.{checked, last_of, Checked}
+use Rattle.refusals.specs.declared.Refusal.{Refusal}
 
 -- ── words and their parts ──
 
@@ -177,17 +176,17 @@ unfolding then checked
 then_checked (refused k) f g h = refl
 then_checked (taken a t) f g h = h a t
 
-pub then_out : {A B : Type 0} (r : Read A) (g : A → Reader B) (k : ℕ) → Refused k ≡ checked r → Refused k ≡ checked (then r g)
+pub then_out : {A B : Type 0} (r : Read A) (g : A → Reader B) (k : Refusal) → Err k ≡ checked r → Err k ≡ checked (then r g)
 unfolding then checked
 then_out (refused j) g k e = e
 then_out (taken a t) g k e = cc
 
 -- the first is refused
-pub both_out : {A B : Type 0} (f : Reader A) (g : Reader B) (t : List ℕ) (p : Checked) (k : ℕ) → p ≡ checked (f t) → p ≡ Refused k → Refused k ≡ checked (both f g t)
+pub both_out : {A B : Type 0} (f : Reader A) (g : Reader B) (t : List ℕ) (p : Checked) (k : Refusal) → p ≡ checked (f t) → p ≡ Err k → Err k ≡ checked (both f g t)
 unfolding both
 both_out f g t p k e h = then_out (f t) _ k (sym h ∙ e)
 
-pub then_in : {A B : Type 0} (s : List ℕ) (r : Read A) (g : A → Reader B) (n : ℕ) → Fine s r → Left n ≡ checked r → (q : Checked) → ((a : A) → q ≡ checked (g a (last_of n s))) → q ≡ checked (then r g)
+pub then_in : {A B : Type 0} (s : List ℕ) (r : Read A) (g : A → Reader B) (n : ℕ) → Fine s r → Ok n ≡ checked r → (q : Checked) → ((a : A) → q ≡ checked (g a (last_of n s))) → q ≡ checked (then r g)
 unfolding then checked
 then_in s (refused j) g n p e q h = cc
 then_in s (taken a t) g n p e q h =
@@ -196,19 +195,19 @@ then_in s (taken a t) g n p e q h =
     h a ∙ ap (λ r. checked (g a r)) l
 
 -- the first is read, and the second is checked on what is left
-pub both_in : {A B : Type 0} (f : Reader A) (g : Reader B) (t r : List ℕ) (p q : Checked) (n : ℕ) → Ends f → p ≡ checked (f t) → p ≡ Left n → r ≡ last_of n t → q ≡ checked (g r) → q ≡ checked (both f g t)
+pub both_in : {A B : Type 0} (f : Reader A) (g : Reader B) (t r : List ℕ) (p q : Checked) (n : ℕ) → Ends f → p ≡ checked (f t) → p ≡ Ok n → r ≡ last_of n t → q ≡ checked (g r) → q ≡ checked (both f g t)
 unfolding both
 both_in f g t r p q n i e h l j = then_in t (f t) _ n (i t) (sym h ∙ e) q (λ a. j ∙ ap (λ u. checked (g u)) l ∙ sym (checked_giving (λ b. (a, b)) (g (last_of n t))))
 
 -- what was read, where words are left
-pub got_in : {A : Type 0} (t : List ℕ) (o : ℕ) (r : Read A) → Fine t r → Left o ≡ checked r → (a : A) × (r ≡ taken a (last_of o t))
+pub got_in : {A : Type 0} (t : List ℕ) (o : ℕ) (r : Read A) → Fine t r → Ok o ≡ checked r → (a : A) × (r ≡ taken a (last_of o t))
 unfolding checked
 got_in t o (refused k) f e = absurd (let z : ◌≡◌ {A = ℕ} 0 1 = cc in omega arith)
 got_in t o (taken a u) f e =
     let k : o ≡ length u = cc in
     (a, ap (taken a) (sym (ap (λ j. last_of j t) k ∙ tail_at u t f)))
 
-pub got : {A : Type 0} (f : Reader A) → Ends f → (t : List ℕ) (o : ℕ) (p : Checked) → p ≡ checked (f t) → p ≡ Left o → (a : A) × (f t ≡ taken a (last_of o t))
+pub got : {A : Type 0} (f : Reader A) → Ends f → (t : List ℕ) (o : ℕ) (p : Checked) → p ≡ checked (f t) → p ≡ Ok o → (a : A) × (f t ≡ taken a (last_of o t))
 got f h t o p e i = got_in t o (f t) (h t) (sym i ∙ e)
 
 -- ── a number by which the reading goes on ──
@@ -221,27 +220,27 @@ pub by_number_same : {B : Type 0} (s : List ℕ) (k limit : ℕ) (f g : ℕ → 
 unfolding by_number
 by_number_same s k limit f g h r le = then_same r f g (λ a u m. h a u (le_trans m le)) (number_of k limit r) (number_ends k limit r)
 
-pub by_number_out : {B : Type 0} (k limit : ℕ) (g : ℕ → Reader B) (t : List ℕ) (p : Checked) (j : ℕ) → p ≡ checked (number_of k limit t) → p ≡ Refused j → Refused j ≡ checked (by_number k limit g t)
+pub by_number_out : {B : Type 0} (k limit : ℕ) (g : ℕ → Reader B) (t : List ℕ) (p : Checked) (j : Refusal) → p ≡ checked (number_of k limit t) → p ≡ Err j → Err j ≡ checked (by_number k limit g t)
 unfolding by_number
 by_number_out k limit g t p j e h = then_out (number_of k limit t) g j (sym h ∙ e)
 
-pub number_word : (k limit n : ℕ) (t : List ℕ) → Left n ≡ checked (number_of k limit t) → number_of k limit t ≡ taken (get_or t 0 0) (last_of n t)
+pub number_word : (k limit n : ℕ) (t : List ℕ) → Ok n ≡ checked (number_of k limit t) → number_of k limit t ≡ taken (get_or t 0 0) (last_of n t)
 unfolding number_of checked last_of
 number_word k limit n [] e = cc
 number_word k limit n (w ∷ t) e = go (ltb w limit) e
   where
-    go : (b : Bool) → Left n ≡ checked (pick b (taken w t) (refused k)) → pick b (taken w t) (refused k) ≡ taken w (drop (suc (length t) - n) (w ∷ t))
+    go : (b : Bool) → Ok n ≡ checked (pick b (taken w t) (refused k)) → pick b (taken w t) (refused k) ≡ taken w (drop (suc (length t) - n) (w ∷ t))
     go true f =
         let m : n ≡ length t = cc in
         let o : suc (length t) - n ≡ 1 = omega arith in
         ap (λ i. taken w (drop i (w ∷ t))) (sym o)
     go false f = cc
 
-pub by_number_in : {B : Type 0} (k limit : ℕ) (g : ℕ → Reader B) (t r : List ℕ) (p q : Checked) (n : ℕ) → p ≡ checked (number_of k limit t) → p ≡ Left n → r ≡ last_of n t → q ≡ checked (g (get_or t 0 0) r) → q ≡ checked (by_number k limit g t)
+pub by_number_in : {B : Type 0} (k limit : ℕ) (g : ℕ → Reader B) (t r : List ℕ) (p q : Checked) (n : ℕ) → p ≡ checked (number_of k limit t) → p ≡ Ok n → r ≡ last_of n t → q ≡ checked (g (get_or t 0 0) r) → q ≡ checked (by_number k limit g t)
 unfolding by_number then
 by_number_in k limit g t r p q n e h l j = rw (number_word k limit n t (sym h ∙ e), ← l) j
 
-pub by_number_pos : (k limit n : ℕ) (t : List ℕ) (p : Checked) → p ≡ checked (number_of k limit t) → p ≡ Left n → 0 < length t
+pub by_number_pos : (k limit n : ℕ) (t : List ℕ) (p : Checked) → p ≡ checked (number_of k limit t) → p ≡ Ok n → 0 < length t
 unfolding number_of checked
 by_number_pos k limit n [] p e h =
     let z : ◌≡◌ {A = ℕ} 0 1 = cc in

@@ -4,13 +4,10 @@
 
 ghost use Rattle.std.specs.Prelude.{◌≡◌, ℕ, ◌<◌, ◌≤◌, List, drop, get_or, length, take};
 ghost use Rattle.eb3.specs.Reading.{number_of, count_of};
+ghost use Rattle.refusals.specs.Numbers.{number};
 ghost use Rattle.scan.specs.Checking.{checked, last_of};
 
-#[derive(Clone, Copy)]
-pub enum Checked {
-    Left(usize),
-    Refused(u8),
-}
+use refusals::Refusal;
 
 pub fn wide(x: u16) -> usize
     ensures { (result ≡ x) × (result < 65536) }
@@ -60,30 +57,30 @@ pub fn behind(s: &[u16]) -> &[u16]
 }
 
 // One number below a limit, else refused k.
-pub fn number(t: &[u16], k: u8, limit: usize) -> Checked
-    ensures { result ≡ checked (number_of k limit t.now) }
+pub fn number(t: &[u16], refusal: Refusal, limit: usize) -> Result<usize, Refusal>
+    ensures { result ≡ checked (number_of (number refusal) limit t.now) }
 {
     if t.len() == 0 {
-        return Checked::Refused(4);
+        return Err(Refusal::Form);
     }
     if wide(t[0]) < limit {
-        return Checked::Left(t.len() - 1);
+        return Ok(t.len() - 1);
     }
-    Checked::Refused(k)
+    Err(refusal)
 }
 
 // A number from lo to hi, else refused 4.
-pub fn count(t: &[u16], lo: usize, hi: usize) -> Checked
+pub fn count(t: &[u16], lo: usize, hi: usize) -> Result<usize, Refusal>
     ensures { result ≡ checked (count_of lo hi t.now) }
 {
     if t.len() == 0 {
-        return Checked::Refused(4);
+        return Err(Refusal::Form);
     }
     let w = wide(t[0]);
     if lo <= w {
         if w <= hi {
-            return Checked::Left(t.len() - 1);
+            return Ok(t.len() - 1);
         }
     }
-    Checked::Refused(4)
+    Err(Refusal::Form)
 }

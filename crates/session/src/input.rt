@@ -1,28 +1,8 @@
 // Standard input: the blocks of a rule set, then the numbers of moves, words of 16 bits (document 01, "Examples").
-ghost use Rattle.std.specs.Prelude.{◌≡◌, ◌+◌, ◌*◌, ◌≤◌, ◌<◌, length, take};
+ghost use Rattle.std.specs.Prelude.{◌≡◌, ◌*◌, ◌≤◌, length, take};
 ghost use Rattle.session.specs.Reading.{blocks_read};
 
-use scan::wide;
 use std::io::{Read, Stdin};
-
-// The number of a move, or the end of the input.
-#[derive(Clone, Copy)]
-pub enum Input {
-    Number(u16),
-    End,
-}
-
-fn byte(x: u8) -> u16
-    ensures { (result ≡ x) × (result < 256) }
-{
-    x as u16
-}
-
-pub fn word(low: u8, high: u8) -> u16
-    ensures { result ≡ low + 256 * high }
-{
-    byte(low) + 256 * byte(high)
-}
 
 // Reads until the buffer is full, the input ends or a read fails, and answers how many bytes it put at the buffer's start. A failed
 // read counts as the end of the input. An empty buffer is not read into.
@@ -42,37 +22,34 @@ fn read_full(input: &mut Stdin, buffer: &mut [u8]) -> usize
 }
 
 // How many bytes a rule set has whose second word, the number of its blocks, is this.
+#[tactic(auto, unfolding(crate::specs::Reading::blocks_read))]
 fn rules_length(blocks: u16) -> usize
     ensures { (result ≡ 512 * blocks_read blocks) × (512 ≤ result) × (result ≤ 32768) }
 {
-    if blocks < 1 {
-        return 512;
+    match blocks {
+        1..=64 => 512 * usize::from(blocks),
+        _ => 512,
     }
-    if 64 < blocks {
-        return 512;
-    }
-    512 * wide(blocks)
 }
 
 // The blocks, or as much of them as the input has.
-pub fn read_rules(input: &mut Stdin, file: &mut [u8]) -> usize
-    requires { length file.old ≡ 32768 }
-    ensures { result ≤ 32768 }
+pub fn read_rules<'a>(input: &mut Stdin, file: &'a mut [u8; 32768]) -> &'a [u8]
+    ensures { length result.now ≤ 32768 }
 {
-    let first = read_full(input, &mut file[0..512]);
+    let first = read_full(input, &mut file[..512]);
     if first < 512 {
-        return first;
+        return &file[..first];
     }
-    let end = rules_length(word(file[6], file[7]));
-    512 + read_full(input, &mut file[512..end])
+    let end = rules_length(u16::from_le_bytes([file[6], file[7]]));
+    let rest = read_full(input, &mut file[512..end]);
+    &file[..512 + rest]
 }
 
-// An odd last byte is no number.
-pub fn read_number(input: &mut Stdin) -> Input {
+// The number of a move, where there is one more. An odd last byte is no number.
+pub fn read_number(input: &mut Stdin) -> Option<u16> {
     let mut pair = [0u8; 2];
-    let n = read_full(input, &mut pair);
-    if n < 2 {
-        return Input::End;
+    if read_full(input, &mut pair) < 2 {
+        return None;
     }
-    Input::Number(word(pair[0], pair[1]))
+    Some(u16::from_le_bytes(pair))
 }

@@ -1,148 +1,84 @@
 // What is printed of a state: a line with the moves taken, the move count and the cells, then a line for each move (document 01,
 // "Examples").
-ghost use Rattle.std.specs.Prelude.{◌≤◌};
+use super::lines::{Page, Refused};
+use super::positions::Position;
+use engine::stepping::Step;
+use std::fmt::{self, Display, Formatter};
+use std::io::{self, Write};
 
-use super::input::word;
-use super::lines::{Page, end_line, print_refusal, put, put_number, put_refusal, put_text};
-use arguments::wide32;
-use engine::counting::{Counted, count};
-use engine::stepping::{Moved, Step, make_move};
+// The cells of a memory, each behind a space.
+#[derive(Clone, Copy, Drop)]
+struct Cells<'a>(&'a [u8]);
 
-// ── the state line ──
-
-fn put_cell(page: &mut Page, used: usize, cell: u16) -> usize
-    requires { used ≤ 4096 }
-    ensures { result ≤ 4096 }
-{
-    if cell == 65535 {
-        return put(page, used, b'-');
+impl Display for Cells<'_> {
+    fn fmt<W: fmt::Write>(&self, f: &mut Formatter<W>) -> fmt::Result {
+        let (words, _) = self.0.as_chunks::<2>();
+        for word in words {
+            match u16::from_le_bytes(*word) {
+                65535 => write!(f, " -")?,
+                cell => write!(f, " {cell}")?,
+            }
+        }
+        Ok(())
     }
-    put_number(page, used, cell as u64)
 }
 
-// Each cell behind a space. The memory is cut to its cells.
-fn put_cells(page: &mut Page, used: usize, memory: &[u8]) -> usize
-    requires { used ≤ 4096 }
-    ensures { result ≤ 4096 }
-{
-    let mut at = used;
-    let mut i = 0;
-    while i < memory.len() / 2 {
-        at = put(page, at, b' ');
-        at = put_cell(page, at, word(memory[2 * i], memory[2 * i + 1]));
-        i = i + 1;
-    }
-    at
-}
+// The action of a move: behind a space `i` for the internal action; else the label and the arguments, each behind a space.
+#[derive(Clone, Copy)]
+struct Action(Step);
 
-fn put_state(page: &mut Page, taken: u64, moves: u32, memory: &[u8]) -> usize
-    ensures { result ≤ 4096 }
-{
-    let mut at = put_text(page, 0, b"state ");
-    at = put_number(page, at, taken);
-    at = put_text(page, at, b" moves ");
-    at = put_number(page, at, moves as u64);
-    at = put_text(page, at, b" cells");
-    at = put_cells(page, at, memory);
-    at
-}
-
-// ── a line for each move ──
-
-// A number behind a space.
-fn put_next(page: &mut Page, used: usize, n: u32) -> usize
-    requires { used ≤ 4096 }
-    ensures { result ≤ 4096 }
-{
-    let at = put(page, used, b' ');
-    put_number(page, at, n as u64)
-}
-
-// Behind a space `i` for the internal action; else the label and the arguments, each behind a space.
-fn put_action(page: &mut Page, used: usize, step: Step) -> usize
-    requires { used ≤ 4096 }
-    ensures { result ≤ 4096 }
-{
-    if step.visible == 0 {
-        return put_text(page, used, b" i");
-    }
-    let label = put_next(page, used, step.label);
-    if step.arguments == 0 {
-        return label;
-    }
-    let first = put_next(page, label, step.first);
-    if step.arguments == 1 {
-        return first;
-    }
-    put_next(page, first, step.second)
-}
-
-// The line of move k, begun at the end of the line before. That a move below the count is refused does not occur.
-fn put_move(
-    page: &mut Page,
-    used: usize,
-    k: u32,
-    rules: &[u8],
-    term: &[u8],
-    memory: &[u8],
-    other_term: &mut [u8],
-    other_memory: &mut [u8],
-) -> usize
-    requires { used ≤ 4096 }
-    ensures { result ≤ 4096 }
-{
-    let begun = put(page, used, b'\n');
-    let at = put_number(page, begun, k as u64);
-    match make_move(rules, term, memory, wide32(k), other_term, other_memory) {
-        Moved::Made(step) => put_action(page, at, step),
-        Moved::Refused(j) => {
-            let spaced = put(page, at, b' ');
-            put_refusal(page, spaced, j)
+impl Display for Action {
+    fn fmt<W: fmt::Write>(&self, f: &mut Formatter<W>) -> fmt::Result {
+        let Step {
+            visible,
+            label,
+            arguments,
+            first,
+            second,
+            ..
+        } = self.0;
+        if visible == 0 {
+            return write!(f, " i");
+        }
+        match arguments {
+            0 => write!(f, " {label}"),
+            1 => write!(f, " {label} {first}"),
+            _ => write!(f, " {label} {first} {second}"),
         }
     }
 }
 
-fn put_moves(
-    page: &mut Page,
-    used: usize,
-    moves: u32,
-    rules: &[u8],
-    term: &[u8],
-    memory: &[u8],
-    other_term: &mut [u8],
-    other_memory: &mut [u8],
-) -> usize
-    requires { used ≤ 4096 }
-    ensures { result ≤ 4096 }
-{
-    let mut at = used;
-    let mut k = 0;
-    while k < moves {
-        at = put_move(page, at, k, rules, term, memory, other_term, other_memory);
-        k = k + 1;
-    }
-    at
-}
-
-// ── the state ──
-
-// Prints the state of a term and a memory, each cut to its size, after so many moves. The other buffers take the successors that
-// Move writes on the way. Answers whether it could be printed. That the term or the memory is refused does not occur.
+// Prints the state at a position, after so many moves. The other position takes the successors that Move writes on the way. That the
+// position, or a move below the count, is refused does not occur.
 pub fn print_state(
     page: &mut Page,
     taken: u64,
     rules: &[u8],
-    term: &[u8],
-    memory: &[u8],
-    other_term: &mut [u8],
-    other_memory: &mut [u8],
-) -> bool {
-    match count(rules, term, memory) {
-        Counted::Moves(n) => {
-            let at = put_state(page, taken, n, memory);
-            let end = put_moves(page, at, n, rules, term, memory, other_term, other_memory);
-            end_line(page, end)
+    here: &Position,
+    other: &mut Position,
+) -> io::Result<()> {
+    match here.count(rules) {
+        Ok(moves) => {
+            let cells = Cells(here.memory());
+            write!(page, "state {taken} moves {moves} cells{cells}")?;
+            for k in 0..moves {
+                write!(page, "\n{k}")?;
+                match here.step(rules, k as usize, other) {
+                    Ok(step) => {
+                        let action = Action(step);
+                        write!(page, "{action}")?;
+                    }
+                    Err(refusal) => {
+                        let refused = Refused(refusal);
+                        write!(page, " {refused}")?;
+                    }
+                }
+            }
         }
-        Counted::Refused(k) => print_refusal(page, k),
+        Err(refusal) => {
+            let refused = Refused(refusal);
+            write!(page, "{refused}")?;
+        }
     }
+    page.end_line()
 }

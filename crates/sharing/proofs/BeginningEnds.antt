@@ -7,7 +7,7 @@ use Prim.Native.Nat.{ℕ, ◌+◌, ◌-◌, ◌≤◌}
 use native.Mathlib.Omega.{arith}
 use lib.Dec.{eqb}
 use lib.ListN.{length, take, drop, get_or, length-drop}
-use borrow.Author.Tests.{eqb-true, eqb-false, eq-eqb, ne_eqb}
+use borrow.Author.Tests.{eqb-true, eqb-false}
 use Rattle.eb3.specs.Scopes.{Scope}
 use Rattle.eb3.specs.Terms.{Term, Mask}
 use Rattle.eb3.specs.Sizes.{zero_mask}
@@ -69,13 +69,6 @@ one_word {u} {v} {P} {F} {rest} h t b = go (eqb (get_or v 0 0) 30) refl
       is = refl;
       word = refl;
     }
-
--- What the test of a part's front tells of its word.
-pub word_done : (w n : ℕ) → w ≡ 30 → 30 ≡ cond (eqb w 30) 30 n
-word_done w n e = sym (ap (λ b. cond b 30 n) (eq-eqb w 30 e))
-
-pub word_part : (w n : ℕ) → (w ≡ 30 → ⊥) → n ≡ cond (eqb w 30) 30 n
-word_part w n h = sym (ap (λ b. cond b 30 n) (ne_eqb w 30 h))
 
 -- ── masks ──
 

@@ -50,9 +50,6 @@ put_two x i c d h =
 
 -- ── done ──
 
-pub end_none : (x : List ℕ) (i left a : ℕ) → length x ≤ i → EndPut x x i left a 0
-end_none x i left a h = record { same_length = refl; bounded = omega arith; right = λ k. absurd (omega arith) }
-
 pub end_put : (x : List ℕ) (i left a : ℕ) → i < length x → length x ≤ 65535 → left ≤ 65535 → a < 1048576 → EndPut x (set x i 30) i left a (i + 1 + 65536 * (left + 65536 * a))
 unfolding began
 end_put x i left a h l m n = record { same_length = length-set x i 30; bounded = omega arith; right = λ k. (put_one x i 30 h, refl) }

@@ -82,10 +82,6 @@ join_roomless h = record { same_length = refl; mid_same_length = refl; right = �
 
 -- ── a part ──
 
--- A word below 32 is no part's.
-pub no_part : {u d : List ℕ} {n i e w : ℕ} {p mid : List ℕ} {r : ℕ} → w < 32 → PartChanged u d n i e w p mid d mid r
-no_part h = record { same_length = refl; mid_same_length = refl; right = λ P l E ρ T g a f m room. absurd (omega arith) }
-
 began_is : (at left a : ℕ) → began at left a ≡ at + 65536 * (left + 65536 * a)
 unfolding began
 began_is at left a = refl

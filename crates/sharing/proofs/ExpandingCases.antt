@@ -63,9 +63,6 @@ module _ (u e : List ℕ) (w k : ℕ) (high : 32 ≤ w) (is : e ≡ last_of (w -
 
 -- ── done ──
 
-pub done_none : (left at : ℕ) (entry : List ℕ) → length entry ≤ at → DoneExpanded left at entry entry 0
-done_none left at entry h = record { same_length = refl; right = λ room. absurd (omega arith) }
-
 pub done_made : (left at : ℕ) (entry : List ℕ) → at < length entry → DoneExpanded left at entry (set entry at 30) (left + 65536 * (at + 1))
 done_made left at entry h = record {
   same_length = length-set entry at 30;

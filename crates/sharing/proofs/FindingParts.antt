@@ -25,17 +25,6 @@ use Rattle.sharing.specs.Finding.{PartFound}
 part_size : (u : List ℕ) (P : Scope) (l : ℕ) (E : Term) → PartAt u P l E → size 1 E ≤ length u
 part_size u P l E h = omega (arith, last_len l u (last_of l u) refl, ap length h.there.spelled, length-append (words 1 E) h.rest, fits_length P E h.there.fits)
 
--- No part has such a word.
-pub part_never : (u : List ℕ) (w here left : ℕ) (M : List ℕ) (k : ℕ) (entry : List ℕ) (n : ℕ) → w < 32 → PartFound u w here left M k entry entry n full
-part_never u w here left M k entry n z = record {
-  same_length = refl;
-  bounded = omega arith;
-  place_bounded = λ y. absurd (omega (arith, y));
-  passed_bounded = λ y x. absurd (omega (arith, x));
-  found = λ P l E e. absurd (omega arith);
-  none_found = λ P l E e. absurd (omega arith);
-}
-
 module _ (u s : List ℕ) (w here left : ℕ) (M : List ℕ) (k : ℕ) (entry exit : List ℕ) (n m r : ℕ) (wide : 32 ≤ w) (iss : s ≡ last_of (w - 32) u) (ism : m ≡ n) (h : Sought s M k entry exit m r)
     (few : here ≤ 65535) (behind : left ≤ here) (small : k < 65536) (short : length entry ≤ 65535) where
   module _ (P : Scope) (l : ℕ) (E : Term) (isw : w ≡ part_word l) (a : PartAt u P l E) (long : length u ≤ length entry) (room_for : length u ≤ n) where

@@ -1,12 +1,12 @@
 -- Whether a label stands in a mask of a term, told of the operands and then of the whole (document 01, "Moves, in order").
 use mathlib.Core.Path.{◌≡◌, refl, sym, ap, ◌∙◌, subst}
-use mathlib.Core.Bool.{true, false, ◌&&◌}
+use mathlib.Core.Bool.{Bool, true, false, ◌&&◌, true≢false}
 use mathlib.Core.List.{List, [], ◌∷◌, ◌++◌}
-use Prim.Native.Nat.{ℕ, suc, ◌+◌, ◌≤◌, ◌<◌}
+use Prim.Native.Nat.{ℕ, ◌≤◌, ◌<◌}
 use native.Mathlib.Omega.{arith}
 use lib.Dec.{ltb, eqb}
-use lib.ListN.{length, take, drop, get_or}
 use borrow.Author.Tests.{ltb-false}
+use lib.ListN.{length, take, drop, get_or}
 use Rattle.eb3.specs.Scopes.{Scope}
 use Rattle.eb3.specs.Expressions.{Cond}
 use Rattle.eb3.specs.Terms.{Term, Done, Internal, Perform, Sequence, Choice, Star, Parallel, Guard, VisibleAction}
@@ -18,87 +18,85 @@ use Rattle.expressions.specs.Answering.{CondAt}
 use Rattle.actions.specs.Codes.{ActionAt}
 use Rattle.listing.specs.Listing.{TermAt}
 use Rattle.listing.specs.Positions.{code_in_front, TwoAt, GuardedAt, term_front, second_at}
-use Rattle.listing.specs.Operands.{front_form, mask_len}
+use Rattle.listing.specs.Operands.{front_form, front_len, mask_len}
 use Rattle.listing.specs.CasesByCode.{perform_cases, sequence_cases, choice_cases, star_cases, parallel_cases, guard_cases}
 use Rattle.sharing.specs.Shared.{Unmasked}
-use Rattle.sharing.specs.Masks.{Bare, TwoBare}
+use Rattle.std.specs.Prelude.{◌||◌}
+use Rattle.std.specs.List.{list_any}
+use Rattle.sharing.specs.Masks.{Bare}
 
 -- ── a mask ──
 
-zero_more : (n : ℕ) (d e : List ℕ) → e ≡ drop 1 d → get_or d 0 0 ≡ 0 → zero_mask (take n e) ≡ true → zero_mask (take (suc n) d) ≡ true
-unfolding zero_mask
-zero_more n [] e f a b = refl
-zero_more n (w ∷ d) e f a b = ap (λ x. eqb x 0 && zero_mask (take n d)) a ∙ ap (λ v. zero_mask (take n v)) (sym f) ∙ b
+none_of : (a b : Bool) → (a || b) ≡ false → (a ≡ false) × (b ≡ false)
+none_of true b h = absurd (true≢false h)
+none_of false b h = (refl, h)
 
-pub label_none : (d e f g : List ℕ) (i j k l : ℕ) → e ≡ drop 1 d → f ≡ drop 1 e → g ≡ drop 1 f → i ≡ get_or d 0 0 → j ≡ get_or e 0 0 → k ≡ get_or f 0 0 → l ≡ get_or g 0 0 → ltb 0 (i + j + k + l) ≡ false
-    → zero_mask (take 4 d) ≡ true
+-- No word is above zero.
+pub label_none : (d : List ℕ) → list_any (ltb 0) d ≡ false → zero_mask d ≡ true
 unfolding zero_mask
-label_none d e f g i j k l de ef fg id je kf lg h =
-    let z : i + j + k + l ≤ 0 = ltb-false 0 (i + j + k + l) h in
-    zero_more 3 d e de (omega (arith, z, id)) (zero_more 2 e f ef (omega (arith, z, je)) (zero_more 1 f g fg (omega (arith, z, kf)) (zero_more 0 g (drop 1 g) refl (omega (arith, z, lg)) refl)))
+label_none [] h = refl
+label_none (w ∷ d) h =
+    let n = none_of (ltb 0 w) (list_any (ltb 0) d) h in
+    let z : w ≡ 0 = omega (arith, ltb-false 0 w n.0) in
+    ap (λ x. eqb x 0 && zero_mask d) z ∙ label_none d n.1
 
 -- ── what is told of a term by its code ──
 
--- A label was found.
-pub masked : (s : List ℕ) → Bare s 65536
-masked s = record { bounded = omega arith; shorter = λ z. absurd (omega (arith, z)); right = λ P E rest h z. absurd (omega (arith, z)) }
+-- `Bare`, of two operands.
+pub record TwoBare (t : List ℕ) (n : ℕ) : Type 0 where
+  pub shorter : n ≤ length t
+  pub right : (P : Scope) (E F : Term) (rest : List ℕ) → TwoAt t P E F rest → (n ≡ length rest) × Unmasked E × Unmasked F
 
-pub two_masked : (t : List ℕ) → TwoBare t 65536
-two_masked t = record { bounded = omega arith; shorter = λ z. absurd (omega (arith, z)); right = λ P E F rest h z. absurd (omega (arith, z)) }
+-- The loop has passed over what stands in front of x: what holds of x holds of s.
+pub record Passing (s x : List ℕ) : Type 0 where
+  pub shorter : length x ≤ length s
+  pub carries : (n : ℕ) → Bare x n → Bare s n
 
-pub at_front : (s t : List ℕ) (w k r : ℕ) → w ≡ get_or s 0 0 → t ≡ drop 1 s → w ≡ k → 0 < k → Bare (k ∷ t) r → Bare s r
-at_front s t w k r a b e z h = subst (λ u. Bare u r) (sym (front_form s t w k a b e z)) h
+pub passing_none : (s : List ℕ) → Passing s s
+passing_none s = record { shorter = omega arith; carries = λ n h. h }
+
+-- From the code in front on, what is shown of the words by that code.
+pub at_front : (s x t : List ℕ) (w k : ℕ) → Passing s x → w ≡ get_or x 0 0 → t ≡ drop 1 x → w ≡ k → 0 < k → (n : ℕ) → Bare (k ∷ t) n → Bare s n
+at_front s x t w k p a b e z n h = p.carries n (subst (λ u. Bare u n) (sym (front_form x t w k a b e z)) h)
+
+-- What is left at the last operand is gone through next.
+pub goes_on : (s x t y : List ℕ) (w k : ℕ) → Passing s x → w ≡ get_or x 0 0 → t ≡ drop 1 x → w ≡ k → 0 < k → length y ≤ length t → ((n : ℕ) → Bare y n → Bare (k ∷ t) n) → Passing s y
+goes_on s x t y w k p a b e z l h = record { shorter = omega (arith, l, p.shorter, behind_len x t b); carries = λ n g. at_front s x t w k p a b e z n (h n g) }
+
+pub goes_less : (x t y : List ℕ) (w k : ℕ) → (w ≡ get_or x 0 0) × (w < 65536) → t ≡ drop 1 x → w ≡ k → 0 < k → length y ≤ length t → length y < length x
+goes_less x t y w k f b z h l = omega (arith, l, behind_len x t b, front_len x w f.0 f.1)
+
+pub behind_mask_less : (d e u : List ℕ) (l : ℕ) → e ≡ drop 4 d → u ≡ last_of l e → length u ≤ length d
+behind_mask_less d e u l h g = omega (arith, mask_len d e h, last_len l e u g)
 
 abbrev Told : ℕ → Scope → Term → List ℕ → Type 0
-Told r P E rest = r < 65536 → (r ≡ length rest) × Unmasked E
+Told n P E rest = (n ≡ length rest) × Unmasked E
 
-module _ (t : List ℕ) (r : ℕ) where
-  pub action_bare : length t ≤ 65535 → (r ≤ length t) × ((a : VisibleAction) (rest : List ℕ) → ActionAt t a rest → r ≡ length rest) → Bare (21 ∷ t) r
-  action_bare l h = record {
-    bounded = omega (arith, h.0);
-    shorter = λ z. omega (arith, h.0);
-    right = perform_cases t (Told r) (λ P a rest k z. (h.1 a rest k, tt));
-  }
+module _ (t : List ℕ) where
+  pub action_bare : (n : ℕ) → (n ≤ length t) × ((a : VisibleAction) (rest : List ℕ) → ActionAt t a rest → n ≡ length rest) → Bare (21 ∷ t) n
+  action_bare n h = record { shorter = omega (arith, h.0); right = perform_cases t (Told n) (λ P a rest k. (h.1 a rest k, tt)) }
 
-  pub sequence_bare : TwoBare t r → Bare (22 ∷ t) r
-  sequence_bare h = record {
-    bounded = h.bounded;
-    shorter = λ z. omega (arith, h.shorter z);
-    right = sequence_cases t (Told r) (λ P E F rest k z.
-        let g = h.right P E F rest k z in
-        (g.0, (g.1, g.2)));
-  }
+  pub sequence_bare : (n : ℕ) → TwoBare t n → Bare (22 ∷ t) n
+  sequence_bare n h = record { shorter = omega (arith, h.shorter); right = sequence_cases t (Told n) (λ P E F rest k. let g = h.right P E F rest k in (g.0, (g.1, g.2))) }
 
-  pub choice_bare : TwoBare t r → Bare (23 ∷ t) r
-  choice_bare h = record {
-    bounded = h.bounded;
-    shorter = λ z. omega (arith, h.shorter z);
-    right = choice_cases t (Told r) (λ P E F rest k z.
-        let g = h.right P E F rest k z in
-        (g.0, (g.1, g.2)));
-  }
+  pub choice_bare : (n : ℕ) → TwoBare t n → Bare (23 ∷ t) n
+  choice_bare n h = record { shorter = omega (arith, h.shorter); right = choice_cases t (Told n) (λ P E F rest k. let g = h.right P E F rest k in (g.0, (g.1, g.2))) }
 
-  pub star_bare : Bare t r → Bare (24 ∷ t) r
-  star_bare h = record {
-    bounded = h.bounded;
-    shorter = λ z. omega (arith, h.shorter z);
-    right = star_cases t (Told r) (λ P E rest k z. h.right P E rest k z);
-  }
+  pub star_bare : (n : ℕ) → Bare t n → Bare (24 ∷ t) n
+  star_bare n h = record { shorter = omega (arith, h.shorter); right = star_cases t (Told n) (λ P E rest k. h.right P E rest k) }
 
-  pub parallel_bare : (d : List ℕ) → zero_mask (take 4 d) ≡ true → t ≡ drop 4 d → TwoBare t r → Bare (25 ∷ d) r
-  parallel_bare d m e h = record {
-    bounded = h.bounded;
-    shorter = λ z. omega (arith, h.shorter z, mask_len d t e);
-    right = parallel_cases d (Told r) (λ P Δ E F rest k z.
-        let g = h.right P E F rest (subst (λ v. TwoAt v P E F rest) (sym e) k.sides) z in
+  pub parallel_bare : (d : List ℕ) → zero_mask (take 4 d) ≡ true → t ≡ drop 4 d → (n : ℕ) → TwoBare t n → Bare (25 ∷ d) n
+  parallel_bare d m e n h = record {
+    shorter = omega (arith, h.shorter, mask_len d t e);
+    right = parallel_cases d (Told n) (λ P Δ E F rest k.
+        let g = h.right P E F rest (subst (λ v. TwoAt v P E F rest) (sym e) k.sides) in
         (g.0, (ap zero_mask (sym k.mask) ∙ m, g.1, g.2)));
   }
 
-  pub guard_bare : (c : ℕ) (u : List ℕ) → (c ≤ length t) × ((P : Scope) (C : Cond) (rest : List ℕ) → CondAt t P C rest → c ≡ length rest) → u ≡ last_of c t → Bare u r → Bare (26 ∷ t) r
-  guard_bare c u j e h = record {
-    bounded = h.bounded;
-    shorter = λ z. omega (arith, h.shorter z, last_len c t u e);
-    right = guard_cases t (Told r) (λ P C E rest k z. h.right P E rest (guarded P C E rest k) z);
+  pub guard_bare : (c : ℕ) (u : List ℕ) → (c ≤ length t) × ((P : Scope) (C : Cond) (rest : List ℕ) → CondAt t P C rest → c ≡ length rest) → u ≡ last_of c t → (n : ℕ) → Bare u n → Bare (26 ∷ t) n
+  guard_bare c u j e n h = record {
+    shorter = omega (arith, h.shorter, last_len c t u e);
+    right = guard_cases t (Told n) (λ P C E rest k. h.right P E rest (guarded P C E rest k));
   }
     where
       guarded : (P : Scope) (C : Cond) (E : Term) (rest : List ℕ) → GuardedAt t P C E rest → TermAt u P E rest
@@ -122,23 +120,21 @@ by_leaf w h s P (Star E) rest e f = absurd (h.0.0.1 f)
 by_leaf w h s P (Parallel Δ E F) rest e f = absurd (h.0.1 f)
 by_leaf w h s P (Guard C E) rest e f = absurd (h.1 f)
 
-pub leaf_bare : (s t : List ℕ) (w : ℕ) → w ≡ get_or s 0 0 → t ≡ drop 1 s → length s ≤ 65535 → NoOperands w → Bare s (length t)
-leaf_bare s t w a b l h = record {
-  bounded = omega (arith, behind_len s t b);
-  shorter = λ z. omega (arith, behind_len s t b);
-  right = λ P E rest k z.
+pub leaf_bare : (s t : List ℕ) (w : ℕ) → w ≡ get_or s 0 0 → t ≡ drop 1 s → NoOperands w → Bare s (length t)
+leaf_bare s t w a b h = record {
+  shorter = omega (arith, behind_len s t b);
+  right = λ P E rest k.
       let g = by_leaf w h s P E rest k.spelled (a ∙ term_front s P E rest k) in
       (ap length (b ∙ g.0), g.1);
 }
 
 -- ── two operands ──
 
-pub two_bare : (t u : List ℕ) (l r : ℕ) → Bare t l → l < 65536 → u ≡ last_of l t → Bare u r → TwoBare t r
-two_bare t u l r h low e g = record {
-  bounded = g.bounded;
-  shorter = λ z. omega (arith, g.shorter z, last_len l t u e);
-  right = λ P E F rest k z.
-      let a = h.right P E (words 1 F ++ rest) k.first low in
-      let b = g.right P F rest (second_at l u k a.0 e) z in
+pub two_bare : (t u : List ℕ) (l : ℕ) → Bare t l → u ≡ last_of l t → (n : ℕ) → Bare u n → TwoBare t n
+two_bare t u l h e n g = record {
+  shorter = omega (arith, g.shorter, last_len l t u e);
+  right = λ P E F rest k.
+      let a = h.right P E (words 1 F ++ rest) k.first in
+      let b = g.right P F rest (second_at l u k a.0 e) in
       (b.0, a.1, b.1);
 }

@@ -2,7 +2,6 @@
 use mathlib.Core.Path.{◌≡◌, sym, ap, ◌∙◌}
 use mathlib.Core.List.{List, [], ◌++◌}
 use Prim.Native.Nat.{ℕ, ◌+◌, ◌-◌, ◌≤◌, ◌<◌}
-use native.Mathlib.Nat.{le_refl}
 use native.Mathlib.Omega.{arith}
 use lib.ListN.{length, drop}
 use lib.Seq.{drop-length}
@@ -14,14 +13,11 @@ use Rattle.paths.specs.Paths.{path}
 use Rattle.paths.proofs.PathLaws.{path_length}
 use Rattle.derivation.specs.Derived.{passed, full, move_count, Derived}
 use Rattle.derivation.specs.Arms.{Decided}
-use Rattle.derivation.specs.AnswerLaws.{by_order, never_full, place_room}
+use Rattle.derivation.specs.AnswerLaws.{by_order, place_room}
 use Rattle.sharing.specs.Shared.{Unmasked}
 use Rattle.sharing.specs.Seeking.{Bounded, Outcome, Sought}
 
 -- ── what is known whatever the words are ──
-
-pub bounded_lost : (k l : ℕ) → Bounded k l full
-bounded_lost k l = record { bounded = le_refl full; place_bounded = λ z. absurd (omega (arith, z)); passed_bounded = λ y z. never_full z }
 
 pub bounded_more : {k l r : ℕ} (j : ℕ) → Bounded k l r → k ≤ j → Bounded j l r
 bounded_more {k} {l} {r} j h a = record { bounded = h.bounded; place_bounded = h.place_bounded; passed_bounded = λ y z. omega (arith, h.passed_bounded y z) }

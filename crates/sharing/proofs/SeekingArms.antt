@@ -23,8 +23,8 @@ use Rattle.derivation.specs.Derived.{passed, full, move_count, Derived}
 use Rattle.derivation.specs.Arms.{Decided}
 use Rattle.derivation.specs.FitLaws.{before_second}
 use Rattle.sharing.specs.Seeking.{Bounded, Sought, TwoSought}
-use Rattle.derivation.specs.AnswerLaws.{by_order, never_full, before_full, decided_room}
-use Rattle.sharing.proofs.SeekingAnswers.{bounded_lost, bounded_more, bounded_passed, bounded_single, Told, sought_of, outcome_as, outcome_early, outcome_later, outcome_none, outcome_single, decided_bounds, decided_outcome, outcome_room, derived_place, derived_outcome, derived_room}
+use Rattle.derivation.specs.AnswerLaws.{by_order, before_full, decided_room}
+use Rattle.sharing.proofs.SeekingAnswers.{bounded_more, bounded_passed, bounded_single, Told, sought_of, outcome_as, outcome_early, outcome_later, outcome_none, outcome_single, decided_bounds, decided_outcome, outcome_room, derived_place, derived_outcome, derived_room}
 use Rattle.sharing.proofs.SeekingCounts.{count_done, count_internal, count_perform, count_after_done, count_sequence, count_choice, count_star, count_guard, count_shut, count_both_done, count_beside, path_after_done, path_sequence, path_choice, path_end, path_round, path_guard, path_internal, path_perform, two_first, two_second, path_both_done, path_beside}
 
 -- ── one move ──
@@ -45,14 +45,6 @@ module _ (t M entry : List ℕ) (k n r : ℕ) (f : k ≡ 0 → r ≡ length entr
 
 -- the first's end is looked for
 module _ (c : ℕ) (t M : List ℕ) (k : ℕ) (entry mid : List ℕ) (n l : ℕ) (first : Derived t M k entry mid n l) (same : length mid ≡ length entry) (short : length t ≤ 65535) (small : k < 65536) where
-  pub two_lost : full ≤ l → TwoSought c t M k entry mid n full
-  two_lost f = record {
-    same_length = same;
-    bounds = bounded_lost k (length entry);
-    has_room = λ P E F rest s u v a b d. absurd (omega (arith, f, first.has_room P E (words 1 F ++ rest) s.first (omega (arith, a)) b));
-    right = λ P E F rest s u v z. never_full z;
-  }
-
   pub two_left : l < passed → (exit : List ℕ) (q : ℕ) → Decided (c ∷ []) l mid exit q → TwoSought c t M k entry exit n q
   two_left f exit q h = record {
     same_length = h.same_length ∙ same;

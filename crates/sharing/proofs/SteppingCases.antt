@@ -29,10 +29,6 @@ Never u d n M k paths numbers = (P : Scope) (S : Shared) → n ≤ length d → 
 never_stepped : {u d : List ℕ} {n : ℕ} {M : List ℕ} {k paths numbers room : ℕ} → Never u d n M k paths numbers → Stepped u d n M k paths numbers room d passed
 never_stepped h = record { same_length = refl; taken = λ P S a b c e f x g _ _. absurd (h P S a b c e f x g); not_offered = λ P S a b c e f g. (le_refl passed, refl) }
 
--- There are not so many words.
-pub words_missing : {u d : List ℕ} {n : ℕ} {M : List ℕ} {k paths numbers room : ℕ} → length d < n → Stepped u d n M k paths numbers room d passed
-words_missing h = never_stepped (λ P S a b c e f x g. omega arith)
-
 module _ (u d : List ℕ) (n : ℕ) (M s : List ℕ) (k numbers : ℕ) (entry exit : List ℕ) (r : ℕ) (short : length d ≤ 65535) (is : s ≡ take n d) (f : Found u s M k entry exit numbers r) where
   -- ── what was found ──
 

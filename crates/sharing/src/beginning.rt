@@ -43,7 +43,7 @@ fn put_done(out: &mut [u16], at: usize, left: usize, action: usize) -> usize
     at + 1 + 65536 * (left + 65536 * action)
 }
 
-#[cycle(begin_begin_both_begin_choice_begin_guard_begin_left_begin_parallel_begin_right_begin_sequence_begin_star)]
+#[cycle(beginning)]
 pub fn begin(s: &[u16], path: &[u16], out: &mut [u16], at: usize) -> usize
     requires { (length s.now ≤ 65503) × (length path.now ≤ 65535) × (at ≤ length out.old) × (length out.old ≤ 65535) }
     ensures { Beginning s.now path.now at out.old out.new result }
@@ -60,7 +60,7 @@ pub fn begin(s: &[u16], path: &[u16], out: &mut [u16], at: usize) -> usize
 }
 
 // The place of what follows is written in front of what it follows.
-#[cycle(begin_begin_both_begin_choice_begin_guard_begin_left_begin_parallel_begin_right_begin_sequence_begin_star)]
+#[cycle(beginning)]
 fn begin_sequence(s: &[u16], path: &[u16], out: &mut [u16], at: usize) -> usize
     requires { (length s.now ≤ 65503) × (get_or s.now 0 0 ≡ 22) × (length path.now ≤ 65535) × (at ≤ length out.old) × (length out.old ≤ 65535) }
     ensures { Beginning s.now path.now at out.old out.new result }
@@ -72,13 +72,12 @@ fn begin_sequence(s: &[u16], path: &[u16], out: &mut [u16], at: usize) -> usize
     if out.len() < at + 2 {
         return 0;
     }
-    let next = at + 1;
     out[at] = 22;
-    out[next] = (32 + skip(t)) as u16;
+    out[at + 1] = (32 + skip(t)) as u16;
     begin(t, path, out, at + 2)
 }
 
-#[cycle(begin_begin_both_begin_choice_begin_guard_begin_left_begin_parallel_begin_right_begin_sequence_begin_star)]
+#[cycle(beginning)]
 fn begin_choice(s: &[u16], path: &[u16], out: &mut [u16], at: usize) -> usize
     requires { (length s.now ≤ 65503) × (get_or s.now 0 0 ≡ 23) × (length path.now ≤ 65535) × (at ≤ length out.old) × (length out.old ≤ 65535) }
     ensures { Beginning s.now path.now at out.old out.new result }
@@ -95,7 +94,7 @@ fn begin_choice(s: &[u16], path: &[u16], out: &mut [u16], at: usize) -> usize
 }
 
 // A round is what the operand becomes, and then the star again, where it stands.
-#[cycle(begin_begin_both_begin_choice_begin_guard_begin_left_begin_parallel_begin_right_begin_sequence_begin_star)]
+#[cycle(beginning)]
 fn begin_star(s: &[u16], path: &[u16], out: &mut [u16], at: usize) -> usize
     requires { (length s.now ≤ 65503) × (get_or s.now 0 0 ≡ 24) × (length path.now ≤ 65535) × (at ≤ length out.old) × (length out.old ≤ 65535) }
     ensures { Beginning s.now path.now at out.old out.new result }
@@ -106,14 +105,13 @@ fn begin_star(s: &[u16], path: &[u16], out: &mut [u16], at: usize) -> usize
     if out.len() < at + 2 {
         return 0;
     }
-    let next = at + 1;
     out[at] = 22;
-    out[next] = (32 + s.len()) as u16;
+    out[at + 1] = (32 + s.len()) as u16;
     begin(behind(s), behind(path), out, at + 2)
 }
 
 // What is guarded goes on without the guard.
-#[cycle(begin_begin_both_begin_choice_begin_guard_begin_left_begin_parallel_begin_right_begin_sequence_begin_star)]
+#[cycle(beginning)]
 fn begin_guard(s: &[u16], path: &[u16], out: &mut [u16], at: usize) -> usize
     requires { (length s.now ≤ 65503) × (get_or s.now 0 0 ≡ 26) × (length path.now ≤ 65535) × (at ≤ length out.old) × (length out.old ≤ 65535) }
     ensures { Beginning s.now path.now at out.old out.new result }
@@ -122,7 +120,7 @@ fn begin_guard(s: &[u16], path: &[u16], out: &mut [u16], at: usize) -> usize
     begin(last(t, behind_condition(t)), path, out, at)
 }
 
-#[cycle(begin_begin_both_begin_choice_begin_guard_begin_left_begin_parallel_begin_right_begin_sequence_begin_star)]
+#[cycle(beginning)]
 fn begin_parallel(s: &[u16], path: &[u16], out: &mut [u16], at: usize) -> usize
     requires { (length s.now ≤ 65503) × (get_or s.now 0 0 ≡ 25) × (length path.now ≤ 65535) × (at ≤ length out.old) × (length out.old ≤ 65535) }
     ensures { Beginning s.now path.now at out.old out.new result }
@@ -131,10 +129,7 @@ fn begin_parallel(s: &[u16], path: &[u16], out: &mut [u16], at: usize) -> usize
     if d == 0 {
         return put_done(out, at, behind(path).len(), 0);
     }
-    if s.len() < 5 {
-        return 0;
-    }
-    if out.len() < at + 2 {
+    if s.len() < 5 || out.len() < at + 2 {
         return 0;
     }
     if d == 1 {
@@ -145,7 +140,7 @@ fn begin_parallel(s: &[u16], path: &[u16], out: &mut [u16], at: usize) -> usize
 }
 
 // The left operand moves: behind what it becomes, the place of the right one.
-#[cycle(begin_begin_both_begin_choice_begin_guard_begin_left_begin_parallel_begin_right_begin_sequence_begin_star)]
+#[cycle(beginning)]
 fn begin_left(e: &[u16], path: &[u16], out: &mut [u16], at: usize) -> usize
     requires { (length e.now ≤ 65503) × (length path.now ≤ 65535) × (at ≤ length out.old) × (length out.old ≤ 65535) }
     ensures { LeftBegun e.now path.now at out.old out.new result }
@@ -160,7 +155,7 @@ fn begin_left(e: &[u16], path: &[u16], out: &mut [u16], at: usize) -> usize
 }
 
 // The right operand moves, alone behind the place of the left one, or together with it.
-#[cycle(begin_begin_both_begin_choice_begin_guard_begin_left_begin_parallel_begin_right_begin_sequence_begin_star)]
+#[cycle(beginning)]
 fn begin_right(s: &[u16], path: &[u16], out: &mut [u16], at: usize) -> usize
     requires { (length s.now ≤ 65503) × (get_or s.now 0 0 ≡ 25) × (5 ≤ length s.now) × (get_or path.now 0 0 ≡ 0 → ⊥) × (get_or path.now 0 0 ≡ 1 → ⊥) × (length path.now ≤ 65535) × (at + 2 ≤ length out.old) × (length out.old ≤ 65535) }
     ensures { Beginning s.now path.now at out.old out.new result }
@@ -172,15 +167,14 @@ fn begin_right(s: &[u16], path: &[u16], out: &mut [u16], at: usize) -> usize
     }
     out[at] = 25;
     if first(path) == 2 {
-        let next = at + 1;
-        out[next] = part_word(e);
+        out[at + 1] = part_word(e);
         return begin(&e[n..], behind_size(path), out, at + 2);
     }
     begin_both(e, n, behind_size(path), out, at + 1)
 }
 
 // Both move, the left one's path first; the action is the left one's.
-#[cycle(begin_begin_both_begin_choice_begin_guard_begin_left_begin_parallel_begin_right_begin_sequence_begin_star)]
+#[cycle(beginning)]
 fn begin_both(e: &[u16], n: usize, path: &[u16], out: &mut [u16], at: usize) -> usize
     requires { (length e.now ≤ 65503) × (n ≤ length e.now) × (length path.now ≤ 65535) × (at ≤ length out.old) × (length out.old ≤ 65535) }
     ensures { BothBegun e.now n path.now at out.old out.new result }

@@ -16,17 +16,14 @@ fn expand_part(u: &[u16], w: usize, left: usize, out: &mut [u16], at: usize) -> 
     }
     let e = last(u, w - 32);
     let n = e.len() - skip(e);
-    if out.len() < at {
-        return 0;
-    }
-    if out.len() - at < n {
+    if out.len() < at || out.len() - at < n {
         return 0;
     }
     copy_words(&e[..n], out, at);
     left + 65536 * (at + n)
 }
 
-#[cycle(expand_expand_beside_expand_then)]
+#[cycle(expanding)]
 pub fn expand(u: &[u16], s: &[u16], out: &mut [u16], at: usize) -> usize
     requires { (length u.now ≤ 65503) × (length s.now ≤ 65535) × (length out.old ≤ 65535) }
     ensures { Expanded s.now u.now at out.old out.new result }
@@ -53,7 +50,7 @@ fn expand_done(left: usize, out: &mut [u16], at: usize) -> usize
 }
 
 // What is followed stands behind the place of what follows.
-#[cycle(expand_expand_beside_expand_then)]
+#[cycle(expanding)]
 fn expand_then(u: &[u16], t: &[u16], out: &mut [u16], at: usize) -> usize
     requires { (length u.now ≤ 65503) × (length t.now < 65535) × (length out.old ≤ 65535) }
     ensures { Expanded (22 ∷ t.now) u.now at out.old out.new result }
@@ -66,15 +63,12 @@ fn expand_then(u: &[u16], t: &[u16], out: &mut [u16], at: usize) -> usize
     expand_part(u, first(t), a % 65536, out, a / 65536)
 }
 
-#[cycle(expand_expand_beside_expand_then)]
+#[cycle(expanding)]
 fn expand_beside(u: &[u16], t: &[u16], out: &mut [u16], at: usize) -> usize
     requires { (length u.now ≤ 65503) × (length t.now < 65535) × (length out.old ≤ 65535) }
     ensures { Expanded (25 ∷ t.now) u.now at out.old out.new result }
 {
-    if out.len() <= at {
-        return 0;
-    }
-    if out.len() - at < 5 {
+    if out.len() < at || out.len() - at < 5 {
         return 0;
     }
     copy_words(&[25, 0, 0, 0, 0], out, at);

@@ -3,28 +3,29 @@
 ghost use Rattle.std.specs.Prelude.{◌≡◌, ◌+◌, ◌≤◌, ◌<◌, [], ◌∷◌, length};
 ghost use Rattle.sharing.specs.Finding.{Found, PartFound};
 
-use super::seeking::seek;
+use super::seeking::{FULL, PASSED, seek};
 use derivation::passing;
 use scan::{behind, first, last};
 
-// From here on an answer says how much of k is left; from FULL on, that there was no room.
-const PASSED: usize = 1099511627776;
+// How many words are left where a place begins, and behind it.
+#[derive(Clone, Copy)]
+struct Place {
+    here: usize,
+    behind: usize,
+}
 
-const FULL: usize = 2199023255552;
-
-// In the part with this word, which moves in the place of words from where `here` are left to where `left` are.
+// In the part with this word, which moves in this place.
 fn find_part(
     u: &[u16],
     w: usize,
-    here: usize,
-    left: usize,
+    place: Place,
     m: &[u16],
     k: usize,
     path: &mut [u16],
     acts: &mut [u32],
 ) -> usize
-    requires { (length u.now ≤ 65503) × (here ≤ 65535) × (left ≤ here) × (k < 65536) × (length path.old ≤ 65535) × (length acts.old ≤ 131072) }
-    ensures { PartFound u.now w here left m.now k path.old path.new (length acts.old) result }
+    requires { (length u.now ≤ 65503) × (place.here ≤ 65535) × (place.behind ≤ place.here) × (k < 65536) × (length path.old ≤ 65535) × (length acts.old ≤ 131072) }
+    ensures { PartFound u.now w place.here place.behind m.now k path.old path.new (length acts.old) result }
 {
     // never for the word of a part
     if w < 32 {
@@ -32,15 +33,15 @@ fn find_part(
     }
     let r = seek(last(u, w - 32), m, k, path, acts);
     if r < PASSED {
-        return here + 65536 * r;
+        return place.here + 65536 * r;
     }
     if FULL <= r {
         return FULL;
     }
-    passing(r - PASSED, left)
+    passing(r - PASSED, place.behind)
 }
 
-#[cycle(find_find_beside_find_then)]
+#[cycle(finding)]
 pub fn find(u: &[u16], s: &[u16], m: &[u16], k: usize, path: &mut [u16], acts: &mut [u32]) -> usize
     requires { (length u.now ≤ 65503) × (length s.now ≤ 65535) × (k < 65536) × (length path.old ≤ 65535) × (length acts.old ≤ 131072) }
     ensures { Found u.now s.now m.now k path.old path.new (length acts.old) result }
@@ -51,25 +52,35 @@ pub fn find(u: &[u16], s: &[u16], m: &[u16], k: usize, path: &mut [u16], acts: &
         22 => find_then(u, t, m, k, path, acts),
         25 => find_beside(u, t, m, k, path, acts),
         30 => passing(k, t.len()),
-        _ => find_part(u, w, s.len(), t.len(), m, k, path, acts),
+        _ => {
+            let place = Place {
+                here: s.len(),
+                behind: t.len(),
+            };
+            find_part(u, w, place, m, k, path, acts)
+        }
     }
 }
 
 // Behind its code: the part that follows, and what it follows. That part moves once what it follows is done.
-#[cycle(find_find_beside_find_then)]
+#[cycle(finding)]
 fn find_then(u: &[u16], t: &[u16], m: &[u16], k: usize, path: &mut [u16], acts: &mut [u32]) -> usize
     requires { (length u.now ≤ 65503) × (length t.now < 65535) × (k < 65536) × (length path.old ≤ 65535) × (length acts.old ≤ 131072) }
     ensures { Found u.now (22 ∷ t.now) m.now k path.old path.new (length acts.old) result }
 {
     let q = behind(t);
     if first(q) == 30 {
-        return find_part(u, first(t), t.len() + 1, behind(q).len(), m, k, path, acts);
+        let place = Place {
+            here: t.len() + 1,
+            behind: behind(q).len(),
+        };
+        return find_part(u, first(t), place, m, k, path, acts);
     }
     find(u, q, m, k, path, acts)
 }
 
 // Behind its code: two terms, the second's moves behind the first's; or one move where both are done.
-#[cycle(find_find_beside_find_then)]
+#[cycle(finding)]
 fn find_beside(
     u: &[u16],
     t: &[u16],
@@ -81,13 +92,11 @@ fn find_beside(
     requires { (length u.now ≤ 65503) × (length t.now < 65535) × (k < 65536) × (length path.old ≤ 65535) × (length acts.old ≤ 131072) }
     ensures { Found u.now (25 ∷ t.now) m.now k path.old path.new (length acts.old) result }
 {
-    if first(t) == 30 {
-        if first(behind(t)) == 30 {
-            if k == 0 {
-                return t.len() + 1;
-            }
-            return passing(k - 1, behind(behind(t)).len());
+    if first(t) == 30 && first(behind(t)) == 30 {
+        if k == 0 {
+            return t.len() + 1;
         }
+        return passing(k - 1, behind(behind(t)).len());
     }
     let l = find(u, t, m, k, path, acts);
     if l < PASSED {

@@ -16,11 +16,10 @@ pub mod splicing;
 
 use beginning::begin;
 use finding::find;
-use scan::{front, last, wide};
+use scan::{front, last};
+use seeking::PASSED;
 use splicing::splice;
-
-// From here on an answer says that there is no such move.
-const PASSED: usize = 1099511627776;
+use std::ops::Range;
 
 // The place that begins in word i of the first n gives way to the successor: of a part, of a part behind done, or done where two that are done
 // stood in parallel.
@@ -28,19 +27,17 @@ fn change(u: &[u16], d: &mut [u16], n: usize, i: usize, path: &[u16], mid: &mut 
     requires { (n ≤ length d.old) × (i < n) × (length u.now ≤ 65503) × (length d.old ≤ 65535) × (length path.now ≤ 65535) × (length mid.old ≤ 65535) }
     ensures { Changed u.now d.old n i path.now mid.old d.new mid.new result }
 {
-    let w = wide(d[i]);
-    if w == 25 {
-        return join(d, n, i, mid);
-    }
-    if w == 22 {
-        if n < i + 3 {
-            return PASSED;
+    match d[i] {
+        22 => {
+            if n < i + 3 {
+                return PASSED;
+            }
+            let follows = d[i + 1];
+            change_part(u, d, n, i..i + 3, follows, path, mid)
         }
-        let next = i + 1;
-        let l = wide(d[next]);
-        return change_part(u, d, n, i, i + 3, l, path, mid);
+        25 => join(d, n, i, mid),
+        w => change_part(u, d, n, i..i + 1, w, path, mid),
     }
-    change_part(u, d, n, i, i + 1, w, path, mid)
 }
 
 // Done in the place of a parallel of done and done.
@@ -48,35 +45,31 @@ fn join(d: &mut [u16], n: usize, i: usize, mid: &mut [u16]) -> usize
     requires { (n ≤ length d.old) × (i < n) × (length d.old ≤ 65535) × (length mid.old ≤ 65535) }
     ensures { Joined d.old n i mid.old d.new mid.new result }
 {
-    if n < i + 3 {
-        return PASSED;
-    }
-    if mid.len() == 0 {
+    if n < i + 3 || mid.is_empty() {
         return PASSED;
     }
     mid[0] = 30;
     splice(d, n, i, i + 3, mid, 1)
 }
 
-// The successor, along a path, of the part with this word, in the place of the words from i to e.
+// The successor, along a path, of the part with this word, in the place of these words.
 fn change_part(
     u: &[u16],
     d: &mut [u16],
     n: usize,
-    i: usize,
-    e: usize,
-    w: usize,
+    place: Range<usize>,
+    w: u16,
     path: &[u16],
     mid: &mut [u16],
 ) -> usize
-    requires { (n ≤ length d.old) × (i ≤ e) × (e ≤ n) × (length u.now ≤ 65503) × (length d.old ≤ 65535) × (length path.now ≤ 65535) × (length mid.old ≤ 65535) }
-    ensures { PartChanged u.now d.old n i e w path.now mid.old d.new mid.new result }
+    requires { (n ≤ length d.old) × (place.start ≤ place.end) × (place.end ≤ n) × (length u.now ≤ 65503) × (length d.old ≤ 65535) × (length path.now ≤ 65535) × (length mid.old ≤ 65535) }
+    ensures { PartChanged u.now d.old n place.start place.end w path.now mid.old d.new mid.new result }
 {
     if w < 32 {
         return PASSED;
     }
-    let r = begin(last(u, w - 32), path, mid, 0);
-    let k = splice(d, n, i, e, mid, r % 65536);
+    let r = begin(last(u, w as usize - 32), path, mid, 0);
+    let k = splice(d, n, place.start, place.end, mid, r % 65536);
     // never: d has no more words
     if 65535 < k {
         return PASSED;
@@ -107,13 +100,7 @@ pub fn step(
     }
     let left = r % 65536;
     let q = r / 65536;
-    if n < left {
-        return PASSED;
-    }
-    if left == 0 {
-        return PASSED;
-    }
-    if path.len() < q {
+    if n < left || left == 0 || path.len() < q {
         return PASSED;
     }
     change(u, d, n, n - left, &path[q..], mid)

@@ -10,9 +10,9 @@ use listing::{behind_mask, both_done};
 use scan::{behind, first, last};
 
 // From here on an answer says how much of k is left; from FULL on, that there was no room.
-const PASSED: usize = 1099511627776;
+pub const PASSED: usize = 1099511627776;
 
-const FULL: usize = 2199023255552;
+pub const FULL: usize = 2199023255552;
 
 // One move, whose path is empty: it begins at the end.
 fn only(k: usize, end: usize) -> usize
@@ -26,7 +26,7 @@ fn only(k: usize, end: usize) -> usize
 }
 
 // Writes the path at the end of a lent array; acts is room for the walk over left operands.
-#[cycle(seek_seek_guard_seek_parallel_seek_sequence_seek_star_seek_two)]
+#[cycle(seeking)]
 pub fn seek(s: &[u16], m: &[u16], k: usize, path: &mut [u16], acts: &mut [u32]) -> usize
     requires { (length s.now ≤ 65535) × (k < 65536) × (length path.old ≤ 65535) × (length acts.old ≤ 131072) }
     ensures { Sought s.now m.now k path.old path.new (length acts.old) result }
@@ -46,7 +46,7 @@ pub fn seek(s: &[u16], m: &[u16], k: usize, path: &mut [u16], acts: &mut [u32]) 
 }
 
 // The left term's path, or the right's where the left is done.
-#[cycle(seek_seek_guard_seek_parallel_seek_sequence_seek_star_seek_two)]
+#[cycle(seeking)]
 fn seek_sequence(t: &[u16], m: &[u16], k: usize, path: &mut [u16], acts: &mut [u32]) -> usize
     requires { (length t.now ≤ 65535) × (k < 65536) × (length path.old ≤ 65535) × (length acts.old ≤ 131072) }
     ensures { Sought (22 ∷ t.now) m.now k path.old path.new (length acts.old) result }
@@ -58,7 +58,7 @@ fn seek_sequence(t: &[u16], m: &[u16], k: usize, path: &mut [u16], acts: &mut [u
 }
 
 // The path in the first of two terms, or in the second for what the first's moves leave of k.
-#[cycle(seek_seek_guard_seek_parallel_seek_sequence_seek_star_seek_two)]
+#[cycle(seeking)]
 fn seek_two(t: &[u16], m: &[u16], k: usize, c: u16, path: &mut [u16], acts: &mut [u32]) -> usize
     requires { (length t.now ≤ 65535) × (k < 65536) × (c ≤ 1) × (length path.old ≤ 65535) × (length acts.old ≤ 131072) }
     ensures { TwoSought c t.now m.now k path.old path.new (length acts.old) result }
@@ -77,7 +77,7 @@ fn seek_two(t: &[u16], m: &[u16], k: usize, c: u16, path: &mut [u16], acts: &mut
 }
 
 // The end of a star is its first move, the rounds' moves follow.
-#[cycle(seek_seek_guard_seek_parallel_seek_sequence_seek_star_seek_two)]
+#[cycle(seeking)]
 fn seek_star(t: &[u16], m: &[u16], k: usize, path: &mut [u16], acts: &mut [u32]) -> usize
     requires { (length t.now ≤ 65535) × (k < 65536) × (length path.old ≤ 65535) × (length acts.old ≤ 131072) }
     ensures { Sought (24 ∷ t.now) m.now k path.old path.new (length acts.old) result }
@@ -90,7 +90,7 @@ fn seek_star(t: &[u16], m: &[u16], k: usize, path: &mut [u16], acts: &mut [u32])
 }
 
 // Without a mask the moves are those of both sides, as in a choice.
-#[cycle(seek_seek_guard_seek_parallel_seek_sequence_seek_star_seek_two)]
+#[cycle(seeking)]
 fn seek_parallel(d: &[u16], m: &[u16], k: usize, path: &mut [u16], acts: &mut [u32]) -> usize
     requires { (length d.now ≤ 65535) × (k < 65536) × (length path.old ≤ 65535) × (length acts.old ≤ 131072) }
     ensures { Sought (25 ∷ d.now) m.now k path.old path.new (length acts.old) result }
@@ -103,7 +103,7 @@ fn seek_parallel(d: &[u16], m: &[u16], k: usize, path: &mut [u16], acts: &mut [u
 }
 
 // The term's path where the condition holds, else none.
-#[cycle(seek_seek_guard_seek_parallel_seek_sequence_seek_star_seek_two)]
+#[cycle(seeking)]
 fn seek_guard(t: &[u16], m: &[u16], k: usize, path: &mut [u16], acts: &mut [u32]) -> usize
     requires { (length t.now ≤ 65535) × (k < 65536) × (length path.old ≤ 65535) × (length acts.old ≤ 131072) }
     ensures { Sought (26 ∷ t.now) m.now k path.old path.new (length acts.old) result }

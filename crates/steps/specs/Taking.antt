@@ -1,7 +1,7 @@
 -- Move k of a running term: its action, and its successor built in a lent buffer (document 01, "Moves, in order"; "Operations": words past the
 -- reported size keep their values, and a refusal writes nothing).
-use Rattle.std.specs.Prelude.{◌≡◌, List, ℕ, ◌≤◌, ◌<◌, length, drop}
-use Rattle.std.proofs.Math.Option.{Option, none, some}
+use Rattle.std.specs.Prelude.{◌≡◌, List, ℕ, ◌≤◌, ◌<◌, length, drop, Option, None, Some}
+use Rattle.std.proofs.Math.Option.{Option as Maybe, none, some}
 use Rattle.eb3.specs.Scopes.{Scope}
 use Rattle.eb3.specs.Terms.{Term}
 use Rattle.eb3.specs.Moves.{Move}
@@ -14,7 +14,6 @@ use Rattle.paths.specs.Paths.{path}
 use Rattle.derivation.specs.Derived.{passed, full, move_count}
 use Rattle.steps.specs.Counting.{Whole}
 use Rattle.steps.specs.declared.moving.Taken.{Taken}
-use Rattle.steps.specs.declared.moving.Taken.TheVariants.{Made, NotOffered}
 
 -- ── its path ──
 
@@ -27,29 +26,29 @@ pub record PathSought (s M : List ℕ) (k : ℕ) (entry exit : List ℕ) (n r : 
   pub none_found : (P : Scope) (E : Term) (rest : List ℕ) → TermAt s P E rest → r < full → move_count M E ≤ k → passed ≤ r
 
 -- Sought in as much room as it takes: there is always an answer.
-pub record PathFound (s M : List ℕ) (k : ℕ) (entry exit : List ℕ) (r : ℕ) : Type 0 where
+pub record PathFound (s M : List ℕ) (k : ℕ) (entry exit : List ℕ) (r : Option ℕ) : Type 0 where
   pub same_length : length exit ≡ length entry
-  pub place_bounded : r < passed → r ≤ length entry
-  pub found : (P : Scope) (E : Term) → Whole s P E → size 1 E ≤ length entry → k < move_count M E → (r < passed) × (drop r exit ≡ path 0 (holding M) E k)
-  pub none_found : (P : Scope) (E : Term) → Whole s P E → size 1 E ≤ length entry → move_count M E ≤ k → passed ≤ r
+  pub place_bounded : (at : ℕ) → r ≡ Some at → at ≤ length entry
+  pub found : (P : Scope) (E : Term) → Whole s P E → size 1 E ≤ length entry → k < move_count M E → (at : ℕ) × (r ≡ Some at) × (drop at exit ≡ path 0 (holding M) E k)
+  pub none_found : (P : Scope) (E : Term) → Whole s P E → size 1 E ≤ length entry → move_count M E ≤ k → r ≡ None
 
 -- ── the move ──
 
 -- The action's number and the successor's size, or that there is no such move.
-unfoldable pub taken_as : Option Move → Taken
-taken_as none = NotOffered
-taken_as (some x) = Made (action_code x.action) (length (words 1 x.successor))
+unfoldable pub taken_as : Maybe Move → Option Taken
+taken_as none = None
+taken_as (some x) = Some (record { action = action_code x.action; size = length (words 1 x.successor) })
 
 -- The buffer afterwards.
-unfoldable pub built_over : Option Move → List ℕ → List ℕ
+unfoldable pub built_over : Maybe Move → List ℕ → List ℕ
 built_over none B = B
 built_over (some x) B = written (words 1 x.successor) B
 
 -- There is room for the successor.
-abbrev pub SuccessorFits : Option Move → List ℕ → Type 0
+abbrev pub SuccessorFits : Maybe Move → List ℕ → Type 0
 SuccessorFits none B = Unit
 SuccessorFits (some x) B = length (words 1 x.successor) ≤ word_count B
 
-pub record Took (o : Option Move) (B B' : List ℕ) (r : Taken) : Type 0 where
+pub record Took (o : Maybe Move) (B B' : List ℕ) (r : Option Taken) : Type 0 where
   pub answer : r ≡ taken_as o
   pub buffer : B' ≡ built_over o B

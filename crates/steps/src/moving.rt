@@ -1,12 +1,13 @@
 // Move k of a running term: the path of the move is found, then the successor built along it in a lent buffer (document 01, "Moves, in
 // order"; "Operations"). The path has at most as many words as the term; the numbers that finding it takes are tried as
 // in counting.
-ghost use Rattle.std.specs.Prelude.{◌≡◌, ℕ, ◌≤◌, ◌<◌, length};
+ghost use Rattle.std.specs.Prelude.{◌≡◌, ℕ, ◌≤◌, ◌<◌, length, MatchOption};
 ghost use Rattle.std.proofs.Math.ListN.{get_elem?};
 ghost use Rattle.eb3.specs.Scopes.{Scope};
 ghost use Rattle.eb3.specs.Terms.{Term};
 ghost use Rattle.eb3.specs.Moves.{moves};
 ghost use Rattle.eb3.specs.Sizes.{size};
+ghost use Rattle.derivation.specs.Derived.{passed};
 ghost use Rattle.listing.specs.Listing.{holding};
 ghost use Rattle.steps.specs.Counting.{Whole};
 ghost use Rattle.steps.specs.Taking.{PathSought, PathFound, SuccessorFits, Took};
@@ -14,68 +15,58 @@ ghost use Rattle.steps.specs.Taking.{PathSought, PathFound, SuccessorFits, Took}
 use derivation::derive;
 use successors::build;
 
-// The action's number and the successor's size in words.
+/// A move that was taken.
 #[derive(Clone, Copy)]
-pub enum Taken {
-    Made(u32, usize),
-    NotOffered,
+pub struct Taken {
+    /// The number of its action.
+    pub action: u32,
+    /// How many words its successor has.
+    pub size: usize,
 }
 
-// From here on an answer says that there is no such move; from FULL on, that there was no room.
+// From here on an answer of a derivation says that there is no such move; from FULL on, that there was no room.
+// Stays: a derivation's answer is one number, which `place` makes an Option of.
 const PASSED: usize = 1099511627776;
 
 const FULL: usize = 2199023255552;
 
 // ── the path ──
 
-fn path_more(s: &[u16], m: &[u16], k: usize, path: &mut [u16]) -> usize
-    requires { (length s.now ≤ 65535) × (k < 65536) × (length path.old ≤ 65535) }
-    ensures { PathSought s.now m.now k path.old path.new 4096 result }
+// Move k's path sought with room for N numbers, answered as a derivation does. It is not put into its caller, so that a call with
+// few numbers does not pay for a frame with many.
+#[inline(never)]
+fn path_in<const N: usize>(s: &[u16], m: &[u16], k: usize, path: &mut [u16]) -> usize
+    requires { (length s.now ≤ 65535) × (k < 65536) × (length path.old ≤ 65535) × (N ≤ 131072) }
+    ensures { PathSought s.now m.now k path.old path.new N result }
 {
-    let mut acts = [0u32; 4096];
+    let mut acts = [0u32; N];
     let r = derive(s, m, k, path, &mut acts);
     r
 }
 
-fn path_in_most(s: &[u16], m: &[u16], k: usize, path: &mut [u16]) -> usize
-    requires { (length s.now ≤ 65535) × (k < 65536) × (length path.old ≤ 65535) }
-    ensures { PathSought s.now m.now k path.old path.new 131072 result }
+// The place in an answer of a derivation.
+fn place(r: usize) -> Option<usize>
+    ensures { MatchOption result (passed ≤ r) (λ at. (at ≡ r) × (r < passed)) }
 {
-    let mut acts = [0u32; 131072];
-    let r = derive(s, m, k, path, &mut acts);
-    r
-}
-
-// It calls itself where there was no room, which never happens within the limits: a function that calls itself is not put into its
-// caller, so that a call with few numbers does not pay for a frame with many.
-fn path_most(s: &[u16], m: &[u16], k: usize, path: &mut [u16], more: usize) -> usize
-    requires { (length s.now ≤ 65535) × (k < 65536) × (length path.old ≤ 65535) }
-    ensures { PathSought s.now m.now k path.old path.new 131072 result }
-{
-    let r = path_in_most(s, m, k, path);
-    if r < FULL {
-        return r;
-    }
-    if more == 0 {
-        return r;
-    }
-    path_most(s, m, k, path, more - 1)
+    if r < PASSED { Some(r) } else { None }
 }
 
 // The place in a lent array where move k's path begins; it goes to the array's end. The lent numbers are tried first.
-fn find_path(s: &[u16], m: &[u16], k: usize, path: &mut [u16], acts: &mut [u32]) -> usize
+fn find_path(s: &[u16], m: &[u16], k: usize, path: &mut [u16], acts: &mut [u32]) -> Option<usize>
     requires { (length s.now ≤ 65535) × (k < 65536) × (length path.old ≤ 65535) × (length acts.old ≤ 131072) }
     ensures { PathFound s.now m.now k path.old path.new result }
 {
     let few = derive(s, m, k, path, acts);
     if few < FULL {
-        return few;
+        return place(few);
     }
-    let more = path_more(s, m, k, path);
+    let more = path_in::<4096>(s, m, k, path);
     if more < FULL {
-        return more;
+        return place(more);
     }
-    path_most(s, m, k, path, s.len())
+    // within the limits there is always room for so many
+    let most = path_in::<131072>(s, m, k, path);
+    place(most)
 }
 
 // ── the move ──
@@ -89,48 +80,39 @@ pub fn take_move_in(
     path: &mut [u16],
     acts: &mut [u32],
     out: &mut [u8],
-) -> Taken
+) -> Option<Taken>
     requires { (length s.now ≤ 65535) × (length path.old ≤ 65535) × (length acts.old ≤ 131072) }
     ensures { (length path.new ≡ length path.old) × (length acts.new ≡ length acts.old) × ((P : Scope) (E : Term) → Whole s.now P E → size 1 E ≤ length path.old → SuccessorFits (get_elem? (moves (holding m.now) E) k) out.old → Took (get_elem? (moves (holding m.now) E) k) out.old out.new result) }
 {
     if 65535 < k {
-        return Taken::NotOffered;
+        return None;
     }
-    let at = find_path(s, m, k, path, acts);
-    if PASSED <= at {
-        return Taken::NotOffered;
-    }
+    let at = find_path(s, m, k, path, acts)?;
     let b = build(s, &path[at..], out);
-    Taken::Made(b.action, b.words)
+    Some(Taken {
+        action: b.action,
+        size: b.words,
+    })
 }
 
-fn take_short(s: &[u16], m: &[u16], k: usize, out: &mut [u8]) -> Taken
-    requires { length s.now ≤ 65535 }
-    ensures { (P : Scope) (E : Term) → Whole s.now P E → size 1 E ≤ 256 → SuccessorFits (get_elem? (moves (holding m.now) E) k) out.old → Took (get_elem? (moves (holding m.now) E) k) out.old out.new result }
+// The same with arrays of its own, for a path of N words.
+fn take_sized<const N: usize>(s: &[u16], m: &[u16], k: usize, out: &mut [u8]) -> Option<Taken>
+    requires { (length s.now ≤ 65535) × (N ≤ 65535) }
+    ensures { (P : Scope) (E : Term) → Whole s.now P E → size 1 E ≤ N → SuccessorFits (get_elem? (moves (holding m.now) E) k) out.old → Took (get_elem? (moves (holding m.now) E) k) out.old out.new result }
 {
-    let mut path = [0u16; 256];
+    let mut path = [0u16; N];
     let mut acts = [0u32; 256];
     let r = take_move_in(s, m, k, &mut path, &mut acts, out);
     r
 }
 
-fn take_long(s: &[u16], m: &[u16], k: usize, out: &mut [u8]) -> Taken
-    requires { length s.now ≤ 65535 }
-    ensures { (P : Scope) (E : Term) → Whole s.now P E → size 1 E ≤ 8192 → SuccessorFits (get_elem? (moves (holding m.now) E) k) out.old → Took (get_elem? (moves (holding m.now) E) k) out.old out.new result }
-{
-    let mut path = [0u16; 8192];
-    let mut acts = [0u32; 256];
-    let r = take_move_in(s, m, k, &mut path, &mut acts, out);
-    r
-}
-
-// The same with arrays of its own, small ones for a short term, so that little is cleared for it.
-pub fn take_move(s: &[u16], m: &[u16], k: usize, out: &mut [u8]) -> Taken
+// With small arrays for a short term, so that little is cleared for it.
+pub fn take_move(s: &[u16], m: &[u16], k: usize, out: &mut [u8]) -> Option<Taken>
     requires { length s.now ≤ 65535 }
     ensures { (P : Scope) (E : Term) → Whole s.now P E → size 1 E ≤ 8192 → SuccessorFits (get_elem? (moves (holding m.now) E) k) out.old → Took (get_elem? (moves (holding m.now) E) k) out.old out.new result }
 {
     if s.len() <= 256 {
-        return take_short(s, m, k, out);
+        return take_sized::<256>(s, m, k, out);
     }
-    take_long(s, m, k, out)
+    take_sized::<8192>(s, m, k, out)
 }

@@ -1,6 +1,6 @@
 -- The beginning of a successor: carried over to longer words, behind words that stand already, and the term known by its first word.
 use mathlib.Core.Path.{◌≡◌, refl, sym, ap, ◌∙◌, subst}
-use mathlib.Core.Bool.{true, false}
+use mathlib.Core.Bool.{true}
 use mathlib.Core.List.{List, [], ◌∷◌, ◌++◌, append-nil, append_assoc}
 use Prim.Native.Nat.{ℕ, ◌+◌, ◌-◌, ◌*◌, ◌≤◌, ◌/◌, ◌%◌}
 use native.Mathlib.Omega.{arith}
@@ -23,7 +23,7 @@ use Rattle.successors.specs.Unchanged.{Unchanged}
 use Rattle.successors.specs.declared.Built.{Built}
 use Rattle.successors.proofs.Ends.{last_within, last_none}
 use Rattle.successors.proofs.Writes.{never, written_behind, lent, back, back_length}
-use Rattle.successors.proofs.Made.{bounded_within, unbuilt_bounded}
+use Rattle.successors.proofs.Made.{bounded_within}
 
 -- ── one beginning out of another ──
 
@@ -126,13 +126,6 @@ whole_begun {P} {s} {o} {rest} {a} {m} {x} {y} {r} n e l g = record {
 -- ── behind words that stand already ──
 
 module _ (X : Built) (u p x : List ℕ) where
-  pub behind_none : (f : Built) → X.ok ≡ false → Unbuilt f → Behind X u p x x f
-  behind_none f nok un = record {
-    bounds = unbuilt_bounded (length u) (length p) refl un;
-    before = λ k. absurd (never k un.ok);
-    begun = λ h b a n m same M P E rest i j. unbuilt_begun (λ k. never (M.has_room (omega (arith, length-append h (built_words E p)))) nok) un;
-  }
-
   pub behind_begun : (z : List ℕ) (Y : Built) → 2 * X.words ≤ length x → X.ok ≡ true → Beginning u p (lent (2 * X.words) x) z Y
       → Behind X u p x (back (2 * X.words) x z) (record { ok = Y.ok; action = Y.action; words = X.words + Y.words; left = Y.left; due = Y.due; path_left = Y.path_left })
   behind_begun z Y room ok given =

@@ -16,10 +16,6 @@ last_none s =
     let k : length s - 0 ≡ length s = omega arith in
     ap (λ j. drop j s) k ∙ drop-length s
 
-pub last_short : (n : ℕ) (s t : List ℕ) → t ≡ last_of n s → length t ≤ n
-unfolding last_of
-last_short n s t e = omega (arith, ap length e, length-drop (length s - n) s)
-
 -- The last words of an end of s are those of s.
 pub last_within : (s u : List ℕ) (n : ℕ) → Tail u s → n ≤ length u → last_of n u ≡ last_of n s
 last_within s u n h k = sym (ap (λ j. last_of j s) (sym (last_length n u k)) ∙ tail_at (last_of n u) s (tail_on (last_of n u) u s h (last_tail n u)))

@@ -77,7 +77,7 @@ module _ (w : List ℕ) (X : Built) (x z : List ℕ) (b : Bool) (room : 2 * X.wo
   same : length (back (2 * X.words) x z) ≡ length x
   same = back_length x z (2 * X.words) room here.same_length
 
-  pub added : b ≡ true → Added w X x (back (2 * X.words) x z) (record { ok = true; action = X.action; words = X.words + length w; left = X.left; due = 0; path_left = X.path_left })
+  pub added : b ≡ true → Added w X x (back (2 * X.words) x z) (record { ok = X.ok; action = X.action; words = X.words + length w; left = X.left; due = 0; path_left = X.path_left })
   added e = record {
     bounds = record {
       same_length = same;
@@ -86,7 +86,7 @@ module _ (w : List ℕ) (X : Built) (x z : List ℕ) (b : Bool) (room : 2 * X.wo
       path_bounded = omega arith;
       size_bounded = omega (arith, had_room w (drop (2 * X.words) x) z b here e, rest_length, room);
     };
-    has_room = λ _ _. refl;
+    has_room = λ _ _. ok;
     right = λ _. record {
       before = ok;
       action = refl;

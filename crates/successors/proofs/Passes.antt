@@ -3,114 +3,14 @@ use mathlib.Core.Path.{◌≡◌, refl, sym, ap, ◌∙◌}
 use mathlib.Core.List.{List, [], ◌∷◌, ◌++◌, append_assoc}
 use Prim.Native.Nat.{ℕ, zero, suc, ◌+◌, ◌-◌, ◌*◌, ◌≤◌, ◌<◌}
 use native.Mathlib.Omega.{arith}
-use lib.Dec.{ltb}
 use lib.ListN.{length, drop, get_or, length-drop}
 use lib.Seq.{drop-cons, drop-drop, drop-length}
-use borrow.Author.Tests.{lt-ltb, le-ltb}
 use Rattle.eb3.specs.Expressions.{Data, Undefined, Constant, Variable, Add, Subtract, If, Now, Before, Args, Nil, Cons, Cond, Equal, Less, And, Or, Not, True}
 use Rattle.eb3.specs.Scopes.{Scope, DataInScope, ArgsInScope, CondInScope}
 use Rattle.eb3.specs.Spelling.{number_words, data_words, args_words, cond_words}
-use Rattle.eb3.specs.Reading.{pick}
 use Rattle.scan.specs.Checking.{last_of}
 use Rattle.expressions.specs.Answering.{Plain, CondAt}
 use Rattle.successors.specs.Passing.{operands, numbers, pass}
-
--- ── the tests in their order ──
-
-pick_below : {A : Type 0} (c n : ℕ) (x y : A) → c < n → pick (ltb c n) x y ≡ x
-pick_below c n x y h = ap (λ b. pick b x y) (lt-ltb c n h)
-
-pick_above : {A : Type 0} (c n : ℕ) (x y : A) → n ≤ c → pick (ltb c n) x y ≡ y
-pick_above c n x y h = ap (λ b. pick b x y) (le-ltb c n h)
-
-module _ (c : ℕ) where
-  abbrev from_12 : ℕ
-  from_12 = pick (ltb c 13) 1 0
-
-  abbrev from_8 : ℕ
-  from_8 = pick (ltb c 12) 2 from_12
-
-  abbrev from_6 : ℕ
-  from_6 = pick (ltb c 8) 1 from_8
-
-  abbrev from_5 : ℕ
-  from_5 = pick (ltb c 6) 3 from_6
-
-  abbrev from_3 : ℕ
-  from_3 = pick (ltb c 5) 2 from_5
-
-  past_3 : 3 ≤ c → operands c ≡ from_3
-  unfolding operands
-  past_3 h = pick_above c 3 0 from_3 h
-
-  past_5 : 5 ≤ c → operands c ≡ from_5
-  past_5 h = past_3 (omega arith) ∙ pick_above c 5 2 from_5 h
-
-  past_6 : 6 ≤ c → operands c ≡ from_6
-  past_6 h = past_5 (omega arith) ∙ pick_above c 6 3 from_6 h
-
-  past_8 : 8 ≤ c → operands c ≡ from_8
-  past_8 h = past_6 (omega arith) ∙ pick_above c 8 1 from_8 h
-
-  past_12 : 12 ≤ c → operands c ≡ from_12
-  past_12 h = past_8 (omega arith) ∙ pick_above c 12 2 from_12 h
-
-  pub operands_0 : c < 3 → (0 ≡ operands c) × (0 ≤ 3)
-  unfolding operands
-  operands_0 h = (sym (pick_below c 3 0 from_3 h), omega arith)
-
-  pub operands_3 : 3 ≤ c → c < 5 → (2 ≡ operands c) × (2 ≤ 3)
-  operands_3 h k = (sym (past_3 h ∙ pick_below c 5 2 from_5 k), omega arith)
-
-  pub operands_5 : 5 ≤ c → c < 6 → (3 ≡ operands c) × (3 ≤ 3)
-  operands_5 h k = (sym (past_5 h ∙ pick_below c 6 3 from_6 k), omega arith)
-
-  pub operands_6 : 6 ≤ c → c < 8 → (1 ≡ operands c) × (1 ≤ 3)
-  operands_6 h k = (sym (past_6 h ∙ pick_below c 8 1 from_8 k), omega arith)
-
-  pub operands_8 : 8 ≤ c → c < 12 → (2 ≡ operands c) × (2 ≤ 3)
-  operands_8 h k = (sym (past_8 h ∙ pick_below c 12 2 from_12 k), omega arith)
-
-  pub operands_12 : 12 ≤ c → c < 13 → (1 ≡ operands c) × (1 ≤ 3)
-  operands_12 h k = (sym (past_12 h ∙ pick_below c 13 1 0 k), omega arith)
-
-  pub operands_13 : 13 ≤ c → (0 ≡ operands c) × (0 ≤ 3)
-  operands_13 h = (sym (past_12 (omega arith) ∙ pick_above c 13 1 0 h), omega arith)
-
-  abbrev numbers_6 : ℕ
-  numbers_6 = pick (ltb c 8) 1 0
-
-  abbrev numbers_3 : ℕ
-  numbers_3 = pick (ltb c 6) 0 numbers_6
-
-  abbrev numbers_1 : ℕ
-  numbers_1 = pick (ltb c 3) 1 numbers_3
-
-  counted_1 : 1 ≤ c → numbers c ≡ numbers_1
-  unfolding numbers
-  counted_1 h = pick_above c 1 0 numbers_1 h
-
-  counted_6 : 6 ≤ c → numbers c ≡ numbers_6
-  counted_6 h = counted_1 (omega arith) ∙ (pick_above c 3 1 numbers_3 (omega arith) ∙ pick_above c 6 0 numbers_6 h)
-
-  one_more : (n : ℕ) → numbers c ≡ n → suc n ≤ 2 → (suc n ≡ 1 + numbers c) × (suc n ≤ 2)
-  one_more n e h = (omega arith, h)
-
-  pub words_0 : c < 1 → (1 ≡ 1 + numbers c) × (1 ≤ 2)
-  unfolding numbers
-  words_0 h = one_more 0 (pick_below c 1 0 numbers_1 h) (omega arith)
-
-  pub words_1 : 1 ≤ c → c < 3 → (2 ≡ 1 + numbers c) × (2 ≤ 2)
-  words_1 h k = one_more 1 (counted_1 h ∙ pick_below c 3 1 numbers_3 k) (omega arith)
-
-  pub words_3 : 3 ≤ c → c < 6 → (1 ≡ 1 + numbers c) × (1 ≤ 2)
-  words_3 h k = one_more 0 (counted_1 (omega arith) ∙ (pick_above c 3 1 numbers_3 h ∙ pick_below c 6 0 numbers_6 k)) (omega arith)
-
-  pub words_6 : 6 ≤ c → c < 8 → (2 ≡ 1 + numbers c) × (2 ≤ 2)
-  words_6 h k = one_more 1 (counted_6 h ∙ pick_below c 8 1 0 k) (omega arith)
-
-  pub words_8 : 8 ≤ c → (1 ≡ 1 + numbers c) × (1 ≤ 2)
-  words_8 h = one_more 0 (counted_6 (omega arith) ∙ pick_above c 8 1 0 h) (omega arith)
 
 -- ── expressions ──
 

@@ -1,9 +1,9 @@
 -- The words at the front of a term that stay as they are: a case for each way that one step returns, and the steps one behind another
 -- (document 01, "Moves, in order").
-use mathlib.Core.Path.{◌≡◌, refl, sym, ap, ◌∙◌, subst}
+use mathlib.Core.Path.{◌≡◌, sym, ap, ◌∙◌, subst}
 use mathlib.Core.Bool.{true, false, cond}
 use mathlib.Core.List.{List, [], ◌∷◌, ◌++◌, append_assoc}
-use Prim.Native.Nat.{ℕ, ◌+◌, ◌*◌, ◌≤◌, ◌<◌, ◌/◌, ◌%◌}
+use Prim.Native.Nat.{ℕ, ◌+◌, ◌≤◌, ◌<◌}
 use native.Mathlib.Omega.{arith}
 use lib.Dec.{eqb}
 use lib.ListN.{length, take, drop, get_or}
@@ -20,7 +20,7 @@ use Rattle.listing.specs.Operands.{other_test}
 use Rattle.listing.specs.Positions.{term_front}
 use Rattle.paths.specs.Paths.{within, follow, marked}
 use Rattle.successors.specs.Building.{built_words}
-use Rattle.successors.specs.Unchanged.{Moving, Ahead, leading_words, Staying, Unchanged}
+use Rattle.successors.specs.Unchanged.{Moving, Ahead, leading_words, Staying}
 use Rattle.successors.specs.TermLaws.{sequence_two, parallel_two, parallel_head}
 use Rattle.successors.specs.FollowLaws.{parallel_left_follows, parallel_left_marked, parallel_right_follows, parallel_right_marked}
 use Rattle.successors.proofs.Parallels.{right_there, head_there}
@@ -45,9 +45,6 @@ module _ (s p : List ℕ) where
     leads_two e = leads_by 2 (ap (λ b. pick b 1 2) (sym (ne_eqb (get_or p 0 0) 1 e)))
 
   -- ── one step ──
-
-  pub stays_none : Staying s p 0
-  stays_none = record { bounded = omega arith; fewer = λ h. absurd (omega arith); ahead = λ h. absurd (omega arith) }
 
   stays_by : (n l : ℕ) → l ≡ leading_words s p → n ≤ 65540 → l ≤ n → Ahead s p n l → Staying s p n
   stays_by n l e b h a = record { bounded = b; fewer = λ _. omega (arith, e, h); ahead = λ _. subst (Ahead s p n) e a }
@@ -123,14 +120,6 @@ pub record Passed (s p : List ℕ) (at used : ℕ) : Type 0 where
   pub no_more : used ≤ at
   pub ahead : Ahead s p at used
 
-pub passed_none : (s p : List ℕ) → Passed s p 0 0
-passed_none s p = record {
-  inside = omega arith;
-  along = omega arith;
-  no_more = omega arith;
-  ahead = λ P E rest k j. record { operand = E; behind = rest; there = k; led = j; same_action = refl; stays = refl };
-}
-
 -- What is told of the parts that were lent.
 pub stays_there : (s p : List ℕ) (at used n : ℕ) → Staying (lent at s) (lent used p) n → Staying (drop at s) (drop used p) n
 stays_there s p at used n h = subst (λ l. Staying (drop at s) l n) (part used p) (subst (λ l. Staying l (lent used p) n) (part at s) h)
@@ -165,14 +154,3 @@ module _ (s p : List ℕ) (at used : ℕ) (g : Passed s p at used) where
                 ∙ (ap (λ c. c ++ o (drop l (drop used p))) (sym (take-add at n s)) ∙ ap (λ c. take (at + n) s ++ o c) q)));
           };
     }
-
-  -- Both numbers in one.
-  pub passed_all : length s ≤ 65535 → Unchanged s p (at + 65536 * used)
-  passed_all small =
-      let a : at ≡ (at + 65536 * used) % 65536 = omega (arith, g.inside) in
-      let b : used ≡ (at + 65536 * used) / 65536 = omega (arith, g.inside) in
-      record {
-        stay_bounded = omega (arith, a, g.inside);
-        lead_bounded = omega (arith, b, g.along);
-        ahead = subst (λ i. Ahead s p i ((at + 65536 * used) / 65536)) a (subst (Ahead s p at) b g.ahead);
-      }

@@ -5,53 +5,36 @@ ghost use Rattle.eb3.specs.Scopes.{Scope};
 ghost use Rattle.expressions.specs.Answering.{CondAt};
 ghost use Rattle.successors.specs.Passing.{operands, numbers, pass};
 
-use scan::wide;
-
 // How many expressions stand behind a code.
+#[tactic(auto, unfolding(crate::specs::Passing::operands))]
 fn operands_of(c: usize) -> usize
     ensures { (result ≡ operands c) × (result ≤ 3) }
 {
-    if c < 3 {
-        return 0;
+    match c {
+        0..=2 => 0,
+        3..=4 => 2,
+        5 => 3,
+        6..=7 => 1,
+        8..=11 => 2,
+        12 => 1,
+        _ => 0,
     }
-    if c < 5 {
-        return 2;
-    }
-    if c < 6 {
-        return 3;
-    }
-    if c < 8 {
-        return 1;
-    }
-    if c < 12 {
-        return 2;
-    }
-    if c < 13 {
-        return 1;
-    }
-    0
 }
 
 // A code and its number, if it has one.
+#[tactic(auto, unfolding(crate::specs::Passing::numbers))]
 fn words_of(c: usize) -> usize
     ensures { (result ≡ 1 + numbers c) × (result ≤ 2) }
 {
-    if c < 1 {
-        return 1;
+    match c {
+        1..=2 => 2,
+        6..=7 => 2,
+        _ => 1,
     }
-    if c < 3 {
-        return 2;
-    }
-    if c < 6 {
-        return 1;
-    }
-    if c < 8 {
-        return 2;
-    }
-    1
 }
 
 // The words left behind the condition at the front.
+#[tactic(auto, using(crate::proofs::Passes::passing_start, crate::proofs::Passes::passing_next))]
 pub fn behind_condition(s: &[u16]) -> usize
     requires { length s.now ≤ 65535 }
     ensures { (result ≤ length s.now) × ((P : Scope) (C : Cond) (rest : List ℕ) → CondAt s.now P C rest → result ≡ length rest) }
@@ -63,12 +46,12 @@ pub fn behind_condition(s: &[u16]) -> usize
             return 0;
         }
         let i = s.len() - left;
-        let c = wide(s[i]);
+        let c = usize::from(s[i]);
         let e = words_of(c);
         if left < e {
             return 0;
         }
-        left = left - e;
+        left -= e;
         more = operands_of(c) + (more - 1);
     }
     left

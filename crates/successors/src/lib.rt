@@ -19,7 +19,9 @@ pub mod unchanged;
 
 // Whether there was room; the action's number, the words written, the words at the end of the term that go on from there, how many
 // whole terms at the beginning of these are still the successor's, and what is left of the path.
-#[derive(Clone, Copy)]
+// Stays: `ok` beside the numbers, in the room in front of `action`. An Option of the other five numbers takes 48 bytes where this takes 40, in each
+// frame of a recursion as deep as the term.
+#[derive(Clone, Copy, Default)]
 pub struct Built {
     pub ok: bool,
     pub action: u32,
@@ -32,19 +34,13 @@ pub struct Built {
 fn unbuilt() -> Built
     ensures { Unbuilt result }
 {
-    Built {
-        ok: false,
-        action: 0,
-        words: 0,
-        left: 0,
-        due: 0,
-        path_left: 0,
-    }
+    Built::default()
 }
 
 // ── words written ──
 
 // A successor of one word, or the word that a successor begins with.
+#[tactic(auto, using(crate::proofs::Made::wrote_whole, crate::proofs::Made::whole_lost))]
 fn put_one(w: u16, action: u32, left: usize, onward: usize, out: &mut [u8]) -> Built
     ensures { Whole (w ∷ []) action left onward out.old out.new result }
 {
@@ -62,45 +58,39 @@ fn put_one(w: u16, action: u32, left: usize, onward: usize, out: &mut [u8]) -> B
 }
 
 // Head words as they are.
+#[tactic(auto, using(crate::proofs::Made::wrote_whole, crate::proofs::Made::whole_lost))]
 fn put_head(h: &[u16], out: &mut [u8]) -> Built
     ensures { Whole h.now 0 0 0 out.old out.new result }
 {
     if put_words(h, out) {
         return Built {
             ok: true,
-            action: 0,
             words: h.len(),
-            left: 0,
-            due: 0,
-            path_left: 0,
+            ..Built::default()
         };
     }
     unbuilt()
 }
 
 // Words behind those that x wrote.
+#[tactic(auto, using(crate::proofs::Made::added, crate::proofs::Made::added_lost, crate::proofs::Made::added_none))]
 fn put_behind(x: Built, w: &[u16], out: &mut [u8]) -> Built
     requires { 2 * x.words ≤ length out.old }
     ensures { Added w.now x out.old out.new result }
 {
-    if x.ok {
-        let k = 2 * x.words;
-        if put_words(w, &mut out[k..]) {
-            return Built {
-                ok: true,
-                action: x.action,
-                words: x.words + w.len(),
-                left: x.left,
-                due: 0,
-                path_left: x.path_left,
-            };
-        }
-        return unbuilt();
+    let k = 2 * x.words;
+    if x.ok && put_words(w, &mut out[k..]) {
+        return Built {
+            words: x.words + w.len(),
+            due: 0,
+            ..x
+        };
     }
     unbuilt()
 }
 
 // What x began, with the words of t that go on from there, but for the last e.
+#[tactic(auto, using(crate::proofs::Made::closed_none))]
 fn close(t: &[u16], x: Built, e: usize, out: &mut [u8]) -> Built
     requires { (x.left ≤ length t.now) × (2 * x.words ≤ length out.old) }
     ensures { Closed t.now x e out.old out.new result }
@@ -113,40 +103,33 @@ fn close(t: &[u16], x: Built, e: usize, out: &mut [u8]) -> Built
     let b = t.len() - e;
     let y = put_behind(x, &t[a..b], out);
     Built {
-        ok: y.ok,
-        action: y.action,
-        words: y.words,
         left: e,
         due: 0,
-        path_left: y.path_left,
+        ..y
     }
 }
 
 // ── the beginning of the successor ──
 
 // Behind the words that x wrote.
-#[cycle(begin_begin_after_begin_behind_begin_both_begin_choice_begin_chosen_begin_guard_begin_parallel_begin_right_begin_round_begin_sequence_begin_star)]
+#[cycle(building)]
 fn begin_behind(x: Built, u: &[u16], path: &[u16], out: &mut [u8]) -> Built
     requires { (length u.now ≤ 65535) × (2 * x.words ≤ length out.old) }
     ensures { Behind x u.now path.now out.old out.new result }
 {
-    if x.ok {
-        let k = 2 * x.words;
-        let y = begin(u, path, &mut out[k..]);
-        return Built {
-            ok: y.ok,
-            action: y.action,
-            words: x.words + y.words,
-            left: y.left,
-            due: y.due,
-            path_left: y.path_left,
-        };
+    if !x.ok {
+        return unbuilt();
     }
-    unbuilt()
+    let k = 2 * x.words;
+    let y = begin(u, path, &mut out[k..]);
+    Built {
+        words: x.words + y.words,
+        ..y
+    }
 }
 
 // Behind the first n words of s, as they are.
-#[cycle(begin_begin_after_begin_behind_begin_both_begin_choice_begin_chosen_begin_guard_begin_parallel_begin_right_begin_round_begin_sequence_begin_star)]
+#[cycle(building)]
 fn begin_after(s: &[u16], n: usize, path: &[u16], out: &mut [u8]) -> Built
     requires { (length s.now ≤ 65535) × (n ≤ length s.now) }
     ensures { After s.now n path.now out.old out.new result }
@@ -161,17 +144,13 @@ fn with_right(x: Built) -> Built
     ensures { result ≡ with_right x }
 {
     Built {
-        ok: x.ok,
-        action: x.action,
-        words: x.words,
-        left: x.left,
         due: x.due + 1,
-        path_left: x.path_left,
+        ..x
     }
 }
 
 // Of a sequence whose left side is done, the right side's successor.
-#[cycle(begin_begin_after_begin_behind_begin_both_begin_choice_begin_chosen_begin_guard_begin_parallel_begin_right_begin_round_begin_sequence_begin_star)]
+#[cycle(building)]
 fn begin_sequence(s: &[u16], path: &[u16], out: &mut [u8]) -> Built
     requires { (length s.now ≤ 65535) × (get_or s.now 0 0 ≡ 22) }
     ensures { Beginning s.now path.now out.old out.new result }
@@ -183,7 +162,7 @@ fn begin_sequence(s: &[u16], path: &[u16], out: &mut [u8]) -> Built
     with_right(begin_after(s, 1, path, out))
 }
 
-#[cycle(begin_begin_after_begin_behind_begin_both_begin_choice_begin_chosen_begin_guard_begin_parallel_begin_right_begin_round_begin_sequence_begin_star)]
+#[cycle(building)]
 fn begin_choice(s: &[u16], path: &[u16], out: &mut [u8]) -> Built
     requires { (length s.now ≤ 65535) × (get_or s.now 0 0 ≡ 23) }
     ensures { Beginning s.now path.now out.old out.new result }
@@ -200,7 +179,8 @@ fn begin_choice(s: &[u16], path: &[u16], out: &mut [u8]) -> Built
 
 // The left operand's successor without the right operand, which stands behind it and is passed over. Where the left operand ends is told
 // by the terms that still stand of it: to scan the whole of it anew would cost the square of the depth of choices within choices.
-#[cycle(begin_begin_after_begin_behind_begin_both_begin_choice_begin_chosen_begin_guard_begin_parallel_begin_right_begin_round_begin_sequence_begin_star)]
+#[tactic(auto, using(scan::specs::Laws::last_len, scan::specs::Laws::behind_len))]
+#[cycle(building)]
 fn begin_chosen(s: &[u16], path: &[u16], out: &mut [u8]) -> Built
     requires { (length s.now ≤ 65535) × (get_or s.now 0 0 ≡ 23) × (get_or path.now 0 0 ≡ 0) }
     ensures { Beginning s.now path.now out.old out.new result }
@@ -210,17 +190,10 @@ fn begin_chosen(s: &[u16], path: &[u16], out: &mut [u8]) -> Built
     let e = skip_row(last(t, x.left), x.due);
     let z = close(t, x, e, out);
     let left = skip(last(t, e));
-    Built {
-        ok: z.ok,
-        action: z.action,
-        words: z.words,
-        left,
-        due: 0,
-        path_left: z.path_left,
-    }
+    Built { left, due: 0, ..z }
 }
 
-#[cycle(begin_begin_after_begin_behind_begin_both_begin_choice_begin_chosen_begin_guard_begin_parallel_begin_right_begin_round_begin_sequence_begin_star)]
+#[cycle(building)]
 fn begin_star(s: &[u16], path: &[u16], out: &mut [u8]) -> Built
     requires { (length s.now ≤ 65535) × (get_or s.now 0 0 ≡ 24) }
     ensures { Beginning s.now path.now out.old out.new result }
@@ -232,7 +205,8 @@ fn begin_star(s: &[u16], path: &[u16], out: &mut [u8]) -> Built
 }
 
 // A star's round: the operand's successor, and then the star again.
-#[cycle(begin_begin_after_begin_behind_begin_both_begin_choice_begin_chosen_begin_guard_begin_parallel_begin_right_begin_round_begin_sequence_begin_star)]
+#[tactic(auto, using(scan::specs::Laws::last_len, scan::specs::Laws::behind_len))]
+#[cycle(building)]
 fn begin_round(s: &[u16], path: &[u16], out: &mut [u8]) -> Built
     requires { (length s.now ≤ 65535) × (get_or s.now 0 0 ≡ 24) × (get_or path.now 0 0 ≡ 0 → ⊥) }
     ensures { Beginning s.now path.now out.old out.new result }
@@ -246,7 +220,8 @@ fn begin_round(s: &[u16], path: &[u16], out: &mut [u8]) -> Built
     put_behind(z, &s[..n], out)
 }
 
-#[cycle(begin_begin_after_begin_behind_begin_both_begin_choice_begin_chosen_begin_guard_begin_parallel_begin_right_begin_round_begin_sequence_begin_star)]
+#[tactic(auto, using(scan::specs::Laws::last_len))]
+#[cycle(building)]
 fn begin_parallel(s: &[u16], path: &[u16], out: &mut [u8]) -> Built
     requires { (length s.now ≤ 65535) × (get_or s.now 0 0 ≡ 25) }
     ensures { Beginning s.now path.now out.old out.new result }
@@ -254,19 +229,18 @@ fn begin_parallel(s: &[u16], path: &[u16], out: &mut [u8]) -> Built
     if s.len() < 5 {
         return unbuilt();
     }
-    let d = first(path);
-    if d == 0 {
-        let n = skip(&s[5..]);
-        return put_one(30, 0, skip(last(s, n)), behind(path).len(), out);
+    match first(path) {
+        0 => {
+            let n = skip(&s[5..]);
+            put_one(30, 0, skip(last(s, n)), behind(path).len(), out)
+        }
+        1 => with_right(begin_after(s, 5, behind(path), out)),
+        _ => begin_right(s, path, out),
     }
-    if d == 1 {
-        return with_right(begin_after(s, 5, behind(path), out));
-    }
-    begin_right(s, path, out)
 }
 
 // The right operand moves, alone or together with the left one.
-#[cycle(begin_begin_after_begin_behind_begin_both_begin_choice_begin_chosen_begin_guard_begin_parallel_begin_right_begin_round_begin_sequence_begin_star)]
+#[cycle(building)]
 fn begin_right(s: &[u16], path: &[u16], out: &mut [u8]) -> Built
     requires { (length s.now ≤ 65535) × (get_or s.now 0 0 ≡ 25) × (5 ≤ length s.now) × (get_or path.now 0 0 ≡ 0 → ⊥) × (get_or path.now 0 0 ≡ 1 → ⊥) }
     ensures { Beginning s.now path.now out.old out.new result }
@@ -282,7 +256,7 @@ fn begin_right(s: &[u16], path: &[u16], out: &mut [u8]) -> Built
 }
 
 // The left operand's successor is closed before the right one's begins behind it.
-#[cycle(begin_begin_after_begin_behind_begin_both_begin_choice_begin_chosen_begin_guard_begin_parallel_begin_right_begin_round_begin_sequence_begin_star)]
+#[cycle(building)]
 fn begin_both(s: &[u16], n: usize, path: &[u16], out: &mut [u8]) -> Built
     requires { (length s.now ≤ 65535) × (5 ≤ n) × (n ≤ length s.now) }
     ensures { Both s.now n path.now out.old out.new result }
@@ -291,17 +265,14 @@ fn begin_both(s: &[u16], n: usize, path: &[u16], out: &mut [u8]) -> Built
     let z = close(s, x, s.len() - n, out);
     let y = begin_behind(z, &s[n..], last(path, x.path_left), out);
     Built {
-        ok: y.ok,
         action: x.action,
-        words: y.words,
-        left: y.left,
-        due: y.due,
-        path_left: y.path_left,
+        ..y
     }
 }
 
 // The successor is without the guard.
-#[cycle(begin_begin_after_begin_behind_begin_both_begin_choice_begin_chosen_begin_guard_begin_parallel_begin_right_begin_round_begin_sequence_begin_star)]
+#[tactic(auto, using(scan::specs::Laws::last_len, scan::specs::Laws::behind_len))]
+#[cycle(building)]
 fn begin_guard(s: &[u16], path: &[u16], out: &mut [u8]) -> Built
     requires { (length s.now ≤ 65535) × (get_or s.now 0 0 ≡ 26) }
     ensures { Beginning s.now path.now out.old out.new result }
@@ -318,7 +289,7 @@ fn begin_action(s: &[u16], path: &[u16], out: &mut [u8]) -> Built
     put_one(30, code_at(t), behind_action(t), path.len(), out)
 }
 
-#[cycle(begin_begin_after_begin_behind_begin_both_begin_choice_begin_chosen_begin_guard_begin_parallel_begin_right_begin_round_begin_sequence_begin_star)]
+#[cycle(building)]
 fn begin(s: &[u16], path: &[u16], out: &mut [u8]) -> Built
     requires { length s.now ≤ 65535 }
     ensures { Beginning s.now path.now out.old out.new result }

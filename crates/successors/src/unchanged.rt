@@ -1,18 +1,20 @@
 // The words at the front of a whole term that stay as they are when an operand behind them moves, told along the path; and the sizes that
 // stand in a path (document 01, "Moves, in order"; "Operations": the successor is built within a part of the lent buffer).
-ghost use Rattle.std.specs.Prelude.{◌≡◌, ◌≤◌, ◌<◌, length, drop, get_or};
+ghost use Rattle.std.specs.Prelude.{◌≡◌, ◌≤◌, ◌<◌, IfSome, length, drop, get_or};
 ghost use Rattle.successors.specs.Unchanged.{leading_words, Staying, Unchanged};
 
 use scan::{behind, first};
 
 // ── the left operand's size in the path, behind the decision ──
 
+#[tactic(auto, using(crate::proofs::Ends::second_word))]
 pub fn size_word(path: &[u16]) -> usize
     ensures { (result ≡ get_or path.now 1 0) × (result < 65536) }
 {
     first(behind(path))
 }
 
+#[tactic(auto, using(crate::proofs::Ends::two_behind))]
 pub fn behind_size(path: &[u16]) -> &[u16]
     ensures { result.now ≡ drop 2 path.now }
 {
@@ -22,41 +24,34 @@ pub fn behind_size(path: &[u16]) -> &[u16]
 // ── what stays ──
 
 // How many words in front of a moving operand stay as they are: a sequence's code, or a parallel's code and mask, and its left operand where
-// the right one moves alone. 0 where what stands there changes.
-fn staying(s: &[u16], path: &[u16]) -> usize
-    ensures { Staying s.now path.now result }
+// the right one moves alone. None where what stands there changes.
+#[tactic(auto, using(crate::proofs::Stays::stays_sequence, crate::proofs::Stays::stays_left, crate::proofs::Stays::stays_right))]
+fn staying(s: &[u16], path: &[u16]) -> Option<usize>
+    ensures { IfSome result (λ n. (0 < n) × Staying s.now path.now n) }
 {
-    let w = first(s);
-    if w == 22 {
-        if first(behind(s)) == 30 {
-            return 0;
-        }
-        return 1;
+    match first(s) {
+        22 if first(behind(s)) != 30 => Some(1),
+        25 => match first(path) {
+            1 => Some(5),
+            2 => Some(5 + size_word(path)),
+            _ => None,
+        },
+        _ => None,
     }
-    if w == 25 {
-        let d = first(path);
-        if d == 1 {
-            return 5;
-        }
-        if d == 2 {
-            return 5 + size_word(path);
-        }
-        return 0;
-    }
-    0
 }
 
 // How many words of the path lead to that operand.
+#[tactic(auto, unfolding(crate::specs::Unchanged::leading_words))]
 fn leading(s: &[u16], path: &[u16]) -> usize
     ensures { (result ≡ leading_words s.now path.now) × (result ≤ 2) }
 {
     if first(s) == 22 {
-        return 0;
+        0
+    } else if first(path) == 1 {
+        1
+    } else {
+        2
     }
-    if first(path) == 1 {
-        return 1;
-    }
-    2
 }
 
 // How many words at the front of the term stay, and 65,536 times how many words of the path lead behind them: from there on the term changes. Most of a
@@ -65,20 +60,15 @@ pub fn unchanged(s: &[u16], path: &[u16]) -> usize
     requires { length s.now ≤ 65535 }
     ensures { Unchanged s.now path.now result }
 {
-    let mut at: usize = 0;
-    let mut used: usize = 0;
-    let mut n = staying(s, path);
-    while 0 < n {
+    let mut at = 0;
+    let mut used = 0;
+    while let Some(n) = staying(&s[at..], &path[used..]) {
         let next = used + leading(&s[at..], &path[used..]);
-        if s.len() < at + n {
-            return at + 65536 * used;
+        if s.len() < at + n || path.len() < next {
+            break;
         }
-        if path.len() < next {
-            return at + 65536 * used;
-        }
-        at = at + n;
+        at += n;
         used = next;
-        n = staying(&s[at..], &path[used..]);
     }
     at + 65536 * used
 }

@@ -1,9 +1,8 @@
 -- A case for each code of a running term. The premises have the form of what the code tells there, so that `search` finds them.
 -- Document 01, "Unfolding, size and breadth"; refusal 10.
-use Prim.Native.Nat.{ℕ, ◌≤◌, ◌<◌}
+use Prim.Native.Nat.{ℕ, ◌≤◌}
 use native.Mathlib.Omega.{arith}
 use mathlib.Core.Path.{◌≡◌, refl, sym, ap, ◌∙◌}
-use mathlib.Core.Logic.{⊎_elim}
 use mathlib.Core.List.{List}
 use lib.ListN.{length, drop, get_or}
 use borrow.Author.Tests.{ne_eqb}
@@ -11,11 +10,11 @@ use Rattle.eb3.specs.Terms.{Term, Star, Sequence, Choice}
 use Rattle.eb3.specs.Measures.{sat, Measure, leaf, nothing, measure_running}
 use Rattle.eb3.specs.Reading.{Read, refused, taken, giving, both}
 use Rattle.eb3.specs.TermReading.{TermKind, term_kind, action_of, term_by, terms, read_term}
-use Rattle.grammar.specs.Laws.{two_ways}
 use Rattle.scan.specs.Laws.{nil_form, behind_len}
 use Rattle.weights.specs.declared.Weight.{Weight}
 use Rattle.weights.specs.Weighing.{cap, measure}
 use Rattle.arguments.specs.Tables.{declared}
+use Rattle.terms.specs.declared.Pair.TheVariants as Pair
 use Rattle.terms.specs.Given.{wrong, weighed_running}
 use Rattle.terms.specs.Answers.{packed, Packs, join_of, weighed_pair}
 use Rattle.terms.specs.Laws.{term_case}
@@ -25,25 +24,22 @@ pub term_none : (T s : List ℕ) → length s ≡ 0 → wrong ≡ weighed_runnin
 unfolding read_term terms weighed_running
 term_none T s h = rw (nil_form s h)
 
-weighed_sequence : (s : Read (Term × Term)) → weighed_pair 22 s ≡ weighed_running (giving (λ p. Sequence p.0 p.1) s)
+weighed_sequence : (s : Read (Term × Term)) → weighed_pair Pair.Sequence s ≡ weighed_running (giving (λ p. Sequence p.0 p.1) s)
 unfolding weighed_pair weighed_running giving measure_running join_of
 weighed_sequence (refused k) = refl
 weighed_sequence (taken s t) = refl
 
-weighed_choice : (s : Read (Term × Term)) → weighed_pair 23 s ≡ weighed_running (giving (λ p. Choice p.0 p.1) s)
+weighed_choice : (s : Read (Term × Term)) → weighed_pair Pair.Choice s ≡ weighed_running (giving (λ p. Choice p.0 p.1) s)
 unfolding weighed_pair weighed_running giving measure_running join_of
 weighed_choice (refused k) = refl
 weighed_choice (taken s t) = refl
 
-above : (w : ℕ) → (w ≡ 20 → ⊥) → (w ≡ 21 → ⊥) → 20 ≤ w → 22 ≤ w
-above w a b l = omega arith
-
 -- What a match tells of the codes that it tests one by one, where none is met.
 abbrev Other : ℕ → Type 0
-Other w = ((((((Unit {0} × (w ≡ 20 → ⊥)) × (w ≡ 21 → ⊥)) × (w ≡ 24 → ⊥)) × (w ≡ 25 → ⊥)) × (w ≡ 26 → ⊥)) × (w ≡ 30 → ⊥))
+Other w = ((((((((Unit {0} × (w ≡ 20 → ⊥)) × (w ≡ 21 → ⊥)) × (w ≡ 22 → ⊥)) × (w ≡ 23 → ⊥)) × (w ≡ 24 → ⊥)) × (w ≡ 25 → ⊥)) × (w ≡ 26 → ⊥)) × (w ≡ 30 → ⊥))
 
-other_kind : (w : ℕ) → Other w → (w ≡ 22 → ⊥) → (w ≡ 23 → ⊥) → term_kind w ≡ TermKind.wrong
-other_kind w h a b = simp (ne_eqb w 20 h.0.0.0.0.0.1, ne_eqb w 21 h.0.0.0.0.1, ne_eqb w 22 a, ne_eqb w 23 b, ne_eqb w 24 h.0.0.0.1, ne_eqb w 25 h.0.0.1, ne_eqb w 26 h.0.1, ne_eqb w 30 h.1)
+other_kind : (w : ℕ) → Other w → term_kind w ≡ TermKind.wrong
+other_kind w h = simp (ne_eqb w 20 h.0.0.0.0.0.0.0.1, ne_eqb w 21 h.0.0.0.0.0.0.1, ne_eqb w 22 h.0.0.0.0.0.1, ne_eqb w 23 h.0.0.0.0.1, ne_eqb w 24 h.0.0.0.1, ne_eqb w 25 h.0.0.1, ne_eqb w 26 h.0.1, ne_eqb w 30 h.1)
 
 -- s is the words, t those behind the first
 module _ (T s t : List ℕ) (h : length s ≡ 0 → ⊥) (q : t ≡ drop 1 s) where
@@ -79,12 +75,11 @@ module _ (T s t : List ℕ) (h : length s ≡ 0 → ⊥) (q : t ≡ drop 1 s) wh
     pub term_action : get_or s 0 0 ≡ 21 → x ≡ weighed_running (action_of (declared T) t) → x ≡ weighed_running (read_term (declared T) s)
     term_action e f = by_kind TermKind.action x (ap term_kind e) f
 
-    pub term_pair : (c : ℕ) → Other (get_or s 0 0) → 20 ≤ get_or s 0 0 → get_or s 0 0 < 24 → c ≡ get_or s 0 0 → x ≡ weighed_pair c (both (read_term (declared T)) (read_term (declared T)) t) → x ≡ weighed_running (read_term (declared T) s)
-    term_pair c o l u e f =
-        ⊎_elim
-        (λ d. by_kind (TermKind.pair Sequence) x (ap term_kind d) (f ∙ ap (λ k. weighed_pair k (both (reads T) (reads T) t)) (e ∙ d) ∙ weighed_sequence (both (reads T) (reads T) t)))
-        (λ d. by_kind (TermKind.pair Choice) x (ap term_kind d) (f ∙ ap (λ k. weighed_pair k (both (reads T) (reads T) t)) (e ∙ d) ∙ weighed_choice (both (reads T) (reads T) t)))
-        (two_ways (get_or s 0 0) 22 (above (get_or s 0 0) o.0.0.0.0.0.1 o.0.0.0.0.1 l) (omega arith))
+    pub term_sequence : get_or s 0 0 ≡ 22 → x ≡ weighed_pair Pair.Sequence (both (read_term (declared T)) (read_term (declared T)) t) → x ≡ weighed_running (read_term (declared T) s)
+    term_sequence e f = by_kind (TermKind.pair Sequence) x (ap term_kind e) (f ∙ weighed_sequence (both (reads T) (reads T) t))
+
+    pub term_choice : get_or s 0 0 ≡ 23 → x ≡ weighed_pair Pair.Choice (both (read_term (declared T)) (read_term (declared T)) t) → x ≡ weighed_running (read_term (declared T) s)
+    term_choice e f = by_kind (TermKind.pair Choice) x (ap term_kind e) (f ∙ weighed_choice (both (reads T) (reads T) t))
 
     pub term_star : get_or s 0 0 ≡ 24 → x ≡ weighed_running (giving Star (read_term (declared T) t)) → x ≡ weighed_running (read_term (declared T) s)
     term_star e f = by_kind TermKind.star x (ap term_kind e) f
@@ -95,10 +90,7 @@ module _ (T s t : List ℕ) (h : length s ≡ 0 → ⊥) (q : t ≡ drop 1 s) wh
     pub term_guard : get_or s 0 0 ≡ 26 → x ≡ weighed_running (term_by (declared T) (read_term (declared T)) TermKind.guard t) → x ≡ weighed_running (read_term (declared T) s)
     term_guard e f = by_kind TermKind.guard x (ap term_kind e) f
 
-  pub term_low : Other (get_or s 0 0) → get_or s 0 0 < 20 → wrong ≡ weighed_running (read_term (declared T) s)
-  term_low o l = by_wrong (other_kind _ o (λ e. omega arith) (λ e. omega arith))
+  pub term_other : Other (get_or s 0 0) → wrong ≡ weighed_running (read_term (declared T) s)
+  term_other o = by_wrong (other_kind _ o)
 
-  pub term_high : Other (get_or s 0 0) → 24 ≤ get_or s 0 0 → wrong ≡ weighed_running (read_term (declared T) s)
-  term_high o l = by_wrong (other_kind _ o (λ e. omega arith) (λ e. omega arith))
-
-pub ruleset codes = (term_none, internal_fits, done_fits, term_internal, term_done, term_action, term_pair, term_star, term_parallel, term_guard, term_low, term_high)
+pub ruleset codes = (term_none, internal_fits, done_fits, term_internal, term_done, term_action, term_sequence, term_choice, term_star, term_parallel, term_guard, term_other)

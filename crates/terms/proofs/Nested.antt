@@ -13,15 +13,18 @@ use borrow.Author.Tests.{ne_eqb, eqb-true}
 use Rattle.eb3.specs.Terms.{Term, Star}
 use Rattle.eb3.specs.RuleSets.{RuleSet}
 use Rattle.eb3.specs.Measures.{sat, star_of, measure_running}
-use Rattle.eb3.specs.Reading.{Read, refused, taken, pick, giving}
+use Rattle.eb3.specs.Reading.{Read, taken, pick, giving}
 use Rattle.eb3.specs.TermReading.{TermKind, term_kind, read_term}
 use Rattle.scan.specs.Checking.{last_of}
 use Rattle.weights.specs.Weighing.{cap}
 use Rattle.arguments.specs.Tables.{declared}
+use Rattle.scan.specs.ReadingLaws.{giving_refused, same_refused, RefusedAs}
+use native.Mathlib.Nat.{le_refl}
 use Rattle.terms.specs.Given.{wrong, weighed_running}
 use Rattle.terms.specs.Answers.{packed, unpacked, Answer, stars_of, starred_of, stars_in_front, InFront}
 use Rattle.terms.specs.Laws.{term_case}
 use Rattle.terms.specs.AnswerLaws.{refused_wrong, Got, got, none_read}
+use Rattle.refusals.specs.declared.Refusal.{Refusal}
 
 -- ── counting ──
 
@@ -48,11 +51,11 @@ module _ (t : List ℕ) (i : ℕ) (c : Counted t i) where
       let a : stars_in_front (drop i t) ≡ 0 = ap stars_in_front (drop-cons t i 0 l) ∙ b in
       record { front = omega (arith, a, c.front); short = c.within }
 
-  pub front_end : length t ≤ i → InFront t i
+  pub front_end : length t ≤ i → InFront t (length t)
   unfolding stars_in_front
   front_end l =
       let a : stars_in_front (drop i t) ≡ 0 = ap stars_in_front (drop_of_length-le t {i = i} l) in
-      record { front = omega (arith, a, c.front); short = c.within }
+      record { front = omega (arith, a, c.front, c.within); short = le_refl (length t) }
 
 pub ruleset counting = (front_start, front_next, front_stop, front_end)
 
@@ -76,10 +79,10 @@ stars_read R (w ∷ t) = go (stars_read R t) (eqb w 24) refl
     go h true e = term_case R (w ∷ t) TermKind.star (λ z. omega arith) (ap term_kind (eqb-true w 24 e)) ∙ ap (giving Star) h
     go h false e = refl
 
-stars_refused : (k j : ℕ) → stars_over k (refused j) ≡ refused j
-unfolding stars_over giving
-stars_refused zero j = refl
-stars_refused (suc k) j = ap (giving Star) (stars_refused k j)
+stars_refused : (k : ℕ) (j : Refusal) (r : Read Term) → RefusedAs j r → RefusedAs j (stars_over k r)
+unfolding stars_over
+stars_refused zero j r h = h
+stars_refused (suc k) j r h = giving_refused Star (stars_over k r) j (stars_refused k j r h)
 
 stars_taken : (k : ℕ) (E : Term) (u : List ℕ) → stars_over k (taken E u) ≡ taken (stars_around k E) u
 unfolding stars_over stars_around giving
@@ -112,7 +115,7 @@ module _ (T t : List ℕ) (k : ℕ) (r : List ℕ) (p : ℕ) (fits : length t �
   pub star_none : p ≡ wrong → wrong ≡ weighed_running (giving Star (read_term (declared T) t))
   star_none h =
       let g = none_read T r p (omega (arith, long)) e h in
-      refused_wrong _ g.0 (all_read ∙ ap (stars_over (suc k)) g.1 ∙ stars_refused (suc k) g.0)
+      refused_wrong _ g.0 (same_refused _ _ g.0 all_read (stars_refused (suc k) g.0 _ g.1))
 
   module _ (h : p ≡ wrong → ⊥) where
     under : Got T r p

@@ -6,12 +6,11 @@ use native.Mathlib.Numerals.{add-one}
 use native.Mathlib.Omega.{arith}
 use mathlib.Core.Path.{◌≡◌, refl, sym, ap, ◌∙◌}
 use mathlib.Core.Bool.{Bool, true, false}
-use lib.Dec.{eqb}
-use borrow.Author.Tests.{ne_eqb}
 use Rattle.eb3.specs.Measures.{sat, Measure, sequence_of, choice_of, star_of, guard_of}
-use Rattle.eb3.specs.Reading.{pick}
 use Rattle.weights.specs.declared.Weight.{Weight}
 use Rattle.weights.specs.Weighing.{cap, measure, parallel_by}
+use Rattle.terms.specs.declared.Pair.{Pair}
+use Rattle.terms.specs.declared.Pair.TheVariants.{Sequence, Choice, Parallel}
 use Rattle.terms.specs.Answers.{packed, unpacked, Answer, Packs, Operands, Operand, join_of, joined_of, guarded_of, stars_of, starred_of}
 
 pub weigh_in : (n p g b : ℕ) → g ≡ p / 65536 % 131072 → b ≡ p / 8589934592 → ◌≡◌ {A = Measure} (record { size = n; reach = g; breadth = b }) (unpacked n p)
@@ -19,43 +18,35 @@ weigh_in n p g b e f = λ j. record { size = n; reach = e j; breadth = f j }
 
 -- ── two operands ──
 
-module _ (c : ℕ) (a b x : Weight) where
-  pub join_sequence : c ≡ 22 → measure x ≡ sequence_of (sat cap) (measure a) (measure b) → measure x ≡ join_of c (measure a) (measure b)
+module _ (c : Pair) (a b x : Weight) where
+  pub join_sequence : c ≡ Sequence → measure x ≡ sequence_of (sat cap) (measure a) (measure b) → measure x ≡ join_of c (measure a) (measure b)
   unfolding join_of
   join_sequence e h = h ∙ ap (λ k. join_of k (measure a) (measure b)) (sym e)
 
-  pub join_choice : c ≡ 23 → measure x ≡ choice_of (sat cap) (measure a) (measure b) → measure x ≡ join_of c (measure a) (measure b)
+  pub join_choice : c ≡ Choice → measure x ≡ choice_of (sat cap) (measure a) (measure b) → measure x ≡ join_of c (measure a) (measure b)
   unfolding join_of
   join_choice e h = h ∙ ap (λ k. join_of k (measure a) (measure b)) (sym e)
 
-  pub join_apart : c ≡ 25 → measure x ≡ parallel_by true (measure a) (measure b) → measure x ≡ join_of c (measure a) (measure b)
+  pub join_parallel : (z : Bool) → c ≡ Parallel z → measure x ≡ parallel_by z (measure a) (measure b) → measure x ≡ join_of c (measure a) (measure b)
   unfolding join_of
-  join_apart e h = h ∙ ap (λ k. join_of k (measure a) (measure b)) (sym e)
+  join_parallel z e h = h ∙ ap (λ k. join_of k (measure a) (measure b)) (sym e)
 
-  pub join_joint : (((Unit {0} × (c ≡ 22 → ⊥)) × (c ≡ 23 → ⊥)) × (c ≡ 25 → ⊥)) → measure x ≡ parallel_by false (measure a) (measure b) → measure x ≡ join_of c (measure a) (measure b)
-  unfolding join_of
-  join_joint o h = rw (ne_eqb c 22 o.0.0.1, ne_eqb c 23 o.0.1, ne_eqb c 25 o.1) h
-
-pub ruleset joins = (join_sequence, join_choice, join_apart, join_joint)
+pub ruleset joins = (join_sequence, join_choice, join_parallel)
 
 -- Reach and breadth are cut off.
 record Small (m : Measure) : Type 0 where
   pub small_reach : m.reach ≤ 65536
   pub small_breadth : m.breadth ≤ 65536
 
-small_pick : (b : Bool) (l r : Measure) → Small l → Small r → Small (pick b l r)
-small_pick true l r p q = p
-small_pick false l r p q = q
-
 small_parallel : (b : Bool) (l r : Measure) → Small (parallel_by b l r)
 small_parallel true l r = record { small_reach = omega arith; small_breadth = omega arith }
 small_parallel false l r = record { small_reach = omega arith; small_breadth = omega arith }
 
-join_small : (c : ℕ) (l r : Measure) → Small l → Small r → Small (join_of c l r)
+join_small : (c : Pair) (l r : Measure) → Small l → Small r → Small (join_of c l r)
 unfolding join_of
-join_small c l r p q =
-    small_pick (eqb c 22) (sequence_of (sat cap) l r) _ (record { small_reach = omega arith; small_breadth = omega arith })
-    (small_pick (eqb c 23) (choice_of (sat cap) l r) (parallel_by (eqb c 25) l r) (record { small_reach = omega arith; small_breadth = omega arith }) (small_parallel (eqb c 25) l r))
+join_small Sequence l r p q = record { small_reach = omega arith; small_breadth = omega arith }
+join_small Choice l r p q = record { small_reach = omega arith; small_breadth = omega arith }
+join_small (Parallel z) l r p q = small_parallel z l r
 
 unpacked_small : (n k p : ℕ) → Answer n p → Small (unpacked k p)
 unpacked_small n k p a = record { small_reach = a.reach; small_breadth = a.breadth }
@@ -66,7 +57,7 @@ fits_small n w m h e s =
     let b : w.breadth ≡ m.breadth = ap (λ (x : Measure). x.breadth) e in
     record { few = h; cut_reach = omega arith; cut_breadth = omega arith }
 
-module _ (c n p q m k : ℕ) (a b x : Weight) (i : m ≡ p % 65536) (j : k ≡ q % 65536) (f : measure a ≡ unpacked (n - m) p) (g : measure b ≡ unpacked (m - k) q) (h : measure x ≡ join_of c (measure a) (measure b)) where
+module _ (c : Pair) (n p q m k : ℕ) (a b x : Weight) (i : m ≡ p % 65536) (j : k ≡ q % 65536) (f : measure a ≡ unpacked (n - m) p) (g : measure b ≡ unpacked (m - k) q) (h : measure x ≡ join_of c (measure a) (measure b)) where
   joint : measure x ≡ join_of c (unpacked (n - m) p) (unpacked (m - k) q)
   joint = h ∙ (λ l. join_of c (f l) (g l))
 

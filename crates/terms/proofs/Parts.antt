@@ -4,13 +4,14 @@
 use Prim.Native.Nat.{ℕ, ◌-◌, ◌%◌, ◌≤◌}
 use native.Mathlib.Omega.{arith}
 use mathlib.Core.Path.{◌≡◌, refl, sym, ap, ◌∙◌, subst}
-use mathlib.Core.Bool.{Bool, true, false}
+use mathlib.Core.Bool.{Bool}
 use mathlib.Core.List.{List, ◌++◌}
 use lib.ListN.{length, take, get_or, length-append}
 use Rattle.eb3.specs.Expressions.{Cond}
 use Rattle.eb3.specs.Spelling.{cond_words}
 use Rattle.eb3.specs.Scopes.{Scope, guard_scope, CondInScope}
-use Rattle.eb3.specs.Terms.{Term, Parallel, Guard, Mask}
+use Rattle.eb3.specs.Terms
+use Rattle.eb3.specs.Terms.{Term, Guard, Mask}
 use Rattle.eb3.specs.Sizes.{cond_size, zero_mask}
 use Rattle.eb3.specs.RuleSets.{attributes}
 use Rattle.eb3.specs.Measures.{sat, Measure, parallel_of, guard_of, measure_running}
@@ -20,30 +21,33 @@ use Rattle.eb3.specs.TermReading.{mask_of, TermKind, term_by, read_term}
 use Rattle.eb3.proofs.Laws.Reading.{Sound}
 use Rattle.eb3.proofs.Laws.ExpressionReading.{cond_sound}
 use Rattle.eb3.proofs.Laws.Spelling.{cond_length}
-use Rattle.scan.specs.declared.Checked.{Checked}
-use Rattle.scan.specs.declared.Checked.TheVariants.{Left, Refused}
-use Rattle.scan.specs.Checking.{checked, last_of}
+use Rattle.scan.specs.Checking.{checked, last_of, Checked}
 use Rattle.scan.specs.Laws.{last_len}
-use Rattle.scan.specs.ReadingLaws.{Taken, checked_refused, checked_taken, giving_refused, giving_taken, both_first, both_second, both_taken, both_behind}
+use Rattle.scan.specs.ReadingLaws.{Taken, checked_refused, checked_taken, giving_refused, giving_taken, both_first, both_second, both_taken, both_behind, same_refused}
 use Rattle.grammar.specs.Laws.{cond_ends}
 use Rattle.weights.specs.Weighing.{cap, parallel_by}
 use Rattle.arguments.specs.Tables.{declared}
 use Rattle.arguments.specs.TableLaws.{labels_length, guard_declared, mask_ends, mask_read}
+use Rattle.terms.specs.declared.Pair.{Pair}
+use Rattle.terms.specs.declared.Pair.TheVariants.{Parallel}
 use Rattle.terms.specs.Given.{wrong, weighed_running}
 use Rattle.terms.specs.Answers.{packed, unpacked, Answer, Operands, Operand, join_of, joined_of, weighed_pair, guarded_of}
 use Rattle.terms.specs.AnswerLaws.{refused_wrong, Got, got, none_read}
+use Rattle.std.specs.Prelude.{Ok, Err}
+use Rattle.refusals.specs.declared.Refusal.{Refusal}
 
 abbrev pub reads : List ℕ → Reader Term
 reads T = read_term (declared T)
 
 -- ── two terms ──
 
-module _ (T t : List ℕ) (c p : ℕ) (fits : length t ≤ 8192) (e : p ≡ weighed_running (read_term (declared T) t)) where
+module _ (T t : List ℕ) (c : Pair) (p : ℕ) (fits : length t ≤ 8192) (e : p ≡ weighed_running (read_term (declared T) t)) where
   pub pair_first : p ≡ wrong → wrong ≡ weighed_pair c (both (read_term (declared T)) (read_term (declared T)) t)
   unfolding weighed_pair
   pair_first h =
       let g = none_read T t p fits e h in
-      rw (both_first (reads T) (reads T) t g.0 g.1)
+      let m = both_first (reads T) (reads T) t g.0 g.1 in
+      rw m.read
 
   -- n words are left behind the first, r is these
   module _ (n q : ℕ) (r : List ℕ) (h : p ≡ wrong → ⊥) (i : n ≡ p % 65536) (l : r ≡ last_of n t) (f : q ≡ weighed_running (read_term (declared T) r)) where
@@ -63,7 +67,8 @@ module _ (T t : List ℕ) (c p : ℕ) (fits : length t ≤ 8192) (e : p ≡ weig
     unfolding weighed_pair
     pair_second o =
         let g = none_read T r q short f o in
-        rw (both_second (reads T) (reads T) t first.value first.rest g.0 first.read (ap (reads T) rest_is ∙ g.1))
+        let m = both_second (reads T) (reads T) t first.value first.rest g.0 first.read (same_refused _ _ g.0 (ap (reads T) rest_is) g.1) in
+        rw m.read
 
     module _ (o : q ≡ wrong → ⊥) where
       second : Got T r q
@@ -90,7 +95,7 @@ unfolding giving
 giving_giving f g (refused k) = refl
 giving_giving f g (taken a t) = refl
 
-weighed_parallel : (c : ℕ) (Δ : Mask) → ((l r : Measure) → join_of c l r ≡ parallel_of (sat cap) Δ l r) → (s : Read (Term × Term)) → weighed_pair c s ≡ weighed_running (giving (λ p. Parallel Δ p.0 p.1) s)
+weighed_parallel : (c : Pair) (Δ : Mask) → ((l r : Measure) → join_of c l r ≡ parallel_of (sat cap) Δ l r) → (s : Read (Term × Term)) → weighed_pair c s ≡ weighed_running (giving (λ p. Terms.Parallel Δ p.0 p.1) s)
 unfolding weighed_pair weighed_running giving measure_running
 weighed_parallel c Δ h (refused k) = refl
 weighed_parallel c Δ h (taken s t) = λ j. packed (length t) (h (measure_running (sat cap) 1 s.0) (measure_running (sat cap) 1 s.1) j)
@@ -103,33 +108,26 @@ module _ (T t : List ℕ) (b : ℕ) (p : Checked) (i : b ≡ get_or T 17 0) (e :
   as_declared : p ≡ checked (masks t)
   as_declared = e ∙ ap (λ n. checked (mask_of 4 n t)) (i ∙ sym (labels_length T))
 
-  pub parallel_none : (k : ℕ) → p ≡ Refused k → wrong ≡ weighed_running (term_by (declared T) (read_term (declared T)) TermKind.parallel t)
+  pub parallel_none : (k : Refusal) → p ≡ Err k → wrong ≡ weighed_running (term_by (declared T) (read_term (declared T)) TermKind.parallel t)
   parallel_none k h = refused_wrong _ k (giving_refused _ _ k (both_first masks (both (reads T) (reads T)) t k (checked_refused (masks t) k (sym h ∙ as_declared))))
 
   -- z says whether the mask is zero
-  module _ (n : ℕ) (r : List ℕ) (z : Bool) (x : ℕ) (h : p ≡ Left n) (l : r ≡ last_of n t) (o : z ≡ zero_mask (take 4 t)) where
+  module _ (n : ℕ) (r : List ℕ) (z : Bool) (x : ℕ) (h : p ≡ Ok n) (l : r ≡ last_of n t) (o : z ≡ zero_mask (take 4 t)) where
     mask : Taken t n (masks t)
     mask = checked_taken t n (masks t) (mask_ends 4 (length (declared T).labels) t) (sym h ∙ as_declared)
 
     mask_zero : z ≡ zero_mask mask.value
     mask_zero = o ∙ ap zero_mask (sym (mask_read 4 (length (declared T).labels) t mask.value mask.rest mask.read))
 
-    by_mask : (c : ℕ) → ((l r : Measure) → join_of c l r ≡ parallel_of (sat cap) mask.value l r) → x ≡ weighed_pair c (both (reads T) (reads T) r) → x ≡ weighed_running (term_by (declared T) (read_term (declared T)) TermKind.parallel t)
-    by_mask c j f =
+    pub parallel_in : x ≡ weighed_pair (Parallel z) (both (read_term (declared T)) (read_term (declared T)) r) → x ≡ weighed_running (term_by (declared T) (read_term (declared T)) TermKind.parallel t)
+    unfolding join_of
+    parallel_in f =
         let k : both masks (both (reads T) (reads T)) t ≡ giving (λ s. (mask.value, s)) (both (reads T) (reads T) r) =
         both_behind masks (both (reads T) (reads T)) t mask.value mask.rest mask.read ∙ ap (λ u. giving (λ s. (mask.value, s)) (both (reads T) (reads T) u)) (sym mask.words ∙ sym l) in
-        f ∙ weighed_parallel c mask.value j (both (reads T) (reads T) r)
-        ∙ sym (ap weighed_running (ap (giving (λ s. Parallel s.0 s.1.0 s.1.1)) k ∙ giving_giving _ _ (both (reads T) (reads T) r)))
+        f ∙ weighed_parallel (Parallel z) mask.value (λ u v. ap (λ y. parallel_by y u v) mask_zero) (both (reads T) (reads T) r)
+        ∙ sym (ap weighed_running (ap (giving (λ s. Terms.Parallel s.0 s.1.0 s.1.1)) k ∙ giving_giving _ _ (both (reads T) (reads T) r)))
 
-    pub parallel_zero : z ≡ true → x ≡ weighed_pair 25 (both (read_term (declared T)) (read_term (declared T)) r) → x ≡ weighed_running (term_by (declared T) (read_term (declared T)) TermKind.parallel t)
-    unfolding join_of
-    parallel_zero y f = by_mask 25 (λ u v. ap (λ k. parallel_by k u v) (sym y ∙ mask_zero)) f
-
-    pub parallel_some : z ≡ false → x ≡ weighed_pair 0 (both (read_term (declared T)) (read_term (declared T)) r) → x ≡ weighed_running (term_by (declared T) (read_term (declared T)) TermKind.parallel t)
-    unfolding join_of
-    parallel_some y f = by_mask 0 (λ u v. ap (λ k. parallel_by k u v) (sym y ∙ mask_zero)) f
-
-pub ruleset parallels = (parallel_none, parallel_zero, parallel_some)
+pub ruleset parallels = (parallel_none, parallel_in)
 
 -- ── a condition, then a term ──
 
@@ -152,10 +150,10 @@ module _ (T t : List ℕ) (b : ℕ) (p : Checked) (i : b ≡ get_or T 210 0) (e 
   in_scope = e ∙ (λ j. checked (read_cond 1 (record { top = 65534; arity = λ f. 1; now = i j; before = 0; variables = 0 }) t))
       ∙ ap (λ P. checked (read_cond 1 P t)) (sym (guard_declared T 0)) ∙ ap checked width_one
 
-  pub guarded_none : (k : ℕ) → p ≡ Refused k → wrong ≡ weighed_running (term_by (declared T) (read_term (declared T)) TermKind.guard t)
+  pub guarded_none : (k : Refusal) → p ≡ Err k → wrong ≡ weighed_running (term_by (declared T) (read_term (declared T)) TermKind.guard t)
   guarded_none k h = refused_wrong _ k (giving_refused _ _ k (both_first conditions (reads T) t k (checked_refused (conditions t) k (sym h ∙ in_scope))))
 
-  module _ (n q : ℕ) (r : List ℕ) (fits : length t ≤ 8192) (h : p ≡ Left n) (l : r ≡ last_of n t) (f : q ≡ weighed_running (read_term (declared T) r)) where
+  module _ (n q : ℕ) (r : List ℕ) (fits : length t ≤ 8192) (h : p ≡ Ok n) (l : r ≡ last_of n t) (f : q ≡ weighed_running (read_term (declared T) r)) where
     condition : Taken t n (conditions t)
     condition = checked_taken t n (conditions t) (cond_ends (declared T).edition.width (guard_scope (attributes (declared T)) 0) t) (sym h ∙ in_scope)
 
@@ -171,7 +169,7 @@ module _ (T t : List ℕ) (b : ℕ) (p : Checked) (i : b ≡ get_or T 210 0) (e 
     pub guarded_out : q ≡ wrong → wrong ≡ weighed_running (term_by (declared T) (read_term (declared T)) TermKind.guard t)
     guarded_out o =
         let g = none_read T r q few f o in
-        refused_wrong _ g.0 (giving_refused _ _ g.0 (both_second conditions (reads T) t condition.value condition.rest g.0 condition.read (ap (reads T) behind_is ∙ g.1)))
+        refused_wrong _ g.0 (giving_refused _ _ g.0 (both_second conditions (reads T) t condition.value condition.rest g.0 condition.read (same_refused _ _ g.0 (ap (reads T) behind_is) g.1)))
 
     module _ (o : q ≡ wrong → ⊥) where
       operand : Got T r q

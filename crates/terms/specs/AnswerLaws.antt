@@ -18,12 +18,14 @@ use Rattle.eb3.proofs.Laws.Spelling.{words_length}
 use Rattle.eb3.proofs.Laws.Saturation.{measure_running_sat}
 use Rattle.scan.specs.Checking.{last_of}
 use Rattle.scan.specs.Laws.{Fine, tail_short, tail_at}
-use Rattle.scan.specs.ReadingLaws.{Taken}
+use Rattle.scan.specs.ReadingLaws.{Taken, RefusedAs}
 use Rattle.weights.specs.Weighing.{cap}
 use Rattle.arguments.specs.Tables.{declared}
 use Rattle.terms.specs.Given.{wrong, weighed_running}
 use Rattle.terms.specs.Answers.{left_of, packed, unpacked, Answer}
 use Rattle.terms.specs.Laws.{term_ends}
+use Rattle.refusals.specs.declared.Refusal.{Refusal}
+use Rattle.refusals.specs.Numbers.{refusal}
 
 -- ── the numbers in one ──
 
@@ -69,9 +71,9 @@ taken_size T t E u e =
 -- ── words left ──
 
 -- No number of words that are there is `wrong`.
-pub left_wrong : {A : Type 0} (t : List ℕ) (r : Read A) → length t ≤ 8192 → Fine t r → wrong ≡ left_of r → (k : ℕ) × (r ≡ refused k)
+pub left_wrong : {A : Type 0} (t : List ℕ) (r : Read A) → length t ≤ 8192 → Fine t r → wrong ≡ left_of r → (k : Refusal) × RefusedAs k r
 unfolding left_of
-left_wrong t (refused k) h f e = (k, refl)
+left_wrong t (refused k) h f e = (refusal k, record { code = k; read = refl; named = refl })
 left_wrong t (taken a u) h f e = absurd (let z : ⊥ = omega (arith, e, tail_short u t f) in z)
 
 pub left_taken : {A : Type 0} (t : List ℕ) (n : ℕ) (r : Read A) → Fine t r → n ≡ left_of r → (n ≡ wrong → ⊥) → Taken t n r
@@ -82,9 +84,9 @@ left_taken t n (taken a u) f e h =
 
 -- ── what was read ──
 
-pub refused_wrong : (r : Read Term) (k : ℕ) → r ≡ refused k → wrong ≡ weighed_running r
+pub refused_wrong : (r : Read Term) (k : Refusal) → RefusedAs k r → wrong ≡ weighed_running r
 unfolding weighed_running
-refused_wrong r k e = rw e
+refused_wrong r k h = rw h.read
 
 pub record Got (T t : List ℕ) (p : ℕ) : Type 0 where
   pub value : Term
@@ -132,10 +134,10 @@ module _ (T t : List ℕ) (p : ℕ) (fits : length t ≤ 8192) where
       go (refused k) q f = absurd (h f)
       go (taken E u) q f = got_taken E u q f
 
-  pub none_read : p ≡ weighed_running (read_term (declared T) t) → p ≡ wrong → (k : ℕ) × (read_term (declared T) t ≡ refused k)
+  pub none_read : p ≡ weighed_running (read_term (declared T) t) → p ≡ wrong → (k : Refusal) × RefusedAs k (read_term (declared T) t)
   unfolding weighed_running
   none_read e h = go (read_term (declared T) t) refl e
     where
-      go : (r : Read Term) → read_term (declared T) t ≡ r → p ≡ weighed_running r → (k : ℕ) × (read_term (declared T) t ≡ refused k)
-      go (refused k) q f = (k, q)
+      go : (r : Read Term) → read_term (declared T) t ≡ r → p ≡ weighed_running r → (k : Refusal) × RefusedAs k (read_term (declared T) t)
+      go (refused k) q f = (refusal k, record { code = k; read = q; named = refl })
       go (taken E u) q f = absurd (let z : ⊥ = omega (arith, f, h, reach_small E, breadth_small E, shorter E u q f) in z)

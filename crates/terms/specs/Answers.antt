@@ -6,6 +6,8 @@ use Rattle.eb3.specs.Terms.{Term}
 use Rattle.eb3.specs.Measures.{sat, Measure, sequence_of, choice_of, star_of, guard_of, measure_running}
 use Rattle.eb3.specs.Reading.{Read, refused, taken, pick}
 use Rattle.weights.specs.Weighing.{cap, parallel_by}
+use Rattle.terms.specs.declared.Pair.{Pair}
+use Rattle.terms.specs.declared.Pair.TheVariants.{Sequence, Choice, Parallel}
 use Rattle.terms.specs.Given.{wrong}
 
 -- How many words are left, where only that is asked.
@@ -45,16 +47,18 @@ pub record Operand (n m p : ℕ) : Type 0 where
   pub behind : m ≤ n
   pub few : n ≤ 8192
 
--- What two operands measure together: 22 a sequence, 23 a choice, 25 a parallel whose mask is zero, else one whose mask is not.
-unfoldable pub join_of : ℕ → Measure → Measure → Measure
-join_of c l r = pick (eqb c 22) (sequence_of (sat cap) l r) (pick (eqb c 23) (choice_of (sat cap) l r) (parallel_by (eqb c 25) l r))
+-- What two operands measure together.
+unfoldable pub join_of : Pair → Measure → Measure → Measure
+join_of Sequence l r = sequence_of (sat cap) l r
+join_of Choice l r = choice_of (sat cap) l r
+join_of (Parallel z) l r = parallel_by z l r
 
 -- p is the answer of the first, of n words, and q that of the second, of the words behind it.
-unfoldable pub joined_of : ℕ → ℕ → ℕ → ℕ → ℕ
+unfoldable pub joined_of : Pair → ℕ → ℕ → ℕ → ℕ
 joined_of c n p q = packed (q % 65536) (join_of c (unpacked (n - p % 65536) p) (unpacked (p % 65536 - q % 65536) q))
 
 -- The answer of two terms in a row.
-unfoldable pub weighed_pair : ℕ → Read (Term × Term) → ℕ
+unfoldable pub weighed_pair : Pair → Read (Term × Term) → ℕ
 weighed_pair c (refused k) = wrong
 weighed_pair c (taken s t) = packed (length t) (join_of c (measure_running (sat cap) 1 s.0) (measure_running (sat cap) 1 s.1))
 

@@ -1,14 +1,13 @@
 -- What the check of a running term answers of a reading (document 01, refusal 10: a given term isn't exactly one running term of this rule set within
 -- 7's and 8's limits).
-use Rattle.std.proofs.Math.Option.{Option, none, some}
-use Rattle.std.specs.Prelude.{ℕ, ◌+◌, ◌*◌, length}
+use Rattle.std.proofs.Math.Option.{Option as Optional, none, some}
+use Rattle.std.specs.Prelude.{Option, Some, None, ℕ, ◌+◌, ◌*◌, length}
 use Rattle.eb3.specs.Terms.{Term}
 use Rattle.eb3.specs.Sizes.{reach, breadth}
 use Rattle.eb3.specs.Measures.{sat, measure_running}
 use Rattle.eb3.specs.Reading.{Read, refused, taken}
 use Rattle.weights.specs.Weighing.{cap}
 use Rattle.terms.specs.declared.Given.{Given}
-use Rattle.terms.specs.declared.Given.TheVariants.{Running, Wrong}
 
 -- Above every answer that says what was read.
 abbrev pub wrong : ℕ
@@ -20,6 +19,6 @@ weighed_running (refused k) = wrong
 weighed_running (taken E t) = length t + 65536 * ((measure_running (sat cap) 1 E).reach + 131072 * (measure_running (sat cap) 1 E).breadth)
 
 -- A given term's reach and breadth, or that it is none.
-unfoldable pub given : Option Term → Given
-given none = Wrong
-given (some E) = Running (reach 1 E) (breadth E)
+unfoldable pub given : Optional Term → Option Given
+given none = None
+given (some E) = Some (record { reach = reach 1 E; breadth = breadth E })

@@ -12,19 +12,27 @@ ghost use Rattle.arguments.specs.Tables.{declared};
 ghost use Rattle.terms.specs.Given.{weighed_running, given};
 ghost use Rattle.terms.specs.Answers.{left_of, packed, unpacked, Answer, Packs, Operands, Operand, join_of, joined_of, weighed_pair, guarded_of, starred_of, InFront};
 
-use arguments::{check_mask, functions, labels, mask_zero, row_at, size_of, wide32};
+use arguments::{check_mask, functions, labels, mask_zero, row_at, size_of};
 use grammar::{Scope, check_cond};
-use scan::{Checked, behind, last, wide};
+use scan::{behind, last};
 use weights::{Limits, Weight, choice, empty, guard, narrow, parallel, sequence, single, star};
 
 // Above every answer that says what was read.
 const WRONG: usize = 1152921504606846976;
 
-// A given term's reach and breadth; or that it is no running term within the limits.
+// The reach and the breadth of a given term.
 #[derive(Clone, Copy)]
-pub enum Given {
-    Running(u32, u32),
-    Wrong,
+pub struct Given {
+    pub reach: u32,
+    pub breadth: u32,
+}
+
+// Two operands in a row: of a parallel, whether its mask is zero.
+#[derive(Clone, Copy)]
+enum Pair {
+    Sequence,
+    Choice,
+    Parallel(bool),
 }
 
 // ── answers ──
@@ -64,29 +72,27 @@ fn pack(n: usize, w: Weight) -> usize
     requires { Packs n (measure w) }
     ensures { result ≡ packed n (measure w) }
 {
-    n + 65536 * (wide32(w.reach) + 131072 * wide32(w.breadth))
+    n + 65536 * (w.reach as usize + 131072 * (w.breadth as usize))
 }
 
-// Two operands by their code, 22 or 23; of a parallel, 25 where its mask is zero.
-fn join(c: usize, a: Weight, b: Weight) -> Weight
-    ensures { measure result ≡ join_of c (measure a) (measure b) }
+fn join(pair: Pair, a: Weight, b: Weight) -> Weight
+    ensures { measure result ≡ join_of pair (measure a) (measure b) }
 {
-    match c {
-        22 => sequence(a, b),
-        23 => choice(a, b),
-        25 => parallel(true, a, b),
-        _ => parallel(false, a, b),
+    match pair {
+        Pair::Sequence => sequence(a, b),
+        Pair::Choice => choice(a, b),
+        Pair::Parallel(zero) => parallel(zero, a, b),
     }
 }
 
 // The answer of two operands from that of the first, which had n words before it, and of the second.
-fn joined(c: usize, n: usize, p: usize, q: usize) -> usize
+fn joined(pair: Pair, n: usize, p: usize, q: usize) -> usize
     requires { Operands n p q }
-    ensures { result ≡ joined_of c n p q }
+    ensures { result ≡ joined_of pair n p q }
 {
     let m = left(p);
     let k = left(q);
-    pack(k, join(c, weigh(n - m, p), weigh(m - k, q)))
+    pack(k, join(pair, weigh(n - m, p), weigh(m - k, q)))
 }
 
 // The answer of a guard of n words, m of them behind its condition, from that of its operand.
@@ -105,10 +111,8 @@ fn under_stars(k: usize, n: usize, p: usize) -> usize
 {
     let m = left(p);
     let mut w = weigh(n - m, p);
-    let mut i = 0;
-    while i < k {
+    for _ in 0..k {
         w = star(w);
-        i = i + 1;
     }
     pack(m, w)
 }
@@ -122,15 +126,13 @@ fn elements(t: &[u16], tb: &[u32], ds: &[u32]) -> usize
     if t.len() / 2 < ds.len() {
         return WRONG;
     }
-    let mut i = 0;
-    while i < ds.len() {
+    for i in 0..ds.len() {
         if t[2 * i] != 1 {
             return WRONG;
         }
-        if size_of(tb, wide32(ds[i])) <= wide(t[2 * i + 1]) {
+        if size_of(tb, ds[i] as usize) <= t[2 * i + 1] as usize {
             return WRONG;
         }
-        i = i + 1;
     }
     t.len() - 2 * ds.len()
 }
@@ -143,7 +145,7 @@ fn action(t: &[u16], tb: &[u32]) -> usize
     if t.len() == 0 {
         return WRONG;
     }
-    let l = wide(t[0]);
+    let l = t[0] as usize;
     if labels(tb) <= l {
         return WRONG;
     }
@@ -159,18 +161,16 @@ fn action(t: &[u16], tb: &[u32]) -> usize
 fn stars(t: &[u16]) -> usize
     ensures { InFront t.now result }
 {
-    let mut i = 0;
-    while i < t.len() {
+    for i in 0..t.len() {
         if t[i] != 24 {
             return i;
         }
-        i = i + 1;
     }
-    i
+    t.len()
 }
 
 // A term with a star in front: the words behind that star.
-#[cycle(check_running_guarded_in_parallel_pair_starred)]
+#[cycle(running)]
 fn starred(t: &[u16], tb: &[u32]) -> usize
     requires { length t.now ≤ 8192 }
     ensures { result ≡ weighed_running (giving Star (read_term (declared tb.now) t.now)) }
@@ -184,11 +184,11 @@ fn starred(t: &[u16], tb: &[u32]) -> usize
     under_stars(k + 1, n, p)
 }
 
-// Two terms in a row, which `join` knows as c.
-#[cycle(check_running_guarded_in_parallel_pair_starred)]
-fn pair(t: &[u16], tb: &[u32], c: usize) -> usize
+// Two terms in a row.
+#[cycle(running)]
+fn two_terms(t: &[u16], tb: &[u32], sort: Pair) -> usize
     requires { length t.now ≤ 8192 }
-    ensures { result ≡ weighed_pair c (both (read_term (declared tb.now)) (read_term (declared tb.now)) t.now) }
+    ensures { result ≡ weighed_pair sort (both (read_term (declared tb.now)) (read_term (declared tb.now)) t.now) }
 {
     let p = check_running(t, tb);
     if p == WRONG {
@@ -199,29 +199,23 @@ fn pair(t: &[u16], tb: &[u32], c: usize) -> usize
     if q == WRONG {
         return WRONG;
     }
-    joined(c, t.len(), p, q)
+    joined(sort, t.len(), p, q)
 }
 
 // A mask and two terms.
-#[cycle(check_running_guarded_in_parallel_pair_starred)]
+#[cycle(running)]
 fn in_parallel(t: &[u16], tb: &[u32]) -> usize
     requires { length t.now ≤ 8192 }
     ensures { result ≡ weighed_running (term_by (declared tb.now) (read_term (declared tb.now)) TermKind.parallel t.now) }
 {
-    let l = labels(tb);
-    match check_mask(t, 4, l) {
-        Checked::Left(n) => {
-            if mask_zero(t) {
-                return pair(last(t, n), tb, 25);
-            }
-            pair(last(t, n), tb, 0)
-        }
-        Checked::Refused(k) => WRONG,
-    }
+    let Ok(n) = check_mask(t, 4, labels(tb)) else {
+        return WRONG;
+    };
+    two_terms(last(t, n), tb, Pair::Parallel(mask_zero(t)))
 }
 
 // A condition, whose size is the words that it took, and a term.
-#[cycle(check_running_guarded_in_parallel_pair_starred)]
+#[cycle(running)]
 fn guarded(t: &[u16], tb: &[u32]) -> usize
     requires { length t.now ≤ 8192 }
     ensures { result ≡ weighed_running (term_by (declared tb.now) (read_term (declared tb.now)) TermKind.guard t.now) }
@@ -231,20 +225,18 @@ fn guarded(t: &[u16], tb: &[u32]) -> usize
         now: functions(tb),
         before: 0,
     };
-    match check_cond(t, c) {
-        Checked::Left(n) => {
-            let p = check_running(last(t, n), tb);
-            if p == WRONG {
-                return WRONG;
-            }
-            under_guard(t.len(), n, p)
-        }
-        Checked::Refused(k) => WRONG,
+    let Ok(n) = check_cond(t, c) else {
+        return WRONG;
+    };
+    let p = check_running(last(t, n), tb);
+    if p == WRONG {
+        return WRONG;
     }
+    under_guard(t.len(), n, p)
 }
 
 // The running term at the front.
-#[cycle(check_running_guarded_in_parallel_pair_starred)]
+#[cycle(running)]
 fn check_running(s: &[u16], tb: &[u32]) -> usize
     requires { length s.now ≤ 8192 }
     ensures { result ≡ weighed_running (read_term (declared tb.now) s.now) }
@@ -257,7 +249,8 @@ fn check_running(s: &[u16], tb: &[u32]) -> usize
     match c {
         20 => pack(t.len(), single(1)),
         21 => action(t, tb),
-        22..=23 => pair(t, tb, wide(c)),
+        22 => two_terms(t, tb, Pair::Sequence),
+        23 => two_terms(t, tb, Pair::Choice),
         24 => starred(t, tb),
         25 => in_parallel(t, tb),
         26 => guarded(t, tb),
@@ -267,27 +260,30 @@ fn check_running(s: &[u16], tb: &[u32]) -> usize
 }
 
 // Exactly one running term of the rule set that the tables declare, within the limits.
-pub fn given_term(s: &[u16], tb: &[u32]) -> Given
+pub fn given_term(s: &[u16], tb: &[u32]) -> Option<Given>
     ensures { result ≡ given (given_term (declared tb.now) s.now) }
 {
     // No term has more words than its reach.
-    if wide32(Limits::REACH) < s.len() {
-        return Given::Wrong;
+    if s.len() > Limits::REACH as usize {
+        return None;
     }
     let p = check_running(s, tb);
     if p == WRONG {
-        return Given::Wrong;
+        return None;
     }
     if left(p) != 0 {
-        return Given::Wrong;
+        return None;
     }
     let g = reach(p);
     let b = breadth(p);
     if Limits::REACH < g {
-        return Given::Wrong;
+        return None;
     }
     if Limits::BREADTH < b {
-        return Given::Wrong;
+        return None;
     }
-    Given::Running(g, b)
+    Some(Given {
+        reach: g,
+        breadth: b,
+    })
 }

@@ -9,6 +9,9 @@ use native.Mathlib.Omega.{arith}
 use lib.ListN.{length, take, drop, get_or, length-drop}
 use lib.Seq.{get_or-drop, take-suc, take_all, length-take-le}
 use borrow.Author.Tests.{eq-eqb, ne_eqb, not-true, not-false}
+use borrow.Rule.Slice.PartMut.{put_mid}
+use Rattle.std.specs.Int.{w16, to_le_bytes}
+use Rattle.eb3.specs.Bytes.{bytes_of, written}
 use Rattle.eb3.specs.Reading.{pick}
 use Rattle.scan.specs.Checking.{last_of}
 use Rattle.arguments.specs.Tables.{row}
@@ -21,6 +24,11 @@ use Rattle.unfold.specs.SayingLaws.{where_none, where_in}
 use Rattle.unfold.specs.InstantiationLaws.{last_behind, row_step, row_there, row_done}
 
 -- ── a code and the words that go with it ──
+
+-- two bytes were copied
+pub from_bytes : (at w k : ℕ) (x bs : List ℕ) → k ≡ 2 → bs ≡ to_le_bytes w16 w → put_mid (2 * at) k x bs ≡ written_from at (w ∷ []) x
+unfolding written_from written bytes_of
+from_bytes at w k x bs e f = λ i. put_mid (2 * at) (e i) x (f i)
 
 -- one word was put
 pub word_length : (at w : ℕ) (x y : List ℕ) → 2 * at + 2 ≤ length x → y ≡ written_from at (w ∷ []) x → length y ≡ length x
@@ -53,24 +61,6 @@ head_next at ms o i y z h room e f =
     let l : length (take i ms) ≡ i = length-take-le i ms (omega arith) in
     from_next (at + 1) (at + 1 + i) (take i ms) (get_or ms i 0 ∷ []) o y z (omega arith) (omega (arith, l)) e f
     ∙ ap (λ u. written_from (at + 1) u o) (sym (ap (λ k. take k ms) (add-one i) ∙ take-suc ms i 0 h))
-
--- ── codes of expressions ──
-
-pub width_is : (c k w : ℕ) → c ≡ k → w ≡ front_width k → w ≡ front_width c
-width_is c k w e f = f ∙ ap front_width (sym e)
-
-pub width_other : (c : ℕ) → (((Unit {0} × (c ≡ 1 → ⊥)) × (c ≡ 2 → ⊥)) × (c ≡ 6 → ⊥)) × (c ≡ 7 → ⊥) → 1 ≡ front_width c
-unfolding front_width
-width_other c r = sym (rw (ne_eqb c 1 r.0.0.0.1, ne_eqb c 2 r.0.0.1, ne_eqb c 6 r.0.1, ne_eqb c 7 r.1))
-
-pub operands_are : (c k w : ℕ) → c ≡ k → w ≡ operands k → w ≡ operands c
-operands_are c k w e f = f ∙ ap operands (sym e)
-
-pub operands_other : (c : ℕ)
-    → (((((((Unit {0} × (c ≡ 0 → ⊥)) × (c ≡ 1 → ⊥)) × (c ≡ 2 → ⊥)) × (c ≡ 13 → ⊥)) × (c ≡ 5 → ⊥)) × (c ≡ 6 → ⊥)) × (c ≡ 7 → ⊥)) × (c ≡ 12 → ⊥) → 2 ≡ operands c
-unfolding operands
-operands_other c r =
-    sym (rw (ne_eqb c 0 r.0.0.0.0.0.0.0.1, ne_eqb c 1 r.0.0.0.0.0.0.1, ne_eqb c 2 r.0.0.0.0.0.1, ne_eqb c 13 r.0.0.0.0.1, ne_eqb c 5 r.0.0.0.1, ne_eqb c 6 r.0.0.1, ne_eqb c 7 r.0.1, ne_eqb c 12 r.1))
 
 -- ── the front of an expression ──
 

@@ -6,7 +6,6 @@ use Prim.Native.Nat.{ℕ, suc, ◌+◌, ◌-◌, ◌*◌, ◌/◌, ◌%◌, ◌�
 use native.Mathlib.Numerals.{add-one}
 use native.Mathlib.Omega.{arith}
 use lib.ListN.{length, take, drop, get_or, length-append}
-use lib.Seq.{length-take-le}
 use borrow.Author.Tests.{ne_eqb}
 use Rattle.eb3.specs.RuleSets.{domain_size}
 use Rattle.eb3.specs.RuleSpelling.{rule_words}
@@ -42,23 +41,23 @@ module _ (t T : List ℕ) (n i : ℕ) (σ : List ℕ) (at : ℕ) (x y : List ℕ
 
 -- ── a head, and two terms ──
 
-module _ (t T : List ℕ) (n i : ℕ) (σ : List ℕ) (c k : ℕ) (s : List ℕ) (is_s : s ≡ last_of n t) (at : ℕ) (x : List ℕ) where
-  pub joined_short : length s < k → Puts (Joins t T n i σ c k) at x x 4294967296
+-- The code and the mask's size are those that the contract names.
+module _ (t T : List ℕ) (n i : ℕ) (σ : List ℕ) (C K k : ℕ) (is_k : k ≡ K) (s : List ℕ) (is_s : s ≡ last_of n t) (at : ℕ) (x : List ℕ) where
+  pub joined_short : length s < k → Puts (Joins t T n i σ C K) at x x 4294967296
   joined_short h = where_none _ _ at x (λ l. let e : length s ≡ length (last_of n t) = ap length is_s in omega arith)
 
-  module _ (y : List ℕ) (a : ℕ) (p : Puts (Exactly (c ∷ take k s) (length s - k)) at x y a) where
-    head_is : Puts (Exactly (c ∷ take k (last_of n t)) (length (last_of n t) - k)) at x y a
-    head_is = subst (λ u. Puts (Exactly (c ∷ take k u) (length u - k)) at x y a) is_s p
+  module _ (c : ℕ) (is_c : c ≡ C) (y : List ℕ) (a : ℕ) (p : Puts (Exactly (c ∷ take k s) (length s - k)) at x y a) where
+    head_is : Puts (Exactly (C ∷ take K (last_of n t)) (length (last_of n t) - K)) at x y a
+    head_is = subst (λ u. Puts (Exactly (C ∷ take K u) (length u - K)) at x y a) is_s (subst (λ j. Puts (Exactly (C ∷ take j s) (length s - j)) at x y a) is_k (subst (λ d. Puts (Exactly (d ∷ take k s) (length s - k)) at x y a) is_c p))
 
-    pub joined_none : 4294967296 ≤ a → Puts (Joins t T n i σ c k) at x y 4294967296
+    pub joined_none : 4294967296 ≤ a → Puts (Joins t T n i σ C K) at x y 4294967296
     joined_none o = where_in _ _ at x y _ (then_fail _ _ at x y a head_is o)
 
-    pub joined_put : (z : List ℕ) (b : ℕ) → a < 4294967296 → Puts (TwoTerms t T (length s - k) i σ) (a / 65536) y z b → Puts (Joins t T n i σ c k) at x z b
-    joined_put z b o q = where_in _ _ at x z b (exactly_last _ _ (λ m. TwoTerms t T m i σ) at x y a z b head_is o (subst (λ u. Puts (TwoTerms t T (length u - k) i σ) (a / 65536) y z b) is_s q))
-
--- k words of a mask are there
-pub mask_taken : (s : List ℕ) (k : ℕ) → k ≤ length s → k ≡ length (take k s)
-mask_taken s k h = sym (length-take-le k s h)
+    pub joined_put : (z : List ℕ) (b : ℕ) → a < 4294967296 → Puts (TwoTerms t T (length s - k) i σ) (a / 65536) y z b → Puts (Joins t T n i σ C K) at x z b
+    joined_put z b o q =
+        where_in _ _ at x z b
+        (exactly_last _ _ (λ m. TwoTerms t T m i σ) at x y a z b head_is o
+        (subst (λ u. Puts (TwoTerms t T (length u - K) i σ) (a / 65536) y z b) is_s (subst (λ j. Puts (TwoTerms t T (length s - j) i σ) (a / 65536) y z b) is_k q)))
 
 -- ── stars and guards ──
 
@@ -96,8 +95,7 @@ module _ (t T : List ℕ) (n i : ℕ) (σ : List ℕ) where
     copies_start x few room = putting_start All (Copies t T n i σ h 0 (size - 1 - 0)) at x few room (λ ws rest s. subst (λ k. Copies t T n i σ h 0 k ws rest) (let z : size - 1 ≡ size - 1 - 0 = omega arith in z) s)
 
     module _ (e w : ℕ) (x y : List ℕ) (p : Putting All (Copies t T n i σ h e (size - 1 - e)) at w x y) where
-      -- v is the element as the test has it
-      module _ (v : ℕ) (same : v ≡ e) (more : v + 1 < size) (z : List ℕ) (a : ℕ) (q : Puts (Headed t T n i σ h e) w y z a) where
+      module _ (more : e + 1 < size) (z : List ℕ) (a : ℕ) (q : Puts (Headed t T n i σ h e) w y z a) where
         step : (ws rest : List ℕ) → Copies t T n i σ h e (size - 1 - e) ws rest → Then (Headed t T n i σ h e) (λ m. Copies t T n i σ h (e + 1) (size - 1 - (e + 1))) ws rest
         unfolding Copies
         step ws rest s =
@@ -110,33 +108,32 @@ module _ (t T : List ℕ) (n i : ℕ) (σ : List ℕ) where
         pub copies_next : a < 4294967296 → Putting All (Copies t T n i σ h (e + 1) (size - 1 - (e + 1))) at (a / 65536) x z
         copies_next o = putting_next _ _ at w x y p _ z a q (λ m. Copies t T n i σ h (e + 1) (size - 1 - (e + 1))) step o
 
-      pub copies_last : (v : ℕ) (z : List ℕ) (b : ℕ) → v ≡ e → size ≤ v + 1 → Puts (Copy t T n i σ e) w y z b → Puts All at x z b
+      -- v is the last element
+      pub copies_last : (v : ℕ) (z : List ℕ) (b : ℕ) → v ≡ e → size ≤ v + 1 → Puts (Copy t T n i σ v) w y z b → Puts All at x z b
       unfolding Copies
-      copies_last v z b same l q = putting_last _ _ at w x y p (Copy t T n i σ e) z b q last
+      copies_last v z b same l q = putting_last _ _ at w x y p (Copy t T n i σ v) z b q last
         where
-          last : (ws rest : List ℕ) → Copies t T n i σ h e (size - 1 - e) ws rest → Copy t T n i σ e ws rest
-          last ws rest s = subst (λ k. Copies t T n i σ h e k ws rest) (let k : size - 1 - e ≡ 0 = omega arith in k) s
+          last : (ws rest : List ℕ) → Copies t T n i σ h e (size - 1 - e) ws rest → Copy t T n i σ v ws rest
+          last ws rest s = subst (λ u. Copy t T n i σ u ws rest) (sym same) (subst (λ k. Copies t T n i σ h e k ws rest) (let k : size - 1 - e ≡ 0 = omega arith in k) s)
 
-module _ (t T : List ℕ) (n i : ℕ) (σ : List ℕ) (c k : ℕ) (s : List ℕ) (is_s : s ≡ last_of n t) (at : ℕ) (x : List ℕ) where
-  pub over_short : length s < 1 + k → Puts (Overs t T n i σ c k) at x x 4294967296
+module _ (t T : List ℕ) (n i : ℕ) (σ : List ℕ) (C K k : ℕ) (is_k : k ≡ K) (s : List ℕ) (is_s : s ≡ last_of n t) (at : ℕ) (x : List ℕ) where
+  pub over_short : length s < 1 + k → Puts (Overs t T n i σ C K) at x x 4294967296
   over_short h = where_none _ _ at x (λ l. let e : length s ≡ length (last_of n t) = ap length is_s in omega (arith, l.0))
 
-  pub over_full : 8 ≤ length σ → Puts (Overs t T n i σ c k) at x x 4294967296
+  pub over_full : 8 ≤ length σ → Puts (Overs t T n i σ C K) at x x 4294967296
   over_full h = where_none _ _ at x (λ l. omega (arith, l.1))
 
   module _ (d size : ℕ) (is_d : d ≡ get_or s 0 0) (is_size : size ≡ domain_size (declared T) d) where
     size_is : size ≡ domain_size (declared T) (get_or (last_of n t) 0 0)
     size_is = is_size ∙ ap (λ j. domain_size (declared T) j) (is_d ∙ ap (λ u. get_or u 0 0) is_s)
 
-    pub over_large : 64 < size → Puts (Overs t T n i σ c k) at x x 4294967296
+    pub over_large : 64 < size → Puts (Overs t T n i σ C K) at x x 4294967296
     over_large h = where_none _ _ at x (λ l. omega (arith, l.2, size_is))
 
-    pub over_put : (y : List ℕ) (q : ℕ) → Puts (Copies t T (length s - (1 + k)) i σ (c ∷ take (1 + k - 1) (drop 1 s)) 0 (size - 1)) at x y q → Puts (Overs t T n i σ c k) at x y q
-    over_put y q p =
-        where_in _ _ at x y q
-        (subst (λ z. Puts (Copies t T (length (last_of n t) - (1 + k)) i σ (c ∷ take k (drop 1 (last_of n t))) 0 (z - 1)) at x y q) size_is
-        (subst (λ j. Puts (Copies t T (length (last_of n t) - (1 + k)) i σ (c ∷ take j (drop 1 (last_of n t))) 0 (size - 1)) at x y q) (let j : 1 + k - 1 ≡ k = omega arith in j)
-        (subst (λ u. Puts (Copies t T (length u - (1 + k)) i σ (c ∷ take (1 + k - 1) (drop 1 u)) 0 (size - 1)) at x y q) is_s p)))
+    pub over_put : (c : ℕ) → c ≡ C → (y : List ℕ) (q : ℕ) → Puts (Copies t T (length s - (1 + k)) i σ (c ∷ take (1 + k - 1) (drop 1 s)) 0 (size - 1)) at x y q → Puts (Overs t T n i σ C K) at x y q
+    over_put c is_c y q p =
+        let l : 1 + k - 1 ≡ K = omega arith in
+        where_in _ _ at x y q (subst (λ S. Puts S at x y q) (λ z. Copies t T (length (is_s z) - (1 + is_k z)) i σ (is_c z ∷ take (l z) (drop 1 (is_s z))) 0 (size_is z - 1)) p)
 
 -- ── calls ──
 
@@ -148,15 +145,15 @@ module _ (t T : List ℕ) (n p : ℕ) (σ s ds : List ℕ) (at : ℕ) (x : List 
   body_short h = where_none _ _ at x (λ l. omega (arith, l.1, ap length is_row, ap length is_s))
 
   -- the body is read where the tables say that it stands
-  module _ (vs y : List ℕ) (e start b : ℕ) (f : take (length ds) vs ≡ from 0 (length ds) (argument_at σ s)) (g : e ≡ get_or T (212 + 9 * p + 8) 0) (h : start ≡ e) (u : Unfolding t T start p (take (length ds) vs) at x y b) where
-    body_puts : Puts (Unfolds t T start p (take (length ds) vs)) at x y b
-    body_puts = term_puts t T start p (take (length ds) vs) at x y b u
+  module _ (vs y : List ℕ) (e start b : ℕ) (f : vs ≡ from 0 (length ds) (argument_at σ s)) (g : e ≡ get_or T (212 + 9 * p + 8) 0) (h : start ≡ e) (u : Unfolding t T start p vs at x y b) where
+    body_puts : Puts (Unfolds t T start p vs) at x y b
+    body_puts = term_puts t T start p vs at x y b u
 
-    values_is : from 0 (length (row T (212 + 9 * p))) (argument_at σ (last_of n t)) ≡ take (length ds) vs
+    values_is : from 0 (length (row T (212 + 9 * p))) (argument_at σ (last_of n t)) ≡ vs
     values_is = sym (f ∙ (λ j. from 0 (length (is_row j)) (argument_at σ (is_s j))))
 
-    unfolds_is : (ws rest : List ℕ) (w : Body t T n p σ (length (row T (212 + 9 * p))) ws rest) → Unfolds t T start p (take (length ds) vs) ws w.behind
-    unfolds_is ws rest w = subst (λ k. Unfolds t T k p (take (length ds) vs) ws w.behind) (sym (h ∙ g)) (subst (λ v. Unfolds t T (get_or T (212 + 9 * p + 8) 0) p v ws w.behind) values_is w.unfolds)
+    unfolds_is : (ws rest : List ℕ) (w : Body t T n p σ (length (row T (212 + 9 * p))) ws rest) → Unfolds t T start p vs ws w.behind
+    unfolds_is ws rest w = subst (λ k. Unfolds t T k p vs ws w.behind) (sym (h ∙ g)) (subst (λ v. Unfolds t T (get_or T (212 + 9 * p + 8) 0) p v ws w.behind) values_is w.unfolds)
 
     left_is : length s - 2 * length ds ≡ length (last_of n t) - 2 * length (row T (212 + 9 * p))
     left_is = λ j. length (is_s j) - 2 * length (is_row j)

@@ -1,14 +1,13 @@
 -- A case for each way that the values of variables are found. The premises have the form of what the code tells there.
 use mathlib.Core.Path.{◌≡◌, refl, sym, ap, ◌∙◌}
 use mathlib.Core.List.{List, [], ◌∷◌, ◌++◌}
-use Prim.Native.Nat.{ℕ, zero, suc, ◌+◌, ◌*◌, ◌≤◌, ◌<◌}
+use Prim.Native.Nat.{ℕ, zero, suc, ◌+◌, ◌*◌, ◌<◌}
 use native.Mathlib.Numerals.{add-one}
 use native.Mathlib.Omega.{arith}
 use lib.ListN.{length, take, get_or, set}
 use lib.Seq.{take-suc-set}
 use borrow.Author.Tests.{eq-eqb, ne_eqb}
 use Rattle.arguments.specs.Tables.{from}
-use Rattle.arguments.specs.TableLaws.{from_length}
 use Rattle.unfold.specs.Saying.{argument_at}
 
 -- ── arguments ──
@@ -33,12 +32,3 @@ values_none vs f = refl
 pub values_next : (vs : List ℕ) (j v : ℕ) (f : ℕ → ℕ) → j < length vs → take j vs ≡ from 0 j f → v ≡ f j → take (j + 1) (set vs j v) ≡ from 0 (j + 1) f
 values_next vs j v f h e k =
     rw (add-one j) (take-suc-set vs j v h ∙ (λ i. e i ++ (k i ∷ [])) ∙ ap (λ n. from 0 j f ++ (f n ∷ [])) (let z : j ≡ 0 + j = omega arith in z) ∙ sym (from_next 0 j f))
-
-pub values_all : (vs : List ℕ) (j k : ℕ) (f : ℕ → ℕ) → take j vs ≡ from 0 j f → j ≤ k → k ≤ j → take k vs ≡ from 0 k f
-values_all vs j k f e l m = let z : k ≡ j = omega arith in rw z e
-
-pub values_length : (k : ℕ) (vs : List ℕ) (f : ℕ → ℕ) → take k vs ≡ from 0 k f → k ≡ length (take k vs)
-values_length k vs f e = sym (ap length e ∙ from_length 0 k f)
-
-pub values_few : (k : ℕ) (vs : List ℕ) (f : ℕ → ℕ) → take k vs ≡ from 0 k f → k ≤ 8 → length (take k vs) ≤ 8
-values_few k vs f e h = omega (arith, values_length k vs f e)

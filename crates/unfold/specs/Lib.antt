@@ -7,3 +7,4 @@ pub mod Instantiation
 pub mod InstantiationLaws
 pub mod Saying
 pub mod SayingLaws
+pub mod Joints

@@ -10,23 +10,54 @@ ghost use Rattle.eb3.specs.Unfolding.{unfold_main};
 ghost use Rattle.eb3.specs.Spelling.{words};
 ghost use Rattle.eb3.specs.Bytes.{written};
 ghost use Rattle.unfold.specs.Unfolded.{Ready, Unfolding};
+ghost use Rattle.unfold.specs.Joints.{code_of, mask_of};
 ghost use Rattle.unfold.specs.Puts.{Puts};
 ghost use Rattle.unfold.specs.Saying.{Guards, Stars, TwoTerms, Copy, Headed, Copies, Joins, Overs, Enters, Calls};
 
 mod rows;
 mod values;
 
-use arguments::{entry, row_at, size_of, wide32, with};
+use arguments::{entry, row_at, size_of, with};
 use rows::{action, condition, put_head};
-use scan::{first, last, wide};
+use scan::{first, last};
 use values::arguments_of;
 
 // No room, or not what should stand there. Every other answer is below it: 65,536 times the word behind those written, and the number
 // of the words left behind those read.
 const NONE: usize = 4294967296;
 
+// What joins two terms.
+#[derive(Clone, Copy)]
+enum Joint {
+    Sequence,
+    Choice,
+    Parallel,
+}
+
+impl Joint {
+    fn code(self) -> u16
+        ensures { result ≡ code_of self }
+    {
+        match self {
+            Joint::Sequence => 22,
+            Joint::Choice => 23,
+            Joint::Parallel => 25,
+        }
+    }
+
+    // How many words of a mask stand behind the code.
+    fn mask_words(self) -> usize
+        ensures { result ≡ mask_of self }
+    {
+        match self {
+            Joint::Sequence | Joint::Choice => 0,
+            Joint::Parallel => 4,
+        }
+    }
+}
+
 // Two terms in a row.
-#[cycle(body_call_copies_copy_guarded_headed_copy_joined_over_starred_two_terms_unfold)]
+#[cycle(unfolding_terms)]
 fn two_terms(
     t: &[u16],
     tb: &[u32],
@@ -51,35 +82,35 @@ fn two_terms(
     unfold(t, tb, vars, left, i, out, a / 65536)
 }
 
-// A sequence, a choice or a parallel: its code c, k words of a mask, and two terms.
-#[cycle(body_call_copies_copy_guarded_headed_copy_joined_over_starred_two_terms_unfold)]
+// A sequence, a choice or a parallel: its code, the words of its mask, and two terms.
+#[cycle(unfolding_terms)]
 fn joined(
     t: &[u16],
     tb: &[u32],
     vars: &[u16],
     n: usize,
     i: usize,
-    c: u16,
-    k: usize,
+    joint: Joint,
     out: &mut [u8],
     at: usize,
 ) -> usize
     requires { (length t.now ≤ 65535) × (length vars.now ≤ 8) × (i ≤ 32) × (at ≤ 65535) × (2 * at ≤ length out.old) }
-    ensures { Puts (Joins t.now tb.now n i vars.now c k) at out.old out.new result }
+    ensures { Puts (Joins t.now tb.now n i vars.now (code_of joint) (mask_of joint)) at out.old out.new result }
 {
     let s = last(t, n);
+    let k = joint.mask_words();
     if s.len() < k {
         return NONE;
     }
     let m = s.len() - k;
-    let a = put_head(c, &s[..k], m, out, at);
+    let a = put_head(joint.code(), &s[..k], m, out, at);
     if NONE <= a {
         return NONE;
     }
     two_terms(t, tb, vars, m, i, out, a / 65536)
 }
 
-#[cycle(body_call_copies_copy_guarded_headed_copy_joined_over_starred_two_terms_unfold)]
+#[cycle(unfolding_terms)]
 fn starred(
     t: &[u16],
     tb: &[u32],
@@ -99,7 +130,7 @@ fn starred(
     unfold(t, tb, vars, n, i, out, a / 65536)
 }
 
-#[cycle(body_call_copies_copy_guarded_headed_copy_joined_over_starred_two_terms_unfold)]
+#[cycle(unfolding_terms)]
 fn guarded(
     t: &[u16],
     tb: &[u32],
@@ -120,7 +151,7 @@ fn guarded(
 }
 
 // The copy of a quantifier's term for element x.
-#[cycle(body_call_copies_copy_guarded_headed_copy_joined_over_starred_two_terms_unfold)]
+#[cycle(unfolding_terms)]
 fn copy(
     t: &[u16],
     tb: &[u32],
@@ -140,7 +171,7 @@ fn copy(
 }
 
 // The same with its head before it.
-#[cycle(body_call_copies_copy_guarded_headed_copy_joined_over_starred_two_terms_unfold)]
+#[cycle(unfolding_terms)]
 fn headed_copy(
     t: &[u16],
     tb: &[u32],
@@ -164,7 +195,7 @@ fn headed_copy(
 }
 
 // The copies for each element of a domain of this size, nested to the right: each but the last has a head.
-#[cycle(body_call_copies_copy_guarded_headed_copy_joined_over_starred_two_terms_unfold)]
+#[cycle(unfolding_terms)]
 fn copies(
     t: &[u16],
     tb: &[u32],
@@ -180,52 +211,58 @@ fn copies(
     requires { (length t.now ≤ 65535) × (length vars.now < 8) × (i ≤ 32) × (size ≤ 64) × (n ≤ 65535) × (at ≤ 65535) × (2 * at ≤ length out.old) }
     ensures { Puts (Copies t.now tb.now n i vars.now (c ∷ ms.now) 0 (size - 1)) at out.old out.new result }
 {
-    let mut x: u16 = 0;
+    let most = (size.max(1) - 1) as u16;
     let mut w = at;
-    while wide(x) + 1 < size {
+    for x in 0..most {
         let a = headed_copy(t, tb, vars, n, i, x, c, ms, out, w);
         if NONE <= a {
             return NONE;
         }
         w = a / 65536;
-        x = x + 1;
     }
-    copy(t, tb, vars, n, i, x, out, w)
+    copy(t, tb, vars, n, i, most, out, w)
 }
 
-// A quantifier: a domain, k words of a mask, and a term; c is the code of what joins the copies.
-#[cycle(body_call_copies_copy_guarded_headed_copy_joined_over_starred_two_terms_unfold)]
+// A quantifier: a domain, the mask of what joins the copies, and a term.
+#[cycle(unfolding_terms)]
 fn over(
     t: &[u16],
     tb: &[u32],
     vars: &[u16],
     n: usize,
     i: usize,
-    c: u16,
-    k: usize,
+    joint: Joint,
     out: &mut [u8],
     at: usize,
 ) -> usize
-    requires { (length t.now ≤ 65535) × (length vars.now ≤ 8) × (i ≤ 32) × (k ≤ 4) × (at ≤ 65535) × (2 * at ≤ length out.old) }
-    ensures { Puts (Overs t.now tb.now n i vars.now c k) at out.old out.new result }
+    requires { (length t.now ≤ 65535) × (length vars.now ≤ 8) × (i ≤ 32) × (at ≤ 65535) × (2 * at ≤ length out.old) }
+    ensures { Puts (Overs t.now tb.now n i vars.now (code_of joint) (mask_of joint)) at out.old out.new result }
 {
     let s = last(t, n);
-    let m = 1 + k;
-    if s.len() < m {
-        return NONE;
-    }
-    if 8 <= vars.len() {
+    let m = 1 + joint.mask_words();
+    if s.len() < m || 8 <= vars.len() {
         return NONE;
     }
     let size = size_of(tb, first(s));
     if 64 < size {
         return NONE;
     }
-    copies(t, tb, vars, s.len() - m, i, size, c, &s[1..m], out, at)
+    copies(
+        t,
+        tb,
+        vars,
+        s.len() - m,
+        i,
+        size,
+        joint.code(),
+        &s[1..m],
+        out,
+        at,
+    )
 }
 
 // The body of process p; the words of its arguments are the next.
-#[cycle(body_call_copies_copy_guarded_headed_copy_joined_over_starred_two_terms_unfold)]
+#[cycle(unfolding_terms)]
 fn body(t: &[u16], tb: &[u32], vars: &[u16], n: usize, p: usize, out: &mut [u8], at: usize) -> usize
     requires { (length t.now ≤ 65535) × (p ≤ 32) × (at ≤ 65535) × (2 * at ≤ length out.old) }
     ensures { Puts (Enters t.now tb.now n p vars.now) at out.old out.new result }
@@ -239,9 +276,11 @@ fn body(t: &[u16], tb: &[u32], vars: &[u16], n: usize, p: usize, out: &mut [u8],
     if s.len() < m {
         return NONE;
     }
-    let values = arguments_of(s, vars, k);
-    let start = wide32(entry(tb, 212 + 9 * p + 8));
-    let b = unfold(t, tb, &values[..k], start, p, out, at);
+    let mut places = [0; 8];
+    let values = &mut places[..k];
+    arguments_of(s, vars, values);
+    let start = entry(tb, 212 + 9 * p + 8) as usize;
+    let b = unfold(t, tb, values, start, p, out, at);
     if NONE <= b {
         return NONE;
     }
@@ -249,13 +288,13 @@ fn body(t: &[u16], tb: &[u32], vars: &[u16], n: usize, p: usize, out: &mut [u8],
 }
 
 // A call, which names a lower process.
-#[cycle(body_call_copies_copy_guarded_headed_copy_joined_over_starred_two_terms_unfold)]
+#[cycle(unfolding_terms)]
 fn call(t: &[u16], tb: &[u32], vars: &[u16], n: usize, i: usize, out: &mut [u8], at: usize) -> usize
     requires { (length t.now ≤ 65535) × (i ≤ 32) × (at ≤ 65535) × (2 * at ≤ length out.old) }
     ensures { Puts (Calls t.now tb.now n i vars.now) at out.old out.new result }
 {
     let s = last(t, n);
-    if s.len() == 0 {
+    if s.is_empty() {
         return NONE;
     }
     let p = first(s);
@@ -266,7 +305,8 @@ fn call(t: &[u16], tb: &[u32], vars: &[u16], n: usize, i: usize, out: &mut [u8],
 }
 
 // The term of process i where n words are left, the values of its variables given.
-#[cycle(body_call_copies_copy_guarded_headed_copy_joined_over_starred_two_terms_unfold)]
+#[tactic(auto, using(crate::proofs::RowCases::last_size))]
+#[cycle(unfolding_terms)]
 fn unfold(
     t: &[u16],
     tb: &[u32],
@@ -280,21 +320,20 @@ fn unfold(
     ensures { Unfolding t.now tb.now n i vars.now at out.old out.new result }
 {
     let s = last(t, n);
-    if s.len() == 0 {
+    if s.is_empty() {
         return NONE;
     }
-    let c = s[0];
     let m = s.len() - 1;
-    match c {
+    match s[0] {
         20 => put_head(20, &t[..0], m, out, at),
         21 => action(t, tb, vars, m, out, at),
-        22 => joined(t, tb, vars, m, i, 22, 0, out, at),
-        23 => joined(t, tb, vars, m, i, 23, 0, out, at),
+        22 => joined(t, tb, vars, m, i, Joint::Sequence, out, at),
+        23 => joined(t, tb, vars, m, i, Joint::Choice, out, at),
         24 => starred(t, tb, vars, m, i, out, at),
-        25 => joined(t, tb, vars, m, i, 25, 4, out, at),
+        25 => joined(t, tb, vars, m, i, Joint::Parallel, out, at),
         26 => guarded(t, tb, vars, m, i, out, at),
-        27 => over(t, tb, vars, m, i, 23, 0, out, at),
-        28 => over(t, tb, vars, m, i, 25, 4, out, at),
+        27 => over(t, tb, vars, m, i, Joint::Choice, out, at),
+        28 => over(t, tb, vars, m, i, Joint::Parallel, out, at),
         29 => call(t, tb, vars, m, i, out, at),
         _ => NONE,
     }
@@ -305,14 +344,11 @@ pub fn unfold_main(t: &[u16], tb: &[u32], out: &mut [u8]) -> usize
     requires { length t.now ≤ 65535 }
     ensures { (length out.new ≡ length out.old) × ((R : RuleSet) → Ready t.now tb.now R → length (words 1 (unfold_main R)) ≤ 65535 → 2 * length (words 1 (unfold_main R)) ≤ length out.old → (result ≡ length (words 1 (unfold_main R))) × (out.new ≡ written (words 1 (unfold_main R)) out.old)) }
 {
-    let count = wide32(entry(tb, 211));
-    if count == 0 {
-        return 0;
-    }
-    if 32 < count {
+    let count = entry(tb, 211) as usize;
+    if count == 0 || 32 < count {
         return 0;
     }
     let p = count - 1;
-    let start = wide32(entry(tb, 212 + 9 * p + 8));
+    let start = entry(tb, 212 + 9 * p + 8) as usize;
     unfold(t, tb, &t[..0], start, p, out, 0) / 65536
 }

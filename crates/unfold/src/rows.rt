@@ -16,18 +16,16 @@ fn put(w: u16, out: &mut [u8], at: usize)
     requires { (at ≤ 65535) × (2 * at + 2 ≤ length out.old) }
     ensures { out.new ≡ written_from at (w ∷ []) out.old }
 {
-    out[2 * at] = (w % 256) as u8;
-    out[2 * at + 1] = (w / 256 % 256) as u8;
+    let k = 2 * at;
+    out[k..k + 2].copy_from_slice(&w.to_le_bytes());
 }
 
 // Whether there is room up to word `end`; no unfolding within the limits has more than 65,535 words.
+#[tactic(auto, unfolding(crate::specs::Unfolded::room_to))]
 fn has_room(out: &[u8], end: usize) -> bool
     ensures { result ≡ room_to end out.now }
 {
-    if 65535 < end {
-        return false;
-    }
-    end <= out.len() / 2
+    end <= 65535 && end <= out.len() / 2
 }
 
 // A code and the words that go with it; n words are left behind those read.
@@ -40,40 +38,32 @@ pub fn put_head(c: u16, ms: &[u16], n: usize, out: &mut [u8], at: usize) -> usiz
         return NONE;
     }
     put(c, out, at);
-    let mut i = 0;
-    while i < ms.len() {
-        put(ms[i], out, at + 1 + i);
-        i = i + 1;
+    for (i, w) in ms.iter().enumerate() {
+        put(*w, out, at + 1 + i);
     }
     65536 * end + n
 }
 
 // How many words the front of an expression has.
+#[tactic(auto, unfolding(crate::specs::Instantiation::front_width))]
 fn width_of(c: usize) -> usize
     ensures { (result ≡ front_width c) × (1 ≤ result) × (result ≤ 2) }
 {
     match c {
-        1 => 2,
-        2 => 2,
-        6 => 2,
-        7 => 2,
+        1 | 2 | 6 | 7 => 2,
         _ => 1,
     }
 }
 
 // How many expressions stand behind its front.
+#[tactic(auto, unfolding(crate::specs::Instantiation::operands))]
 fn operands_of(c: usize) -> usize
     ensures { (result ≡ operands c) × (result ≤ 3) }
 {
     match c {
-        0 => 0,
-        1 => 0,
-        2 => 0,
-        13 => 0,
+        0..=2 | 13 => 0,
+        6 | 7 | 12 => 1,
         5 => 3,
-        6 => 1,
-        7 => 1,
-        12 => 1,
         _ => 2,
     }
 }
@@ -125,7 +115,7 @@ pub fn action(t: &[u16], tb: &[u32], vars: &[u16], n: usize, out: &mut [u8], at:
     ensures { Puts (Performs t.now tb.now n vars.now) at out.old out.new result }
 {
     let s = last(t, n);
-    if s.len() == 0 {
+    if s.is_empty() {
         return NONE;
     }
     let m = s.len() - 1;

@@ -30,3 +30,8 @@ parallel_by none l r = record {
 unfoldable pub stars_of : ℕ → Measure → Measure
 stars_of zero m = m
 stars_of (suc n) m = star_of (sat cap) (stars_of n m)
+
+-- A measure after n steps.
+unfoldable pub steps : (Measure → Measure) → ℕ → Measure → Measure
+steps f zero m = m
+steps f (suc n) m = f (steps f n m)

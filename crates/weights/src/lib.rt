@@ -4,8 +4,8 @@
 
 ghost use Rattle.std.specs.Prelude.{◌≡◌, Bool, ℕ, ◌+◌, ◌*◌, ◌≤◌, ◌<◌, max, min};
 ghost use Rattle.eb3.specs.Unfolding.{right_nest};
-ghost use Rattle.eb3.specs.Measures.{sat, leaf, nothing, sequence_of, choice_of, star_of, parallel_breadth_of, guard_of};
-ghost use Rattle.weights.specs.Weighing.{measure, cap, reported, parallel_by, stars_of};
+ghost use Rattle.eb3.specs.Measures.{Measure, sat, leaf, nothing, sequence_of, choice_of, star_of, parallel_breadth_of, guard_of};
+ghost use Rattle.weights.specs.Weighing.{measure, cap, reported, parallel_by, stars_of, steps};
 
 #[derive(Clone, Copy)]
 pub struct Weight {
@@ -48,25 +48,11 @@ pub fn narrow(x: usize) -> u64
     x as u64
 }
 
-fn wide(x: u32) -> u64
-    ensures { (result ≡ x) × (result < 4294967296) }
-{
-    x as u64
-}
-
 fn cut(n: u64) -> u32
     ensures { result ≡ sat cap n }
 {
-    if n <= 65536 {
-        return n as u32;
-    }
-    65536
-}
-
-fn most(a: u32, b: u32) -> u32
-    ensures { result ≡ max a b }
-{
-    if a <= b { b } else { a }
+    // Stays: as n.min(65536) it is slower, a Count of 900 parallels by a tenth (61.7 microseconds, and not 56.1).
+    if n <= 65536 { n as u32 } else { 65536 }
 }
 
 // k + a + b, cut off at each step.
@@ -74,7 +60,7 @@ fn sum(k: u64, a: u32, b: u32) -> u32
     requires { k ≤ 65536 }
     ensures { result ≡ sat cap (sat cap (k + a) + b) }
 {
-    cut(wide(cut(k + wide(a))) + wide(b))
+    cut(cut(k + a as u64) as u64 + b as u64)
 }
 
 // A term of n words with one move.
@@ -104,8 +90,8 @@ pub fn sequence(a: Weight, b: Weight) -> Weight
 {
     Weight {
         size: sum(1, a.size, b.size),
-        reach: most(sum(1, a.reach, b.size), b.reach),
-        breadth: most(a.breadth, b.breadth),
+        reach: sum(1, a.reach, b.size).max(b.reach),
+        breadth: a.breadth.max(b.breadth),
     }
 }
 
@@ -115,8 +101,8 @@ pub fn choice(a: Weight, b: Weight) -> Weight
     let size = sum(1, a.size, b.size);
     Weight {
         size,
-        reach: most(size, most(a.reach, b.reach)),
-        breadth: cut(wide(a.breadth) + wide(b.breadth)),
+        reach: size.max(a.reach).max(b.reach),
+        breadth: cut(a.breadth as u64 + b.breadth as u64),
     }
 }
 
@@ -124,9 +110,9 @@ pub fn star(a: Weight) -> Weight
     ensures { measure result ≡ star_of (sat cap) (measure a) }
 {
     Weight {
-        size: cut(1 + wide(a.size)),
+        size: cut(1 + a.size as u64),
         reach: sum(2, a.reach, a.size),
-        breadth: cut(1 + wide(a.breadth)),
+        breadth: cut(1 + a.breadth as u64),
     }
 }
 
@@ -134,11 +120,13 @@ pub fn star(a: Weight) -> Weight
 fn ways(zero: bool, l: u32, r: u32) -> u32
     ensures { result ≡ parallel_breadth_of (sat cap) zero l r }
 {
-    let apart = cut(wide(l) + wide(r));
+    let apart = cut(l as u64 + r as u64).max(1);
     if zero {
-        return most(1, apart);
+        return apart;
     }
-    most(1, cut(wide(apart) + wide(cut(wide(l) * wide(r)))))
+    // Where apart was raised to 1, both sides have no way, and so none jointly.
+    let joint = cut(l as u64 * r as u64);
+    cut(apart as u64 + joint as u64)
 }
 
 pub fn parallel(zero: bool, a: Weight, b: Weight) -> Weight
@@ -156,12 +144,24 @@ pub fn guard(n: u64, a: Weight) -> Weight
     requires { n ≤ 65535 }
     ensures { measure result ≡ guard_of (sat cap) n (measure a) }
 {
-    let size = cut(wide(cut(1 + n)) + wide(a.size));
+    let size = cut(cut(1 + n) as u64 + a.size as u64);
     Weight {
         size,
-        reach: most(size, a.reach),
+        reach: size.max(a.reach),
         breadth: a.breadth,
     }
+}
+
+// A weight after n steps, each from the weight before it.
+fn repeated<F: Fn(Weight) -> Weight>(n: usize, from: Weight, step: F) -> Weight
+    requires { F.IsAlwaysCallable step }
+    ensures { (f : Measure → Measure) → ((w v : Weight) → F.post step w v → measure v ≡ f (measure w)) → measure result ≡ steps f n (measure from) }
+{
+    let mut w = from;
+    for _ in 0..n {
+        w = step(w);
+    }
+    w
 }
 
 // n copies in a choice, nested to the right.
@@ -171,13 +171,7 @@ pub fn choices(n: usize, a: Weight) -> Weight
     if n == 0 {
         return empty();
     }
-    let mut w = a;
-    let mut made = 1;
-    while made < n {
-        w = choice(a, w);
-        made = made + 1;
-    }
-    w
+    repeated(n - 1, a, |w| choice(a, w))
 }
 
 // n copies in parallel, nested to the right.
@@ -187,24 +181,12 @@ pub fn parallels(n: usize, zero: bool, a: Weight) -> Weight
     if n == 0 {
         return empty();
     }
-    let mut w = a;
-    let mut i = 1;
-    while i < n {
-        w = parallel(zero, a, w);
-        i = i + 1;
-    }
-    w
+    repeated(n - 1, a, |w| parallel(zero, a, w))
 }
 
 // n stars, one around the other.
 pub fn stars(n: usize, a: Weight) -> Weight
     ensures { measure result ≡ stars_of n (measure a) }
 {
-    let mut w = a;
-    let mut laid = 0;
-    while laid < n {
-        w = star(w);
-        laid = laid + 1;
-    }
-    w
+    repeated(n, a, star)
 }

@@ -9,12 +9,7 @@ ghost use Rattle.writing.specs.Wrote.{Wrote};
 pub fn put_word(w: u16, out: &mut [u8]) -> bool
     ensures { Wrote (w ∷ []) out.old out.new result }
 {
-    if out.len() < 2 {
-        return false;
-    }
-    out[0] = (w % 256) as u8;
-    out[1] = (w / 256 % 256) as u8;
-    true
+    put_words(&[w], out)
 }
 
 // Words at the front, if they fit.
@@ -24,12 +19,10 @@ pub fn put_words(src: &[u16], out: &mut [u8]) -> bool
     if out.len() / 2 < src.len() {
         return false;
     }
-    let mut i = 0;
-    while i < src.len() {
-        let w = src[i];
-        out[2 * i] = (w % 256) as u8;
-        out[2 * i + 1] = (w / 256 % 256) as u8;
-        i = i + 1;
+    for (i, w) in src.iter().enumerate() {
+        let [low, high] = w.to_le_bytes();
+        out[2 * i] = low;
+        out[2 * i + 1] = high;
     }
     true
 }

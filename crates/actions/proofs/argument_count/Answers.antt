@@ -7,5 +7,5 @@ returns-then-q-eq0 c = search cases
 pub returns-then-q-lt65 : goal.returns-then-q-lt65
 returns-then-q-lt65 c = search cases
 
-pub returns : goal.returns
-returns c = search cases
+pub returns-else-q-lt65 : goal.returns-else-q-lt65
+returns-else-q-lt65 c = search cases

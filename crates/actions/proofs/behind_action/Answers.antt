@@ -1,8 +1,14 @@
-use Rattle.actions.proofs.Cases.{behind_some, behind_none}
+use native.Mathlib.Omega.{arith}
+use mathlib.Core.Path.{◌≡◌, refl}
+use Prim.Native.Nat.{◌+◌, ◌*◌, ◌-◌}
+use lib.ListN.{length}
+use Rattle.actions.proofs.Cases.{behind_left}
 use Rattle.actions.proofs.behind_action.Goals as goal
 
 pub returns-then-n-t : goal.returns-then-n-t
-returns-then-n-t c = behind_some _ _ c.arguments.ensures.1 c.if-n-t.true
+returns-then-n-t c = behind_left _ _ _ c.arguments.ensures.1 refl
 
-pub returns : goal.returns
-returns c = behind_none _ _ c.arguments.ensures.1 c.if-n-t.false
+pub returns-else-n-t : goal.returns-else-n-t
+returns-else-n-t c =
+    let e : 0 ≡ length c.args.t.now - (1 + 2 * c.arguments.result) = omega arith in
+    behind_left _ _ _ c.arguments.ensures.1 e

@@ -1,8 +1,7 @@
-use Rattle.actions.proofs.Cases.{cases, word_in_mask}
+use mathlib.Core.Path.{◌∙◌}
+use native.Mathlib.Omega.{arith}
+use Rattle.actions.proofs.Cases.{word_in_mask}
 use Rattle.actions.proofs.mask_word.Goals as goal
 
-pub returns-then-i-d : goal.returns-then-i-d
-returns-then-i-d c = word_in_mask _ _ _ c.wide64.ensures.0 c.wide64.ensures.1
-
 pub returns : goal.returns
-returns c = search cases
+returns c = word_in_mask _ _ _ (c.from.ensures ∙ c.word.ensures) (omega arith)

@@ -1,18 +1,20 @@
 use native.Mathlib.Omega.{arith}
+use mathlib.Core.Path.{refl}
+use Rattle.scan.specs.ReadingLaws.{handed_err}
 use Rattle.admission.proofs.Cases.{words_refused, words_few, words_long, words_behind, words_judged}
 use Rattle.admission.proofs.admit_words.Goals as goal
 
-pub returns-then-left-ge254 : goal.returns-then-left-ge254
-returns-then-left-ge254 c = record { answer = words_long c.args.t.now _ c.read.ensures.answer _ _ _ c.in-Found.is (omega (arith, c.if-left-ge254.true)); described = c.read.ensures.directory }
+pub returns-in_err-r : goal.returns-in_err-r
+returns-in_err-r c = rw (handed_err _ _ c.from_residual.ensures) (record { answer = words_refused c.args.t.now _ c.read.ensures.answer _ c.in_err-r.was; described = c.read.ensures.directory })
+
+pub returns-then-r-ge254 : goal.returns-then-r-ge254
+returns-then-r-ge254 c = record { answer = words_long c.args.t.now _ c.read.ensures.answer _ _ _ c.in_ok-r.was (omega (arith, c.if-r-ge254.true)); described = c.read.ensures.directory }
 
 pub returns-then-not-zeros : goal.returns-then-not-zeros
-returns-then-not-zeros c = record { answer = words_behind c.args.t.now _ c.read.ensures.answer _ _ _ c.in-Found.is _ c.last.ensures _ c.zeros.ensures c.if-not-zeros.true-raw; described = c.read.ensures.directory }
+returns-then-not-zeros c = record { answer = words_behind c.args.t.now _ c.read.ensures.answer _ _ _ c.in_ok-r.was _ c.last.ensures _ c.zeros.ensures c.if-not-zeros.true-raw; described = c.read.ensures.directory }
 
-pub narrow32-requires : goal.narrow32-requires
-narrow32-requires c = words_few c.args.t.now _ c.read.ensures.answer _ _ _ c.in-Found.is
+pub overflow_cast-r : goal.overflow_cast-r
+overflow_cast-r c = omega (arith, words_few c.args.t.now _ c.read.ensures.answer _ _ _ c.in_ok-r.was)
 
-pub returns-else-not-zeros : goal.returns-else-not-zeros
-returns-else-not-zeros c = record { answer = words_judged c.args.t.now _ c.read.ensures.answer _ _ _ c.in-Found.is _ c.last.ensures _ c.zeros.ensures _ _ (omega (arith, c.if-left-ge254.false)) c.if-not-zeros.false-raw c.narrow32.ensures c.judge.ensures; described = c.read.ensures.directory }
-
-pub returns-in-Refused : goal.returns-in-Refused
-returns-in-Refused c = record { answer = words_refused c.args.t.now _ c.read.ensures.answer _ c.in-Refused.is; described = c.read.ensures.directory }
+pub returns : goal.returns
+returns c = record { answer = words_judged c.args.t.now _ c.read.ensures.answer _ _ _ c.in_ok-r.was _ c.last.ensures _ c.zeros.ensures _ _ (omega (arith, c.if-r-ge254.false)) c.if-not-zeros.false-raw refl c.judge.ensures; described = c.read.ensures.directory }

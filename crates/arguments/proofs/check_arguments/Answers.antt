@@ -1,18 +1,23 @@
+use mathlib.Core.Path.{◌≡◌}
+use Rattle.std.specs.Prelude.{Err}
 use native.Mathlib.Omega.{arith}
+use Rattle.scan.specs.Checking.{checked}
+use Rattle.eb3.specs.RuleReading.{arguments_of}
+use Rattle.arguments.specs.Tables.{declared}
 use Rattle.arguments.proofs.Rounds.{arguments_start, argument_refused, argument_passed, arguments_all}
 use Rattle.arguments.proofs.check_arguments.Goals as goal
 
-pub loop-i-init : goal.loop-i-init
-loop-i-init c = search arguments_start
+pub loop-d-init : goal.loop-d-init
+loop-d-init c = search arguments_start
 
-pub loop-i-smaller : goal.loop-i-smaller
-loop-i-smaller c = omega arith
+pub loop-d-preserved : goal.loop-d-preserved
+loop-d-preserved c = let e = c.in_ok-n.was in search argument_passed
 
-pub loop-i-preserved : goal.loop-i-preserved
-loop-i-preserved c = search argument_passed
-
-pub returns-in-Refused : goal.returns-in-Refused
-returns-in-Refused c = search argument_refused
+pub returns-in_err-n : goal.returns-in_err-n
+returns-in_err-n c =
+    let e = c.in_err-n.was in
+    let h : Err c.in_err-n.field-0.0 ≡ checked (arguments_of (declared c.args.tb.now) c.args.vars.now c.args.ds.now c.args.t.now) = search argument_refused in
+    grind arith
 
 pub returns : goal.returns
 returns c = search arguments_all

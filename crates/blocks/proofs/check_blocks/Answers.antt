@@ -1,18 +1,17 @@
-use mathlib.Core.Path.{◌≡◌, ap}
-use Prim.Native.Nat.{◌-◌}
 use native.Mathlib.Omega.{arith}
-use Rattle.eb3.specs.Blocks.{blocks_right}
+use Rattle.blocks.proofs.Chunks.{chunk_at}
 use Rattle.blocks.proofs.Right.{blocks_wrong, blocks_next, blocks_end}
 use Rattle.blocks.proofs.check_blocks.Goals as goal
 
-pub loop-i-init : goal.loop-i-init
-loop-i-init c = let e : c.args.n ≡ c.args.n - 0 = omega arith in (omega arith, omega arith, ap (λ m. blocks_right 0 m c.args.rules.now) e)
-
 pub returns-then-not-check_block : goal.returns-then-not-check_block
-returns-then-not-check_block c = blocks_wrong _ _ _ _ c.loop-i.invariant.2 c.loop-i-test.true c.loop-i.invariant.1 c.check_block.ensures c.if-not-check_block.true-raw
+returns-then-not-check_block c =
+    let cut = c.as_chunks.ensures in
+    blocks_wrong _ c.args.rules.now _ _ c.loop-i.invariant (omega arith) (chunk_at 512 _ _ _ _ _ cut.front cut.front_len c.loop-i-test.true) c.check_block.ensures c.if-not-check_block.true
 
 pub loop-i-preserved : goal.loop-i-preserved
-loop-i-preserved c = (omega arith, omega arith, blocks_next _ _ _ _ c.loop-i.invariant.2 c.loop-i-test.true c.loop-i.invariant.1 c.check_block.ensures c.if-not-check_block.false-raw)
+loop-i-preserved c =
+    let cut = c.as_chunks.ensures in
+    blocks_next _ c.args.rules.now _ _ c.loop-i.invariant (omega arith) (chunk_at 512 _ _ _ _ _ cut.front cut.front_len c.loop-i-test.true) c.check_block.ensures c.if-not-check_block.false
 
 pub returns : goal.returns
-returns c = blocks_end _ _ _ _ c.loop-i.invariant.2 c.loop-i-test.false
+returns c = blocks_end _ c.args.rules.now _ _ c.loop-i.invariant (omega arith)

@@ -1,5 +1,4 @@
 -- Each turn of the loop is one function's (`fill_next`); after the last all cells are new (`fill_end`).
-use Prim.Native.Nat.{◌-◌, ◌≤◌}
 use mathlib.Core.Path.{◌≡◌}
 use lib.ListN.{length}
 use mathlib.Core.Option.{Option}
@@ -13,7 +12,4 @@ use Rattle.cells.proofs.fill.Given as goal
 
 -- Each turn of the loop is one function's (`fill_next`); after the last all cells are new (`fill_end`).
 abbrev pub invariant-loop-f : goal.invariant-loop-f
-invariant-loop-f l = (l.f ≤ l.n) × (length l.m ≡ length l.initial.m) × ((A : Attributes) (o : Option VisibleAction) (b : Reading) → Filling A o b l.t l.dir l.initial.m l.w l.j l.n → Partly A o b l.initial.m l.m (offset A l.f))
-
-abbrev pub decreases-loop-f : goal.decreases-loop-f
-decreases-loop-f l = l.n - l.f
+invariant-loop-f l = (length l.m ≡ length l.initial.m) × ((A : Attributes) (o : Option VisibleAction) (b : Reading) → Filling A o b l.functions.words.now l.functions.directory.now l.initial.m l.functions.width l.j l.functions.count → Partly A o b l.initial.m l.m (offset A l.f))

@@ -1,13 +1,10 @@
 -- Each turn of the loop makes one word more ready (`readying_next`).
 use lib.ListN.{length}
-use Prim.Native.Nat.{◌-◌, ◌≤◌}
+use Prim.Native.Nat.{◌≤◌}
 use mathlib.Core.Path.{◌≡◌}
 use Rattle.cells.specs.PreparingLaws.{Readying}
 use Rattle.cells.proofs.lay.Given as goal
 
 -- Each turn of the loop makes one word more ready (`readying_next`).
 abbrev pub invariant-loop-i : goal.invariant-loop-i
-invariant-loop-i l = (l.i ≤ 36) × (36 ≤ length l.initial.m) × (length l.m ≡ length l.initial.m) × Readying l.dir l.initial.m l.m l.w l.n l.c l.i
-
-abbrev pub decreases-loop-i : goal.decreases-loop-i
-decreases-loop-i l = 36 - l.i
+invariant-loop-i l = (36 ≤ length l.initial.m) × (length l.m ≡ length l.initial.m) × Readying l.functions.directory.now l.initial.m l.m l.functions.width l.functions.count l.functions.cells l.i

@@ -1,7 +1,8 @@
 -- The words that the memory has, and zeros behind them (`loading_zeros`), as far as there is room (`loading_end`).
+use Rattle.std.proofs.Common.{◌+◌}
 use native.Mathlib.Omega.{arith}
-use Rattle.cells.specs.PreparingLaws.{loading_zeros, loading_end}
+use Rattle.cells.specs.PreparingLaws.{cleared_part, loading_zeros, loading_end}
 use Rattle.cells.proofs.load.Goals as goal
 
 pub returns : goal.returns
-returns c = loading_end _ _ _ _ c.least-n.result _ c.least-n.ensures.0 (λ h. let r = c.least-n.ensures.2 h in omega arith) (loading_zeros _ _ _ _ _ c.least-k.result _ c.least-k.ensures.0 c.least-k.ensures.2 c.load_words.ensures c.clear.ensures)
+returns c = let a = c.args in loading_end _ _ _ _ c.min-n.result _ (omega arith) (λ h. omega arith) (loading_zeros _ _ _ c.load_words.new.m _ c.min-k.result _ (omega arith) (λ h. omega arith) c.load_words.ensures (cleared_part c.load_words.new.m c.fill.new.self (a.at + c.min-k.result) (a.at + c.min-n.result) (omega arith) (omega arith) (c.fill.ensures.after (λ y e. e))))

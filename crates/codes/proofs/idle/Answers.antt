@@ -1,4 +1,4 @@
-use mathlib.Core.Path.{sym, ◌∙◌}
+use mathlib.Core.Path.{refl, sym, ◌∙◌}
 use Prim.Native.Nat.{◌+◌}
 use native.Mathlib.Omega.{arith}
 use Rattle.scan.specs.Laws.{part}
@@ -12,16 +12,13 @@ pub returns-then-s-at : goal.returns-then-s-at
 returns-then-s-at c = idle_end c.args.shape c.args.s.now c.loop-due.at c.loop-due.due 0 c.loop-due-test.true c.loop-due.invariant.2 c.if-s-at.true
 
 pub returns-then-w-gt30 : goal.returns-then-w-gt30
-returns-then-w-gt30 c = idle_unknown c.args.shape c.args.s.now c.loop-due.at c.loop-due.due c.wide-w.result c.loop-due-test.true c.loop-due.invariant.2 c.wide-w.ensures.0 c.if-w-gt30.true
+returns-then-w-gt30 c = idle_unknown c.args.shape c.args.s.now c.loop-due.at c.loop-due.due _ c.loop-due-test.true c.loop-due.invariant.2 refl c.if-w-gt30.true
 
 pub returns-then-moving : goal.returns-then-moving
-returns-then-moving c = idle_stops c.args.shape c.args.s.now c.loop-due.at c.loop-due.due c.wide-w.result c.loop-due-test.true c.loop-due.invariant.2 c.wide-w.ensures.0 (sym c.moving.ensures ∙ c.if-moving.true)
-
-pub loop-due-smaller : goal.loop-due-smaller
-loop-due-smaller c = omega arith
+returns-then-moving c = idle_stops c.args.shape c.args.s.now c.loop-due.at c.loop-due.due _ c.loop-due-test.true c.loop-due.invariant.2 refl (sym c.moving.ensures ∙ c.if-moving.true)
 
 pub loop-due-preserved : goal.loop-due-preserved
-loop-due-preserved c = (omega arith, omega arith, idle_next c.args.shape c.args.s.now c.loop-due.at c.loop-due.due c.wide-w.result c.loop-due-test.true c.loop-due.invariant.2 c.words_after.result c.operands-more.result _ c.wide-w.ensures.0 (sym c.moving.ensures ∙ c.if-moving.false) c.words_after.ensures.0 c.operands-more.ensures.0 (part (c.loop-due.at + 1) c.args.s.now))
+loop-due-preserved c = (omega arith, omega arith, idle_next c.args.shape c.args.s.now c.loop-due.at c.loop-due.due _ c.loop-due-test.true c.loop-due.invariant.2 c.words_after.result c.operands.result _ refl (sym c.moving.ensures ∙ c.if-moving.false) c.words_after.ensures.0 c.operands.ensures.0 (part (c.loop-due.at + 1) c.args.s.now))
 
 pub returns : goal.returns
 returns c = idle_all c.args.shape c.args.s.now c.loop-due.at c.loop-due.due c.loop-due-test.false c.loop-due.invariant.2

@@ -1,4 +1,5 @@
-use Rattle.codes.specs.Laws.Skipping.{skip_start, skip_end, skip_unknown, skip_next, skip_left, skip_beyond}
+use mathlib.Core.Path.{refl, ◌∙◌}
+use Rattle.codes.specs.Laws.Skipping.{skip_start, skip_end, skip_unknown, skip_next, skip_all}
 use Rattle.scan.specs.Laws.{part}
 use native.Mathlib.Omega.{arith}
 use Prim.Native.Nat.{◌+◌}
@@ -11,16 +12,12 @@ pub returns-then-s-at : goal.returns-then-s-at
 returns-then-s-at c = skip_end c.args.shape c.args.s.now c.loop-due.at c.loop-due.due 0 c.args.n c.loop-due-test.true c.loop-due.invariant.2 c.if-s-at.true
 
 pub returns-then-w-gt30 : goal.returns-then-w-gt30
-returns-then-w-gt30 c = skip_unknown c.args.shape c.args.s.now c.loop-due.at c.loop-due.due c.wide-w.result c.args.n c.loop-due-test.true c.loop-due.invariant.2 c.wide-w.ensures.0 c.if-w-gt30.true
-
-pub loop-due-smaller : goal.loop-due-smaller
-loop-due-smaller c = omega arith
+returns-then-w-gt30 c = skip_unknown c.args.shape c.args.s.now c.loop-due.at c.loop-due.due _ c.args.n c.loop-due-test.true c.loop-due.invariant.2 refl c.if-w-gt30.true
 
 pub loop-due-preserved : goal.loop-due-preserved
-loop-due-preserved c = (omega arith, omega arith, skip_next c.args.shape c.args.s.now c.loop-due.at c.loop-due.due c.wide-w.result c.args.n c.loop-due-test.true c.loop-due.invariant.2 c.words_after.result c.operands-more.result _ c.wide-w.ensures.0 c.words_after.ensures.0 c.operands-more.ensures.0 (part (c.loop-due.at + 1) c.args.s.now))
-
-pub returns-then-at-s : goal.returns-then-at-s
-returns-then-at-s c = skip_left c.args.shape c.args.s.now c.args.n c.loop-due.at c.loop-due.due c.loop-due-test.false c.loop-due.invariant.2 c.if-at-s.true
+loop-due-preserved c = (omega arith, omega arith, skip_next c.args.shape c.args.s.now c.loop-due.at c.loop-due.due _ c.args.n c.loop-due-test.true c.loop-due.invariant.2 c.words_after.result c.operands.result _ refl c.words_after.ensures.0 c.operands.ensures.0 (part (c.loop-due.at + 1) c.args.s.now))
 
 pub returns : goal.returns
-returns c = skip_beyond c.args.shape c.args.s.now c.args.n c.loop-due.at c.loop-due.due c.loop-due-test.false c.loop-due.invariant.2 c.if-at-s.false
+returns c =
+    let all = skip_all c.args.shape c.args.s.now c.args.n c.loop-due.at c.loop-due.due c.loop-due-test.false c.loop-due.invariant.2 in
+    (omega arith, λ P xs rest h l. c.saturating_sub.ensures ∙ all.1 P xs rest h l)

@@ -252,6 +252,10 @@ module _ (shape : ℕ) (s : List ℕ) (n at due : ℕ) (z : due ≤ 0) (inv : Sk
   pub skip_beyond : length s < at → Skipped shape s n 0
   skip_beyond l = (omega arith, λ P xs rest h e. omega (arith, left P xs rest h e))
 
+  -- Wherever the row ends.
+  pub skip_all : Skipped shape s n (length s - at)
+  skip_all = (omega arith, left)
+
 pub idle_all : (shape : ℕ) (s : List ℕ) (at due : ℕ) → due ≤ 0 → Idling shape s at due → Tells shape s true
 idle_all shape s at due z inv P E rest h =
     let d = inv P E rest h in

@@ -1,8 +1,9 @@
 use Rattle.declarations.proofs.Cases.{rows}
+use Rattle.scan.specs.ReadingLaws.{handed_on}
 use Rattle.declarations.proofs.check_domains.Goals as goal
 
-pub returns-in-Left : goal.returns-in-Left
-returns-in-Left c = search rows
+pub returns : goal.returns
+returns c = let x0 = c.in_ok-m.was in search rows
 
-pub returns-in-Refused : goal.returns-in-Refused
-returns-in-Refused c = search rows
+pub returns-in_err-m : goal.returns-in_err-m
+returns-in_err-m c = let z = c.in_err-m.was in handed_on _ _ _ c.from_residual.ensures (search rows)

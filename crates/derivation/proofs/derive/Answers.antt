@@ -3,4 +3,4 @@ use Rattle.derivation.proofs.Arms.{derived_all}
 use Rattle.derivation.proofs.derive.Goals as goal
 
 pub returns : goal.returns
-returns c = (c.walk.auto.path, derived_all c.walk.ensures)
+returns c = (c.derive_lent.auto.path, derived_all c.derive_lent.ensures)

@@ -1,12 +1,10 @@
 -- Less than a number; less than the word of undefined; not less (`Words`).
-use Rattle.expressions.proofs.Words.{below_number, below_undefined, not_below}
+use mathlib.Core.Logic.{inl, inr}
+use Rattle.expressions.proofs.Words.{less_byte}
 use Rattle.expressions.proofs.less.Goals as goal
-
-pub returns-then-b-lt-UNDEFINED : goal.returns-then-b-lt-UNDEFINED
-returns-then-b-lt-UNDEFINED c = below_number c.args.a c.args.b c.requires.0 c.requires.1 c.if-a-b.true c.if-b-lt-UNDEFINED.true
-
-pub returns-then-a-b : goal.returns-then-a-b
-returns-then-a-b c = below_undefined c.args.a c.args.b c.requires.0 c.requires.1 c.if-a-b.true c.if-b-lt-UNDEFINED.false
+use Rattle.expressions.proofs.less.Goals.{then-a-b, else-a-b}
 
 pub returns : goal.returns
-returns c = not_below c.args.a c.args.b c.requires.0 c.requires.1 c.if-a-b.false
+returns c =
+    less_byte _ _ c.requires.0 c.requires.1 _ _ c.from.ensures
+    (elim c.if-a-b.branch [ then-a-b w ↦ inl (w.if-a-b.true, w.from-is) | else-a-b w ↦ inr (w.if-a-b.false, w.from-is) ])

@@ -1,23 +1,25 @@
-use Rattle.listing.proofs.Skipping.{idle_start, idle_end, idle_unknown, idle_stops, idle_code, idle_all}
 use mathlib.Core.Path.{sym, ◌∙◌}
 use native.Mathlib.Omega.{arith}
-use native.Mathlib.Omega.{arith}
+use Rattle.listing.proofs.Skipping.{idle_start, idle_none, idle_stops, idle_code, idle_all}
 use Rattle.listing.proofs.idle.Goals as goal
 
 pub loop-due-init : goal.loop-due-init
-loop-due-init c = (omega arith, omega arith, idle_start c.args.s.now)
+loop-due-init c = record { reached = omega arith; few = omega arith; idling = idle_start c.args.s.now }
 
-pub returns-then-s-at : goal.returns-then-s-at
-returns-then-s-at c = idle_end c.args.s.now c.loop-due.at c.loop-due.due 0 c.loop-due-test.true c.loop-due.invariant.2 c.if-s-at.true
-
-pub returns-then-w-gt30 : goal.returns-then-w-gt30
-returns-then-w-gt30 c = idle_unknown c.args.s.now c.loop-due.at c.loop-due.due c.wide-w.result c.loop-due-test.true c.loop-due.invariant.2 c.wide-w.ensures.0 c.if-w-gt30.true
+pub returns-in_default : goal.returns-in_default
+returns-in_default c = idle_none c.args.s.now c.loop-due.at c.loop-due.due 0 c.loop-due-test.true c.loop-due.invariant.idling c.in_default.ensures
 
 pub returns-then-moving : goal.returns-then-moving
-returns-then-moving c = idle_stops c.args.s.now c.loop-due.at c.loop-due.due c.wide-w.result c.loop-due-test.true c.loop-due.invariant.2 c.wide-w.ensures.0 (sym c.moving.ensures ∙ c.if-moving.true)
+returns-then-moving c = let w = c.in-Some.ensures in idle_stops c.args.s.now c.loop-due.at c.loop-due.due c.in-Some.w c.loop-due-test.true c.loop-due.invariant.idling w.0 (sym c.moving.ensures ∙ c.if-moving.true)
 
 pub loop-due-preserved : goal.loop-due-preserved
-loop-due-preserved c = (omega arith, omega arith, rw (c.words_behind.ensures.0, c.operands_behind.ensures.0) (idle_code c.args.s.now c.loop-due.at c.loop-due.due c.wide-w.result c.loop-due-test.true c.loop-due.invariant.2 c.wide-w.ensures.0 (sym c.moving.ensures ∙ c.if-moving.false)))
+loop-due-preserved c =
+    let w = c.in-Some.ensures in
+    record {
+      reached = omega arith;
+      few = omega arith;
+      idling = rw (c.words_behind.ensures.0, c.operands_behind.ensures.0) (idle_code c.args.s.now c.loop-due.at c.loop-due.due c.in-Some.w c.loop-due-test.true c.loop-due.invariant.idling w.0 (sym c.moving.ensures ∙ c.if-moving.false));
+    }
 
 pub returns : goal.returns
-returns c = idle_all c.args.s.now c.loop-due.at c.loop-due.due c.loop-due-test.false c.loop-due.invariant.2
+returns c = idle_all c.args.s.now c.loop-due.at c.loop-due.due c.loop-due-test.false c.loop-due.invariant.idling

@@ -24,10 +24,6 @@ number_there (a ∷ b ∷ c ∷ d ∷ s) (suc i) l =
     let q : ℕ → ℕ = λ n. slice_index_or (a ∷ b ∷ c ∷ d ∷ s) n 0 in
     number_there s i room ∙ (λ j. q (p₀ j) + 256 * q (p₁ j) + 65536 * q (p₂ j) + 16777216 * q (p₃ j))
 
-pub number_read : (b : List ℕ) (i w x y z : ℕ) → 4 * i + 4 ≤ length b → w ≡ slice_index b (4 * i) → x ≡ slice_index b (4 * i + 1) → y ≡ slice_index b (4 * i + 2) → z ≡ slice_index b (4 * i + 3)
-    → w + 256 * x + 65536 * y + 16777216 * z ≡ slice_index (doubles_in (words_in b)) i
-number_read b i w x y z l e f g h = (λ j. e j + 256 * f j + 65536 * g j + 16777216 * h j) ∙ sym (number_there b i l)
-
 -- Numbers of bytes have 32 bits.
 pub numbers_fit : (b : List ℕ) → ((i : ℕ) → slice_index b i < 256) → (i : ℕ) → slice_index (doubles_in (words_in b)) i < 4294967296
 unfolding words_in doubles_in

@@ -10,9 +10,6 @@ use Rattle.readers.specs.Readers.{reader?, all_read, lets_through}
 abbrev pub ReadersTo : List ℕ → ℕ → Type 0
 ReadersTo list i = all_read (words_in list) ≡ all_read (drop (2 * i) (words_in list))
 
-pub readers_start : (list : List ℕ) → ReadersTo list 0
-readers_start list = refl
-
 -- A number and its reader come first.
 pair_front : (ws : List ℕ) (i : ℕ) → 2 * i + 1 < length ws → drop (2 * i) ws ≡ slice_index ws (2 * i) ∷ slice_index ws (2 * i + 1) ∷ drop (2 * (i + 1)) ws
 pair_front ws i l =

@@ -1,6 +1,6 @@
 -- One step of each loop over the table's records (document 02, K1): added, read, and put into bytes.
-use Rattle.std.specs.Prelude.{◌≡◌, ℕ, zero, suc, ◌+◌, ◌-◌, ◌*◌, ◌%◌, ◌<◌, ◌≤◌, Bool, true, false, T, List, [], ◌∷◌, ◌++◌, length, get_or, set, replicate, ◌==◌, slice_index, slice_index_or, slice_set, refl}
-use Rattle.std.proofs.Common.{arith, sym, ap, subst, ◌∙◌, append-nil, length-set, length-append, get_or-set_same, get_or-set_other, eqb-true}
+use Rattle.std.specs.Prelude.{◌≡◌, ℕ, zero, suc, ◌+◌, ◌-◌, ◌*◌, ◌%◌, ◌<◌, ◌≤◌, Bool, true, false, List, [], ◌∷◌, ◌++◌, length, get_or, set, replicate, ◌==◌, slice_index, slice_index_or, slice_set, refl}
+use Rattle.std.proofs.Common.{arith, sym, ap, subst, ◌∙◌, length-set, length-append, get_or-set_same, get_or-set_other, eqb-true}
 use Rattle.std.proofs.Math.Decide.{dec_lt}
 use Rattle.std.proofs.Math.ListN.{get_or-append, get_or-eq_default}
 use Rattle.std.proofs.lemmas.Bool.{eqb-false}
@@ -35,13 +35,6 @@ added_kept (suc n) r ns t l =
     let below : n ≤ r = omega (arith, l) in
     get_or-set_other (added_first n ns t) n r _ none apart ∙ added_kept n r ns t below
 
--- Three zeros are nothing counted.
-pub not_idle : (c : Counts) → ◌≡◌ {A = Bool} false true → c ≡ none
-not_idle c e = absurd (subst T (sym e) tt)
-
-pub idle_so : (c : Counts) (b : Bool) → c.visible ≡ 0 → c.internal ≡ 0 → b ≡ (c.refused == 0) → b ≡ true → c ≡ none
-idle_so c b v n e f = let r : c.refused ≡ 0 = eqb-true c.refused 0 (sym e ∙ f) in λ i. record { visible = v i; internal = n i; refused = r i }
-
 -- Where nothing was counted, the table stays as it is.
 plus_none : (c : Counts) → Of32Bits c → plus c none ≡ c
 plus_none c f =
@@ -64,9 +57,6 @@ add_nothing ns i t₀ t m b small e f idle g =
     let fits : Of32Bits (slice_index_or u i none) = subst Of32Bits (sym (added_kept i i ns t₀ low)) (small i) in
     let kept : set u i (plus (slice_index_or u i none) (counts_at ns i)) ≡ u = ap (λ (c : Counts). set u i (plus (slice_index_or u i none) c)) (sym f ∙ idle g) ∙ (ap (set u i) (plus_none (slice_index_or u i none) fits) ∙ set_back u i) in
     e ∙ (sym kept ∙ ap (λ (n : ℕ). added_first n ns t₀) (one_more i))
-
-pub add_end : (ns : List ℕ) (i : ℕ) (t₀ t : List Counts) → t ≡ added_first i ns t₀ → i ≡ 32 → t ≡ added_first 32 ns t₀
-add_end ns i t₀ t e l = e ∙ ap (λ (n : ℕ). added_first n ns t₀) l
 
 added_at : (n r : ℕ) (ns : List ℕ) (t : List Counts) (q : Bool) → (r == n) ≡ q → n < length t → r < suc n
     → (r < n → slice_index_or (added_first n ns t) r none ≡ plus (slice_index_or t r none) (counts_at ns r)) → slice_index_or (added_first (suc n) ns t) r none ≡ plus (slice_index_or t r none) (counts_at ns r)
@@ -117,9 +107,6 @@ read_next ns i t c l e f =
     ∙ set_next (records i ns) (replicate (31 - i) none) none (counts_at ns i)
     ∙ (λ j. records (one_more i j) ns ++ replicate (less j) none)
 
-pub read_end : (ns : List ℕ) (i : ℕ) (t : List Counts) → ReadTo ns i t → i ≡ 32 → t ≡ records 32 ns
-read_end ns i t e l = e ∙ ap (λ (n : ℕ). records n ns ++ replicate (32 - n) none) l ∙ append-nil (records 32 ns)
-
 getD_end : (xs : List Counts) (y : Counts) → slice_index_or (xs ++ (y ∷ [])) (length xs) none ≡ y
 getD_end [] y = refl
 getD_end (x ∷ xs) y = getD_end xs y
@@ -158,6 +145,3 @@ put_start t b = refl
 pub put_next : (t : List Counts) (i : ℕ) (b₀ b d : List ℕ) (c : Counts) → b ≡ put_first i t b₀ → c ≡ slice_index_or t i none → d ≡ put_record b i c → d ≡ put_first (i + 1) t b₀
 unfolding put_first
 put_next t i b₀ b d c e f g = g ∙ (λ j. put_record (e j) i (f j)) ∙ ap (λ (n : ℕ). put_first n t b₀) (one_more i)
-
-pub put_end : (t : List Counts) (i : ℕ) (b₀ b : List ℕ) → b ≡ put_first i t b₀ → i ≡ 32 → b ≡ put_first 32 t b₀
-put_end t i b₀ b e l = e ∙ ap (λ (n : ℕ). put_first n t b₀) l

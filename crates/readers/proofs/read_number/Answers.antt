@@ -1,7 +1,12 @@
--- Four bytes are a number (`number_read`).
-use Rattle.readers.proofs.Laws.Bytes.{number_read}
-use Rattle.std.proofs.Common.{arith}
+-- Four bytes are a number (`number_there`).
+use Rattle.std.proofs.Common.{◌≡◌, ◌∙◌, ◌+◌, ◌*◌, sym, arith}
+use Rattle.std.specs.Prelude.{slice_index}
+use Rattle.readers.proofs.Laws.Bytes.{number_there}
 use Rattle.readers.proofs.read_number.Goals as goal
 
 pub returns : goal.returns
-returns c = number_read _ _ _ _ _ _ (omega arith) c.byte32-b0.ensures.0 c.byte32-b1.ensures.0 c.byte32-b2.ensures.0 c.byte32-b3.ensures.0
+returns c =
+    let s = c.args.table.now in
+    let i = c.args.i in
+    let e : c.from_le_bytes.result ≡ slice_index s (4 * i) + 256 * slice_index s (4 * i + 1) + 65536 * slice_index s (4 * i + 2) + 16777216 * slice_index s (4 * i + 3) = omega (arith, c.from_le_bytes.ensures) in
+    e ∙ sym (number_there s i (omega arith))

@@ -1,6 +1,6 @@
 -- Two words (`two_puts`).
-use Rattle.readers.proofs.Laws.Bytes.{two_puts}
 use Rattle.std.proofs.Common.{rules}
+use Rattle.readers.proofs.Laws.Bytes.{two_puts}
 use Rattle.readers.proofs.write_number.Goals as goal
 
 pub returns : goal.returns

@@ -1,4 +1,3 @@
-use native.Mathlib.Omega.{arith}
 use Rattle.rule_terms.proofs.Stars.{no_star, next_star, stars_stop, stars_end}
 use Rattle.rule_terms.proofs.stars_in.Goals as goal
 
@@ -7,9 +6,6 @@ loop-i-init c = search no_star
 
 pub returns-then-s-i-ne24 : goal.returns-then-s-i-ne24
 returns-then-s-i-ne24 c = stars_stop _ _ c.loop-i.invariant c.loop-i-test.true c.if-s-i-ne24.true
-
-pub loop-i-smaller : goal.loop-i-smaller
-loop-i-smaller c = omega arith
 
 pub loop-i-preserved : goal.loop-i-preserved
 loop-i-preserved c = search next_star

@@ -1,16 +1,14 @@
 use mathlib.Core.Path.{refl, ap, ◌∙◌}
+use Rattle.runs.specs.Arrays.{arrays_same, arrays_then}
 use Rattle.runs.proofs.RunCases.{total, counted_once, run_start, run_next, run_end}
 use native.Mathlib.Omega.{arith}
 use Rattle.runs.proofs.run_moves.Goals as goal
 
 pub loop-i-init : goal.loop-i-init
-loop-i-init c = (omega arith, refl, refl, refl, refl, refl, refl, refl, run_start c.args.numbers.now)
-
-pub overflow_add-i : goal.overflow_add-i
-overflow_add-i c = record { fits = omega (arith, c.loop-i-test.true, c.loop-i.invariant.1, c.well_formed.0) }
+loop-i-init c = (refl, refl, refl, refl, arrays_same, run_start c.args.numbers.now)
 
 pub loop-i-preserved : goal.loop-i-preserved
-loop-i-preserved c = let v = c.loop-i.invariant in let o = c.step_once-done.ensures in (omega arith, refl, omega (arith, v.2, ap total c.counted-tally.ensures, counted_once c.loop-i.tally c.step_once-done.result), o.0 ∙ v.3, o.1 ∙ v.4, o.2 ∙ v.5, o.3 ∙ v.6, o.4 ∙ v.7, run_next _ _ c.loop-i-test.true v.3 v.5 v.6 v.8 c.number_at-k.ensures.0 o.5 c.counted-tally.ensures)
+loop-i-preserved c = let v = c.loop-i.invariant in let o = c.step_once-done.ensures in (omega (arith, v.0, ap total c.counted-tally.ensures, counted_once c.loop-i.tally c.step_once-done.result), o.0 ∙ v.1, o.1 ∙ v.2, o.2 ∙ v.3, arrays_then v.4 o.3, run_next _ _ c.loop-i-test.true v.1 v.3 v.4.path_length v.5 c.number_at-k.ensures.0 o.4 c.counted-tally.ensures)
 
 pub returns : goal.returns
-returns c = let v = c.loop-i.invariant in (v.3, v.4, v.5, v.6, v.7, run_end c.args.numbers.now c.loop-i.i (omega (arith, c.loop-i-test.false)) v.8)
+returns c = let v = c.loop-i.invariant in (v.1, v.2, v.3, v.4, run_end c.args.numbers.now c.loop-i.i (omega (arith, c.loop-i-test.false)) v.5)

@@ -1,19 +1,14 @@
--- A case for each return: a visible move, an internal one, or none.
-use mathlib.Core.Path.{ap}
-use native.Mathlib.Omega.{arith}
-use lib.ListN.{length, length-take}
+-- A case for each return: no such move, a visible one, or an internal one.
+use mathlib.Core.Path.{refl}
 use Rattle.runs.proofs.StepCases.{step_internal, step_visible, step_refused}
 use borrow.Author.Rules.{rules}
 use Rattle.runs.proofs.step_once.Goals as goal
 
-pub take_move_in-requires : goal.take_move_in-requires
-take_move_in-requires c = (omega (arith, ap length c.front.ensures, length-take c.args.n c.args.ws.now), search rules, search rules)
+pub returns-in_err-taken : goal.returns-in_err-taken
+returns-in_err-taken c = (search rules, search rules, search rules, record { path_is = refl; acts_is = refl; mid_is = refl; path_length = c.take_move_in.ensures.0; acts_length = c.take_move_in.ensures.1; mid_length = refl }, step_refused c.front.ensures c.in_err-taken.ensures.2 c.from_residual.ensures)
 
-pub returns-then-action-gt0 : goal.returns-then-action-gt0
-returns-then-action-gt0 c = (search rules, search rules, search rules, c.take_move_in.ensures.0, c.take_move_in.ensures.1, step_visible c.front.ensures c.take_move_in.ensures.2 c.in-Made.is c.renew.ensures.1 c.load.ensures c.if-action-gt0.true)
+pub returns-then-taken-gt0 : goal.returns-then-taken-gt0
+returns-then-taken-gt0 c = (search rules, search rules, search rules, record { path_is = refl; acts_is = refl; mid_is = refl; path_length = c.take_move_in.ensures.0; acts_length = c.take_move_in.ensures.1; mid_length = refl }, step_visible c.front.ensures c.in_ok-taken.ensures.2 c.renew.ensures.1 c.load.ensures c.if-taken-gt0.true)
 
-pub returns-else-action-gt0 : goal.returns-else-action-gt0
-returns-else-action-gt0 c = (search rules, search rules, search rules, c.take_move_in.ensures.0, c.take_move_in.ensures.1, step_internal c.front.ensures c.take_move_in.ensures.2 c.in-Made.is c.renew.ensures.1 c.load.ensures c.if-action-gt0.false)
-
-pub returns-in-NotOffered : goal.returns-in-NotOffered
-returns-in-NotOffered c = (search rules, search rules, search rules, c.take_move_in.ensures.0, c.take_move_in.ensures.1, step_refused c.front.ensures c.take_move_in.ensures.2 c.in-NotOffered.is)
+pub returns : goal.returns
+returns c = (search rules, search rules, search rules, record { path_is = refl; acts_is = refl; mid_is = refl; path_length = c.take_move_in.ensures.0; acts_length = c.take_move_in.ensures.1; mid_length = refl }, step_internal c.front.ensures c.in_ok-taken.ensures.2 c.renew.ensures.1 c.load.ensures c.if-taken-gt0.false)

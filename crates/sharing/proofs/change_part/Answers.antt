@@ -1,10 +1,7 @@
 use Rattle.scan.specs.Laws.{last_len}
-use Rattle.sharing.proofs.ChangingParts.{no_part, part_made, part_long}
+use Rattle.sharing.proofs.ChangingParts.{part_made, part_long}
 use native.Mathlib.Omega.{arith}
 use Rattle.sharing.proofs.change_part.Goals as goal
-
-pub returns-then-w-lt32 : goal.returns-then-w-lt32
-returns-then-w-lt32 c = no_part c.if-w-lt32.true
 
 pub begin-r-requires : goal.begin-r-requires
 begin-r-requires c = (omega (arith, c.requires.3, last_len _ _ _ c.last.ensures), c.requires.5, omega arith, c.requires.6)

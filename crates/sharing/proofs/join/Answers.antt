@@ -1,16 +1,13 @@
-use lib.ListN.{length-set}
-use mathlib.Core.Path.{◌∙◌}
+use Rattle.std.proofs.Common.{rules}
 use Rattle.sharing.proofs.ChangingParts.{join_made, join_short, join_roomless}
 use Rattle.sharing.proofs.join.Goals as goal
+use Rattle.sharing.proofs.join.Goals.{then-n-i-via-then-n-i, then-n-i-via-else-n-i+then-is_empty}
 
 pub returns-then-n-i : goal.returns-then-n-i
-returns-then-n-i c = join_short c.if-n-i.true
-
-pub returns-then-mid-eq0 : goal.returns-then-mid-eq0
-returns-then-mid-eq0 c = join_roomless c.if-mid-eq0.true
-
-pub shape_of-mid : goal.shape_of-mid
-shape_of-mid c = c.splice.ensures.mid_same_length ∙ length-set c.args.mid.now 0 30
+returns-then-n-i c = elim c.then-n-i.branch [
+  | then-n-i-via-then-n-i w ↦ join_short w.if-n-i.true
+  | then-n-i-via-else-n-i+then-is_empty w ↦ join_roomless (search rules)
+]
 
 pub returns : goal.returns
-returns c = join_made c.requires.0 c.requires.2 c.if-mid-eq0.false c.splice.ensures
+returns c = join_made c.requires.0 c.requires.2 (search rules) c.splice.ensures

@@ -1,12 +1,7 @@
 -- The loop's next round is stated by hand: `search` over that many facts breaks off.
-use Prim.Native.Nat.{◌-◌}
-use lib.ListN.{length}
 use Rattle.terms.proofs.Values.{Met}
 use Rattle.terms.proofs.elements.Given as goal
 
 -- The loop's next round is stated by hand: `search` over that many facts breaks off.
 abbrev pub invariant-loop-i : goal.invariant-loop-i
 invariant-loop-i l = Met l.tb l.ds l.t l.i
-
-abbrev pub decreases-loop-i : goal.decreases-loop-i
-decreases-loop-i l = length l.ds - l.i

@@ -1,14 +1,11 @@
 use Rattle.terms.proofs.Numbers.{joins}
 use Rattle.terms.proofs.join.Goals as goal
 
-pub returns-in-22 : goal.returns-in-22
-returns-in-22 c = search joins
+pub returns-in-Sequence : goal.returns-in-Sequence
+returns-in-Sequence c = search joins
 
-pub returns-in-23 : goal.returns-in-23
-returns-in-23 c = search joins
+pub returns-in-Choice : goal.returns-in-Choice
+returns-in-Choice c = search joins
 
-pub returns-in-25 : goal.returns-in-25
-returns-in-25 c = search joins
-
-pub returns-in_default : goal.returns-in_default
-returns-in_default c = search joins
+pub returns-in-Parallel : goal.returns-in-Parallel
+returns-in-Parallel c = search joins

@@ -1,9 +1,6 @@
 use Rattle.terms.proofs.Nested.{counting}
 use Rattle.terms.proofs.stars.Goals as goal
 
-pub loop-i-init : goal.loop-i-init
-loop-i-init c = search counting
-
 pub returns-then-t-i-ne24 : goal.returns-then-t-i-ne24
 returns-then-t-i-ne24 c = search counting
 

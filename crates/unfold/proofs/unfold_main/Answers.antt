@@ -1,11 +1,14 @@
+use mathlib.Core.Path.{refl}
 use Rattle.unfold.proofs.MainCases.{main_none, main_many, main_put}
 use Rattle.unfold.proofs.unfold_main.Goals as goal
+use Rattle.unfold.proofs.unfold_main.Goals.{then-count-eq0-via-then-count-eq0, then-count-eq0-via-else-count-eq0+then-count-gt32}
 
 pub returns-then-count-eq0 : goal.returns-then-count-eq0
-returns-then-count-eq0 c = main_none _ _ _ _ _ c.entry.ensures c.wide32-count.ensures.0 c.if-count-eq0.true
-
-pub returns-then-count-gt32 : goal.returns-then-count-gt32
-returns-then-count-gt32 c = main_many _ _ _ _ _ c.entry.ensures c.wide32-count.ensures.0 c.if-count-gt32.true
+returns-then-count-eq0 c =
+    elim c.then-count-eq0.branch [
+      | then-count-eq0-via-then-count-eq0 w ↦ main_none _ _ _ _ _ c.entry-count.ensures refl w.if-count-eq0.true
+      | then-count-eq0-via-else-count-eq0+then-count-gt32 w ↦ main_many _ _ _ _ _ c.entry-count.ensures refl w.if-count-gt32.true
+    ]
 
 pub returns : goal.returns
-returns c = main_put _ _ _ _ _ c.entry.ensures c.wide32-count.ensures.0 _ _ _ _ c.entry-2.ensures c.wide32-start.ensures.0 c.«unfold».ensures
+returns c = main_put _ _ _ _ _ c.entry-count.ensures refl _ _ _ _ c.entry-start.ensures refl c.«unfold».ensures

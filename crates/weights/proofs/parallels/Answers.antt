@@ -1,14 +1,10 @@
-use Rattle.weights.proofs.Copies.{no_copy, first_copy, next_copy, all_copies}
+use Rattle.std.proofs.Common.{rules}
+use Rattle.weights.specs.Weighing.{measure, parallel_by}
+use Rattle.weights.proofs.Steps.{no_copy, copies}
 use Rattle.weights.proofs.parallels.Goals as goal
 
 pub returns-then-n-eq0 : goal.returns-then-n-eq0
-returns-then-n-eq0 c = no_copy _ _ _ _ _ c.if-n-eq0.true c.empty.ensures
-
-pub loop-i-init : goal.loop-i-init
-loop-i-init c = search first_copy
-
-pub loop-i-preserved : goal.loop-i-preserved
-loop-i-preserved c = search next_copy
+returns-then-n-eq0 c = no_copy _ _ _ _ c.if-n-eq0.true c.empty.ensures
 
 pub returns : goal.returns
-returns c = all_copies _ _ _ _ _ _ c.loop-i.invariant c.loop-i-test.false
+returns c = copies _ _ _ _ c.if-n-eq0.false (c.repeated.ensures (parallel_by c.args.zero (measure c.args.a)) λ w v k. search rules)

@@ -1,11 +1,9 @@
-use Rattle.weights.proofs.Laying.{no_star, next_star, all_stars}
+use mathlib.Core.Path.{◌∙◌}
+use Rattle.std.proofs.Common.{rules}
+use Rattle.eb3.specs.Measures.{sat, star_of}
+use Rattle.weights.specs.Weighing.{measure, cap}
+use Rattle.weights.proofs.Steps.{laid}
 use Rattle.weights.proofs.stars.Goals as goal
 
-pub loop-laid-init : goal.loop-laid-init
-loop-laid-init c = search no_star
-
-pub loop-laid-preserved : goal.loop-laid-preserved
-loop-laid-preserved c = search next_star
-
 pub returns : goal.returns
-returns c = all_stars _ _ _ _ c.loop-laid.invariant c.loop-laid-test.false
+returns c = c.repeated.ensures (star_of (sat cap)) (λ w v k. search rules) ∙ laid c.args.n (measure c.args.a)

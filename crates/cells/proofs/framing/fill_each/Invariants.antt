@@ -1,13 +1,9 @@
 -- Each turn of the loop makes one cell more new (`each_next`).
 use mathlib.Core.Path.{◌≡◌}
-use Prim.Native.Nat.{◌-◌, ◌≤◌}
 use lib.ListN.{length}
 use Rattle.cells.specs.FramingLaws.{Begins}
 use Rattle.cells.proofs.framing.fill_each.Given as goal
 
 -- Each turn of the loop makes one cell more new (`each_next`).
 abbrev pub invariant-loop-x : goal.invariant-loop-x
-invariant-loop-x l = (l.x ≤ l.k) × (length l.m ≡ length l.initial.m) × Begins l.s l.at l.k l.initial.m l.m l.x
-
-abbrev pub decreases-loop-x : goal.decreases-loop-x
-decreases-loop-x l = l.k - l.x
+invariant-loop-x l = (length l.m ≡ length l.initial.m) × Begins l.s l.at l.k l.initial.m l.m l.x

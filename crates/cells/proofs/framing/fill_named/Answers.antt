@@ -3,7 +3,6 @@
 use mathlib.Core.Path.{◌≡◌, subst}
 use Prim.Native.Nat.{◌+◌, ◌%◌}
 use native.Mathlib.Omega.{arith}
-use lib.ListN.{length-set}
 use Rattle.scan.specs.Laws.{last_len, part}
 use Rattle.expressions.specs.Answering.{Evaluated}
 use Rattle.cells.specs.Frames.{kept_value, Tells}
@@ -13,23 +12,11 @@ use Rattle.cells.proofs.framing.fill_named.Goals as goal
 pub eval_data-a-requires : goal.eval_data-a-requires
 eval_data-a-requires c = omega (arith, last_len _ _ _ c.last-t.ensures)
 
-pub bounds-m-at : goal.bounds-m-at
-bounds-m-at c = let a = c.args in omega (arith, c.copy_cells.ensures.same_length, length-set a.m.now 0 (c.eval_data-d.result % 65536))
-
-pub shape_of-m-then-e-k : goal.shape_of-m-then-e-k
-shape_of-m-then-e-k c = let a = c.args in two_set a.m.now c.copy_cells.new.m (c.eval_data-d.result % 65536) (a.at + c.eval_data-d.result % 65536) (c.eval_data-a.result % 65536) c.copy_cells.ensures.same_length
-
 pub returns-then-e-k : goal.returns-then-e-k
 returns-then-e-k c = let a = c.args in (two_set a.m.now c.copy_cells.new.m (c.eval_data-d.result % 65536) (a.at + c.eval_data-d.result % 65536) (c.eval_data-a.result % 65536) c.copy_cells.ensures.same_length, named_one a.f a.s.now a.m.now a.from a.at a.k c.requires.6 (λ i. (c.slice_known-1.given i).fits) c.requires.7 c.eval_data-d.result (subst (λ l. Evaluated l a.m.now c.eval_data-d.result) (part 4 a.s.now) c.eval_data-d.ensures.0) c.last-t.result.now c.last-t.ensures c.eval_data-a.result c.eval_data-a.ensures.0 c.last.result.now c.last.ensures (subst (λ r. Tells r c.last.result.now (λ d. d ≡ kept_value a.f)) c.if-keeps.true c.keeps.ensures) c.copy_cells.new.m c.copy_cells.ensures c.if-e-k.true c.requires.3)
 
-pub shape_of-m-else-e-k : goal.shape_of-m-else-e-k
-shape_of-m-else-e-k c = let a = c.args in first_set a.m.now c.copy_cells.new.m (c.eval_data-d.result % 65536) c.copy_cells.ensures.same_length
-
 pub returns-else-e-k : goal.returns-else-e-k
 returns-else-e-k c = let a = c.args in (first_set a.m.now c.copy_cells.new.m (c.eval_data-d.result % 65536) c.copy_cells.ensures.same_length, named_past a.f a.s.now a.m.now a.from a.at a.k c.requires.6 (λ i. (c.slice_known-1.given i).fits) c.requires.7 c.eval_data-d.result (subst (λ l. Evaluated l a.m.now c.eval_data-d.result) (part 4 a.s.now) c.eval_data-d.ensures.0) c.last-t.result.now c.last-t.ensures c.eval_data-a.result c.eval_data-a.ensures.0 c.last.result.now c.last.ensures (subst (λ r. Tells r c.last.result.now (λ d. d ≡ kept_value a.f)) c.if-keeps.true c.keeps.ensures) c.copy_cells.new.m c.copy_cells.ensures c.if-e-k.false)
-
-pub shape_of-m : goal.shape_of-m
-shape_of-m c = let a = c.args in first_set a.m.now c.fill_each.new.m (c.eval_data-d.result % 65536) c.fill_each.ensures.0
 
 pub returns : goal.returns
 returns c = let a = c.args in (first_set a.m.now c.fill_each.new.m (c.eval_data-d.result % 65536) c.fill_each.ensures.0, any_first a.f a.s.now a.m.now c.fill_each.new.m a.at a.k (c.eval_data-d.result % 65536) (c.fill_each.ensures.1 a.f))

@@ -10,19 +10,19 @@ returns-then-term-ne0 c = (search rules, λ R f d. checked_odd R f _ _ _ c.if-te
 pub returns-then-ws-n : goal.returns-then-ws-n
 returns-then-ws-n c = (search rules, λ R f d. checked_long R f _ _ _ c.if-term-ne0.false (over_limit _ _ c.requires c.if-ws-n.true))
 
-pub returns-in-Running : goal.returns-in-Running
-returns-in-Running c = (
+pub returns-in-Some : goal.returns-in-Some
+returns-in-Some c = (
   c.load.ensures.same_length,
   λ R f d.
       let p = loaded_part c.args.term.now _ _ _ refl c.if-ws-n.false c.load.ensures in
       let q = loaded_words c.args.term.now _ _ _ refl c.if-ws-n.false c.load.ensures in
-      checked_running R f _ _ _ c.if-term-ne0.false _ d _ p _ c.given_term.ensures _ _ _ c.in-Running.is c.wide32.ensures.0 (q ∙ sym p),
+      checked_running R f _ _ _ c.if-term-ne0.false _ d _ p _ c.given_term.ensures _ _ c.in-Some.is refl (q ∙ sym p),
 )
 
-pub returns-in-Wrong : goal.returns-in-Wrong
-returns-in-Wrong c = (
+pub returns-in-None : goal.returns-in-None
+returns-in-None c = (
   c.load.ensures.same_length,
   λ R f d.
       let p = loaded_part c.args.term.now _ _ _ refl c.if-ws-n.false c.load.ensures in
-      checked_wrong R f _ _ _ c.if-term-ne0.false _ d _ p _ c.given_term.ensures c.in-Wrong.is,
+      checked_wrong R f _ _ _ c.if-term-ne0.false _ d _ p _ c.given_term.ensures c.in-None.is,
 )

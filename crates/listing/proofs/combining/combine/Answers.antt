@@ -1,29 +1,22 @@
-use Prim.Native.Nat.{◌+◌}
-use Rattle.actions.specs.Sets.{in_set}
-use Rattle.listing.proofs.Copying.{wrote_range, lost_1, lost_2, lost_3, made_all}
+use mathlib.Core.Path.{refl, sym}
+use mathlib.Core.List.{append-nil}
 use native.Mathlib.Omega.{arith}
+use Rattle.listing.proofs.Writing.{writing_lost, writing_next, writing_ends}
+use Rattle.listing.proofs.Combined.{begun, combine_lost, combine_made}
 use Rattle.listing.proofs.combining.combine.Goals as goal
 
-pub returns-then-p-ge-FULL : goal.returns-then-p-ge-FULL
-returns-then-p-ge-FULL c = let a = c.args in lost_1 (in_set a.mask) a.n (a.n + a.k) (omega arith) c.requires.0 c.put_outside-p.ensures c.if-p-ge-FULL.true
+pub returns-in_err-p : goal.returns-in_err-p
+returns-in_err-p c = let b = c.split_at_mut-both.ensures in let s = c.split_at.ensures in
+    rw c.from_residual.ensures (combine_lost _ _ _ _ _ _ _ _ (omega arith) c.requires b.front b.back s.front s.back (writing_lost (begun _ _ _ _) _ refl c.in_err-p.ensures))
 
-pub put_outside-q-requires : goal.put_outside-q-requires
-put_outside-q-requires c = let w = wrote_range c.put_outside-p.ensures c.if-p-ge-FULL.false in omega (arith, w.0, w.1, c.put_outside-p.ensures.same_length)
+pub returns-in_err-q : goal.returns-in_err-q
+returns-in_err-q c = let b = c.split_at_mut-both.ensures in let s = c.split_at.ensures in
+    rw c.from_residual-in_err-q.ensures (combine_lost _ _ _ _ _ _ _ _ (omega arith) c.requires b.front b.back s.front s.back (writing_lost (writing_next (begun _ _ _ _) refl c.in_ok-p.ensures) _ refl c.in_err-q.ensures))
 
-pub returns-then-q-ge-FULL : goal.returns-then-q-ge-FULL
-returns-then-q-ge-FULL c = let a = c.args in lost_2 (in_set a.mask) a.n (a.n + a.k) (omega arith) c.requires.0 c.put_outside-p.ensures c.if-p-ge-FULL.false c.put_outside-q.ensures c.if-q-ge-FULL.true
-
-pub put_pairs-e-requires : goal.put_pairs-e-requires
-put_pairs-e-requires c = let w = wrote_range c.put_outside-p.ensures c.if-p-ge-FULL.false in let v = wrote_range c.put_outside-q.ensures c.if-q-ge-FULL.false in omega (arith, w.0, w.1, v.0, v.1, c.put_outside-p.ensures.same_length, c.put_outside-q.ensures.same_length)
-
-pub returns-then-e-ge-FULL : goal.returns-then-e-ge-FULL
-returns-then-e-ge-FULL c = let a = c.args in lost_3 (in_set a.mask) a.n (a.n + a.k) (omega arith) c.requires.0 c.put_outside-p.ensures c.if-p-ge-FULL.false c.put_outside-q.ensures c.if-q-ge-FULL.false c.put_pairs-e.ensures c.if-e-ge-FULL.true
-
-pub shift-requires : goal.shift-requires
-shift-requires c = let w = wrote_range c.put_outside-p.ensures c.if-p-ge-FULL.false in let v = wrote_range c.put_outside-q.ensures c.if-q-ge-FULL.false in let u = wrote_range c.put_pairs-e.ensures c.if-e-ge-FULL.false in omega (arith, w.0, v.0, u.0, u.1, c.put_pairs-e.ensures.same_length)
-
-pub overflow_sub-result : goal.overflow_sub-result
-overflow_sub-result c = let w = wrote_range c.put_outside-p.ensures c.if-p-ge-FULL.false in let v = wrote_range c.put_outside-q.ensures c.if-q-ge-FULL.false in let u = wrote_range c.put_pairs-e.ensures c.if-e-ge-FULL.false in omega (arith, w.0, v.0, u.0)
+pub returns-in_err-e : goal.returns-in_err-e
+returns-in_err-e c = let b = c.split_at_mut-both.ensures in let s = c.split_at.ensures in
+    rw c.from_residual-in_err-e.ensures (combine_lost _ _ _ _ _ _ _ _ (omega arith) c.requires b.front b.back s.front s.back (writing_lost (writing_next (writing_next (begun _ _ _ _) refl c.in_ok-p.ensures) refl c.in_ok-q.ensures) _ (sym (append-nil _)) c.in_err-e.ensures))
 
 pub returns : goal.returns
-returns c = let a = c.args in made_all (in_set a.mask) a.n (a.n + a.k) (omega arith) c.requires.0 c.put_outside-p.ensures c.if-p-ge-FULL.false c.put_outside-q.ensures c.if-q-ge-FULL.false c.put_pairs-e.ensures c.if-e-ge-FULL.false _ c.requires.1 c.shift.ensures.0 c.shift.ensures.1
+returns c = let b = c.split_at_mut-both.ensures in let s = c.split_at.ensures in
+    combine_made _ _ _ _ _ _ _ _ (omega arith) c.requires b.front b.back s.front s.back (writing_ends (writing_next (writing_next (writing_next (begun _ _ _ _) refl c.in_ok-p.ensures) refl c.in_ok-q.ensures) (sym (append-nil _)) c.in_ok-e.ensures) refl) c.shift.ensures.0 c.shift.ensures.1

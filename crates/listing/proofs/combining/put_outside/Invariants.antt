@@ -1,14 +1,8 @@
-use Prim.Native.Nat.{◌-◌, ◌≤◌}
-use mathlib.Core.Path.{◌≡◌}
-use lib.ListN.{length}
-use lib.Seq.{slice}
+use lib.ListN.{drop}
 use Rattle.actions.specs.Sets.{in_set}
 use Rattle.listing.specs.Combining.{outside}
 use Rattle.listing.proofs.Writing.{Writing}
 use Rattle.listing.proofs.combining.put_outside.Given as goal
 
-abbrev pub invariant-loop-i : goal.invariant-loop-i
-invariant-loop-i l = (l.i ≤ l.to) × (l.e ≤ l.at) × (l.at ≤ length l.initial.acts) × (length l.acts ≡ length l.initial.acts) × Writing (outside (in_set l.mask) (slice l.from l.to l.initial.acts)) l.e l.initial.acts l.acts l.at (outside (in_set l.mask) (slice l.i l.to l.initial.acts))
-
-abbrev pub decreases-loop-i : goal.decreases-loop-i
-decreases-loop-i l = l.to - l.i
+abbrev pub invariant-loop-a : goal.invariant-loop-a
+invariant-loop-a l = Writing (outside (in_set l.mask) l.from) l.e l.initial.out l.out l.at (outside (in_set l.mask) (drop l.a-index l.from))

@@ -1,14 +1,8 @@
-use Prim.Native.Nat.{◌-◌, ◌≤◌}
-use mathlib.Core.Path.{◌≡◌}
-use lib.ListN.{length}
-use lib.Seq.{slice}
+use lib.ListN.{drop}
 use Rattle.actions.specs.Sets.{in_set}
 use Rattle.listing.specs.Combining.{pairs}
 use Rattle.listing.proofs.Writing.{Writing}
 use Rattle.listing.proofs.combining.put_pairs.Given as goal
 
-abbrev pub invariant-loop-i : goal.invariant-loop-i
-invariant-loop-i l = (l.i ≤ l.n) × (l.e ≤ l.at) × (l.at ≤ length l.initial.acts) × (length l.acts ≡ length l.initial.acts) × Writing (pairs (in_set l.mask) (slice 0 l.n l.initial.acts) (slice l.n l.b l.initial.acts)) l.e l.initial.acts l.acts l.at (pairs (in_set l.mask) (slice l.i l.n l.initial.acts) (slice l.n l.b l.initial.acts))
-
-abbrev pub decreases-loop-i : goal.decreases-loop-i
-decreases-loop-i l = l.n - l.i
+abbrev pub invariant-loop-x : goal.invariant-loop-x
+invariant-loop-x l = Writing (pairs (in_set l.mask) l.left l.right) l.e l.initial.out l.out l.at (pairs (in_set l.mask) (drop l.x-index l.left) l.right)

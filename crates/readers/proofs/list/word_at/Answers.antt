@@ -1,7 +1,12 @@
 -- A word is two bytes (`loaded_word`).
+use Rattle.std.proofs.Common.{◌≡◌, ◌∙◌, ◌+◌, ◌*◌, refl, arith}
+use Rattle.std.specs.Prelude.{slice_index}
 use Rattle.cells.specs.PreparingLaws.{loaded_word}
-use Rattle.std.proofs.Common.{arith}
 use Rattle.readers.proofs.list.word_at.Goals as goal
 
 pub returns : goal.returns
-returns c = (loaded_word _ _ _ _ (omega arith) c.byte.ensures.0 c.byte-2.ensures.0, omega (arith, c.byte.ensures.1, c.byte-2.ensures.1))
+returns c =
+    let s = c.args.list.now in
+    let i = c.args.i in
+    let e : c.from_le_bytes.result ≡ slice_index s (2 * i) + 256 * slice_index s (2 * i + 1) = omega (arith, c.from_le_bytes.ensures) in
+    (e ∙ loaded_word _ _ _ _ (omega arith) refl refl, omega arith)

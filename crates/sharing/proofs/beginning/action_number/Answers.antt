@@ -1,7 +1,6 @@
 -- The number of a small action is below 1,048,576, so the other answer is never asked for.
 use native.Mathlib.Omega.{arith}
 use Rattle.sharing.proofs.BeginningCodes.{never_large}
-use native.Mathlib.Omega.{arith}
 use Rattle.sharing.proofs.beginning.action_number.Goals as goal
 
 pub returns : goal.returns

@@ -3,4 +3,4 @@ use Rattle.steps.proofs.TakeCases.{size_below}
 use Rattle.steps.proofs.moving.take_move.Goals as goal
 
 pub returns-then-s-le256 : goal.returns-then-s-le256
-returns-then-s-le256 c = λ P E w b. c.take_short.ensures P E w (size_below c.if-s-le256.true P E w)
+returns-then-s-le256 c = λ P E w b. c.take_sized.ensures P E w (size_below c.if-s-le256.true P E w)

@@ -1,14 +1,8 @@
-use mathlib.Core.Path.{refl}
-use lib.ListN.{length-set}
-use Rattle.steps.proofs.Keeps.{keeping_start, keeping_next, keeping_end}
+-- The cells stand at the end of the words in front, and are copied to the front of those behind (`cells_kept`).
+use borrow.Author.Rules.{rules}
 use native.Mathlib.Omega.{arith}
+use Rattle.steps.proofs.Keeps.{cells_kept}
 use Rattle.steps.proofs.renewing.keep.Goals as goal
 
-pub loop-i-init : goal.loop-i-init
-loop-i-init c = (omega arith, refl, keeping_start _ _)
-
-pub loop-i-preserved : goal.loop-i-preserved
-loop-i-preserved c = (omega arith, simp length-set (omega arith), keeping_next _ _ _ _ c.loop-i-test.true (omega arith) c.loop-i.invariant.2)
-
 pub returns : goal.returns
-returns c = (c.loop-i.invariant.1, keeping_end _ _ _ _ c.loop-i-test.false c.loop-i.invariant.2)
+returns c = let s = c.split_at_mut-front in (search rules, cells_kept c.args.m.now s.result.0.now s.result.1.now c.copy_from_slice.new.self c.args.c s.ensures.value (omega arith) c.copy_from_slice.ensures.after)

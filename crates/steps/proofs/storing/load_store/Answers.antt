@@ -4,4 +4,4 @@ use Rattle.steps.proofs.Stores.{store_loaded}
 use Rattle.steps.proofs.storing.load_store.Goals as goal
 
 pub returns : goal.returns
-returns c = (c.load.ensures.same_length ∙ c.lay.ensures.0, store_loaded _ _ _ _ _ _ _ _ (λ i. (c.shared_slice_known-2-1.given i).fits) c.lay.ensures.0 c.lay.ensures.1 c.load.ensures)
+returns c = (c.load.ensures.same_length ∙ c.lay.ensures.0, store_loaded _ _ _ _ _ _ _ _ (λ i. (c.type_inv.memory i).fits) c.lay.ensures.0 c.lay.ensures.1 c.load.ensures)

@@ -1,11 +1,7 @@
-use Rattle.unfold.specs.PutsLaws.{from_word}
-use Prim.Native.Nat.{◌*◌, ◌%◌}
-use lib.ListN.{length-set}
+use mathlib.Core.Path.{◌∙◌}
 use native.Mathlib.Omega.{arith}
+use Rattle.unfold.proofs.RowCases.{from_bytes}
 use Rattle.unfold.proofs.rows.put.Goals as goal
 
-pub bounds-out-at-2 : goal.bounds-out-at-2
-bounds-out-at-2 c = omega (arith, length-set c.args.out.now (2 * c.args.at) (c.args.w % 256), c.requires.1)
-
 pub returns : goal.returns
-returns c = from_word _ _ _ c.requires.1
+returns c = from_bytes _ _ _ _ _ (omega arith) (c.copy_from_slice.ensures.after ∙ c.to_le_bytes.ensures)

@@ -1,0 +1,14 @@
+-- What a walk over a term is lent: it leaves the arrays in their places, as long as they were, and the store as it was; and what it answers.
+use Rattle.std.specs.Prelude.{◌≡◌, List, ℕ, length}
+use Rattle.derivation.specs.declared.arrays.Arrays.{Arrays}
+
+pub record Kept (b e : Arrays) : Type 0 where
+  pub store : e.store.now ≡ b.store.now
+  pub path : e.path.ghost_name ≡ b.path.ghost_name
+  pub acts : e.acts.ghost_name ≡ b.acts.ghost_name
+  pub path_length : length e.path.now ≡ length b.path.now
+  pub acts_length : length e.acts.now ≡ length b.acts.now
+
+-- D of the arrays that were b and are e: of the store, of number k, of the path array before and after, of the scratch array's length, and of the answer r.
+abbrev pub Over : (List ℕ → ℕ → List ℕ → List ℕ → ℕ → ℕ → Type 0) → ℕ → Arrays → Arrays → ℕ → Type 0
+Over D k b e r = D b.store.now k b.path.now e.path.now (length b.acts.now) r

@@ -1,0 +1,67 @@
+-- The number of each refusal, and the refusal of each number: the one is the other's inverse from 1 to 12.
+-- Document 01, the table under "Operations".
+use Rattle.std.specs.Prelude.{◌≡◌, refl, Bool, true, false, ◌||◌, List, [], ◌∷◌, ℕ, T, eqb}
+use Rattle.std.proofs.Common.{sym, subst, eqb→eq}
+use Rattle.eb3.specs.Refusal as named
+use Rattle.eb3.specs.Reading.{pick}
+use Rattle.eb3.specs.Answers.{Answer, refused}
+use Rattle.eb3.specs.Generic.Lists.{one_of}
+use Rattle.refusals.specs.declared.Refusal.{Refusal}
+use Rattle.refusals.specs.declared.Refusal.TheVariants.{Length, Block, Edition, Form, Reference, Kind, Size, Breadth, Space, Term, Stranger, NotOffered}
+
+abbrev pub number : Refusal → ℕ
+number Length = named.length
+number Block = named.block
+number Edition = named.edition
+number Form = named.form
+number Reference = named.reference
+number Kind = named.kind
+number Size = named.size
+number Breadth = named.breadth
+number Space = named.space
+number Term = named.term
+number Stranger = named.stranger
+number NotOffered = named.not_offered
+
+-- Only numbers from 1 to 12 are refusals'; any other gives the last.
+unfoldable pub refusal : ℕ → Refusal
+refusal k = pick (eqb k 1) Length (pick (eqb k 2) Block (pick (eqb k 3) Edition (pick (eqb k 4) Form (pick (eqb k 5) Reference (pick (eqb k 6) Kind (pick (eqb k 7) Size (pick (eqb k 8) Breadth (pick (eqb k 9) Space (pick (eqb k 10) Term (pick (eqb k 11) Stranger NotOffered))))))))))
+
+pub refusal_number : (r : Refusal) → refusal (number r) ≡ r
+unfolding refusal
+refusal_number Length = refl
+refusal_number Block = refl
+refusal_number Edition = refl
+refusal_number Form = refl
+refusal_number Reference = refl
+refusal_number Kind = refl
+refusal_number Size = refl
+refusal_number Breadth = refl
+refusal_number Space = refl
+refusal_number Term = refl
+refusal_number Stranger = refl
+refusal_number NotOffered = refl
+
+abbrev AllNumbers : List ℕ → Type 0
+AllNumbers [] = Unit {0}
+AllNumbers (n ∷ ns) = (number (refusal n) ≡ n) × AllNumbers ns
+
+among : (ns : List ℕ) → AllNumbers ns → (k : ℕ) → T (one_of ns k) → number (refusal k) ≡ k
+unfolding one_of
+among [] a k t = absurd t
+among (n ∷ ns) a k t = go (eqb k n) (λ u. subst (λ x. number (refusal x) ≡ x) (sym (eqb→eq k n u)) a.0) (among ns a.1 k) t
+  where
+    go : (b : Bool) → (T b → number (refusal k) ≡ k) → (T (one_of ns k) → number (refusal k) ≡ k) → T (b || one_of ns k) → number (refusal k) ≡ k
+    go true g h u = g tt
+    go false g h u = h u
+
+-- Present refuses by each of its numbers, and every other operation by some of these.
+pub number_refusal : (k : ℕ) → T (one_of named.of_present k) → number (refusal k) ≡ k
+unfolding refusal
+number_refusal = among named.of_present (refl, (refl, (refl, (refl, (refl, (refl, (refl, (refl, (refl, (refl, (refl, (refl, tt))))))))))))
+
+-- An answer that is refused by the number of refusal k.
+pub record RefusedBy {A : Type 0} (k : Refusal) (a : Answer A) : Type 0 where
+  pub code : ℕ
+  pub is : a ≡ refused code
+  pub named : k ≡ refusal code

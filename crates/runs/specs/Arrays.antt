@@ -1,0 +1,25 @@
+-- The arrays that a run works in, afterwards: they are the same arrays, and so as long as they were (document 01, "Operations": Run).
+use Rattle.std.specs.Prelude.{◌≡◌, length}
+use Rattle.std.proofs.Common.{refl, ◌∙◌}
+use Rattle.runs.specs.declared.scratch.Scratch.{Scratch}
+
+pub record SameArrays (s s' : Scratch) : Type 0 where
+  pub path_is : s'.path.ghost_name ≡ s.path.ghost_name
+  pub acts_is : s'.acts.ghost_name ≡ s.acts.ghost_name
+  pub mid_is : s'.mid.ghost_name ≡ s.mid.ghost_name
+  pub path_length : length s'.path.now ≡ length s.path.now
+  pub acts_length : length s'.acts.now ≡ length s.acts.now
+  pub mid_length : length s'.mid.now ≡ length s.mid.now
+
+pub arrays_same : {s : Scratch} → SameArrays s s
+arrays_same = record { path_is = refl; acts_is = refl; mid_is = refl; path_length = refl; acts_length = refl; mid_length = refl }
+
+pub arrays_then : {s s' s'' : Scratch} → SameArrays s s' → SameArrays s' s'' → SameArrays s s''
+arrays_then a b = record {
+  path_is = b.path_is ∙ a.path_is;
+  acts_is = b.acts_is ∙ a.acts_is;
+  mid_is = b.mid_is ∙ a.mid_is;
+  path_length = b.path_length ∙ a.path_length;
+  acts_length = b.acts_length ∙ a.acts_length;
+  mid_length = b.mid_length ∙ a.mid_length;
+}

@@ -1,0 +1,17 @@
+// The arrays that a run works in (document 01, "Operations": Run).
+ghost use Rattle.std.specs.Prelude.{◌≤◌, length};
+
+/// Lent arrays for what a step of a run finds on its way. What they hold before does not count: they are lent, so that a run clears
+/// them once and not at every move.
+#[derive(Drop)]
+pub struct Scratch<'a> {
+    /// For the path of a move.
+    pub path: &'a mut [u16],
+    /// For the numbers that finding a path takes.
+    pub acts: &'a mut [u32],
+    /// For the words of what has begun, where the term is held in few words.
+    pub mid: &'a mut [u16],
+    pub ghost short_path: { length path.now ≤ 65535 },
+    pub ghost few_acts: { length acts.now ≤ 131072 },
+    pub ghost short_mid: { length mid.now ≤ 65535 },
+}

@@ -1,0 +1,14 @@
+-- A shared term is spelled out by its front, its parts one behind the other (document 01, "Operations": Run writes the last term). The measure is twice the words
+-- at hand, and one more behind the front.
+use lib.ListN.{length}
+use Prim.Native.Nat.{◌+◌, ◌*◌}
+use Rattle.sharing.proofs.expanding.+expanding.Given as goal
+
+abbrev pub decreases-expand : goal.decreases-expand
+decreases-expand l = 2 * length l.s.now
+
+abbrev pub decreases-expand_beside : goal.decreases-expand_beside
+decreases-expand_beside l = 2 * length l.t.now + 1
+
+abbrev pub decreases-expand_then : goal.decreases-expand_then
+decreases-expand_then l = 2 * length l.t.now + 1

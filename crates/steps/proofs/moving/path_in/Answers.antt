@@ -1,0 +1,6 @@
+-- One walk, with room for a fixed count of numbers (`walked_in`).
+use Rattle.steps.proofs.TakeCases.{walked_in}
+use Rattle.steps.proofs.moving.path_in.Goals as goal
+
+pub returns : goal.returns
+returns g c = walked_in c.derive-r.ensures.0 c.derive-r.ensures.1
