@@ -23,7 +23,7 @@
  *   Terms       A given term comes with its exact length, EB3_TERM_BYTES(size), for the size that
  *               was answered when it was written; not with the length of the buffer it lies in.
  *   Machine     Addresses of 64 bits (this header refuses to compile for others).
- *   Linking     The library calls memcpy, memmove and memset, and nothing else: no heap, no files.
+ *   Linking     The library calls memcpy and memset, and nothing else: no heap, no files.
  * Nothing else is asked: whatever the bytes and numbers are, the call returns, and answers as said
  * below.
  *

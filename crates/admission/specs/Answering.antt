@@ -1,4 +1,4 @@
--- What the engine answers, in the specification's words: document 01's number or values for each case of an answer.
+-- What the engine answers, in the specification's words: the refusal of a number or document 01's values for each case of an answer.
 use Rattle.std.specs.Prelude.{List, ℕ, Ok, Err, Result}
 use Rattle.eb3.specs.Editions.{edition_1}
 use Rattle.eb3.specs.RuleReading.{read_rules}
@@ -11,7 +11,7 @@ use Rattle.refusals.specs.Numbers.{refusal}
 abbrev pub limits : Sizes → Limits
 limits S = record { cells = S.cells; reach = S.reach; breadth = S.breadth; size = S.size }
 
--- Admit: C, G, W and the start term's size, or the refusal's number.
+-- Admit: C, G, W and the start term's size, or the refusal of this number.
 unfoldable pub admitted : Answer Sizes → Result Limits Refusal
 admitted (refused k) = Err (refusal k)
 admitted (answered S) = Ok (limits S)

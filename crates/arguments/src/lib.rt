@@ -10,11 +10,14 @@ ghost use Rattle.eb3.specs.RuleReading.{argument_of, arguments_of};
 ghost use Rattle.scan.specs.Checking.{checked, last_of};
 ghost use Rattle.arguments.specs.Tables.{row, declared, constant_of_domain, variable_of_domain};
 
+use code_numbers::{CONSTANT, VARIABLE};
 use refusals::Refusal;
 use scan::{behind, front, last};
 
 // ── the tables ──
 
+// These three stay: they are public, and what is public keeps its promise; today's form is a cast in place.
+// A number of 32 bits as a number.
 pub fn wide32(x: u32) -> usize
     ensures { (result ≡ x) × (result < 4294967296) }
 {
@@ -153,10 +156,9 @@ fn check_argument(t: &[u16], tb: &[u32], vars: &[u16], d: usize) -> Result<usize
     if t.len() == 0 {
         return Err(Refusal::Form);
     }
-    let c = t[0];
-    match c {
-        1 => constant_argument(behind(t), tb, d),
-        2 => variable_argument(behind(t), vars, d),
+    match t[0] as usize {
+        CONSTANT => constant_argument(behind(t), tb, d),
+        VARIABLE => variable_argument(behind(t), vars, d),
         _ => Err(Refusal::Form),
     }
 }

@@ -1,7 +1,7 @@
 -- Cells that keep their values: in a function's turn the cell of an element is its old one where the expression is before f(x0), or asks whether x0 is
 -- another element; so copying the old cells, and computing one, makes all cells new (`kept_cells`, `named_past`, `named_one`).
 -- Document 01, "Memory and the history machine".
-use Rattle.std.specs.Prelude.{◌≡◌, refl, true, false, List, [], ◌∷◌, ◌++◌, ℕ, suc, ◌+◌, ◌-◌, ◌/◌, ◌%◌, ◌≤◌, ◌<◌, drop, get_or, set}
+use Rattle.std.specs.Prelude.{◌≡◌, refl, true, false, List, [], ◌∷◌, ◌++◌, ℕ, suc, ◌+◌, ◌-◌, ◌≤◌, ◌<◌, drop, get_or, set}
 use Rattle.std.proofs.Common.{sym, subst, ◌∙◌, arith, lit<, length-set, eq-eqb, ne_eqb}
 use Rattle.std.proofs.Math.Path.{ap}
 use Rattle.std.proofs.Math.Bool.{cond}
@@ -16,6 +16,7 @@ use Rattle.eb3.specs.Cells.{offset, cells_up_to}
 use Rattle.eb3.specs.Spelling.{data_words}
 use Rattle.scan.specs.Checking.{last_of}
 use Rattle.scan.specs.Laws.{last_behind}
+use Rattle.expressions.specs.declared.Valued.{Valued}
 use Rattle.expressions.specs.Stores.{stored, row_place, now_place, before_place, cell_in, reading_in, variable_in, environment_in}
 use Rattle.expressions.specs.Answering.{DataAt, Evaluated}
 use Rattle.expressions.specs.Laws.{data_parted}
@@ -167,8 +168,8 @@ module _ {t : List ℕ} {f left : ℕ} (T : Turn t f left) (m : List ℕ) (enter
     -- ── one element named ──
 
     -- d is what the element's name answers, a what its value does, u and v the words behind them.
-    module _ (asks : Tells true s AsksOne) (d : ℕ) (named : Evaluated (drop 4 s) m d) (u : List ℕ) (is_u : u ≡ last_of (d / 65536) s)
-        (a : ℕ) (valued : Evaluated u (set m 0 (d % 65536)) a) (v : List ℕ) (is_v : v ≡ last_of (a / 65536) u) (keeps : Tells true v (λ b. b ≡ kept_value f)) where
+    module _ (asks : Tells true s AsksOne) (d : Valued) (named : Evaluated (drop 4 s) m d) (u : List ℕ) (is_u : u ≡ last_of d.left s)
+        (a : Valued) (valued : Evaluated u (set m 0 d.value) a) (v : List ℕ) (is_v : v ≡ last_of a.left u) (keeps : Tells true v (λ b. b ≡ kept_value f)) where
       asks_here : AsksOne spelt
       asks_here = (asks ready.scope spelt ready.stands.0 stands_here).0 refl
 
@@ -193,7 +194,7 @@ module _ {t : List ℕ} {f left : ℕ} (T : Turn t f left) (m : List ℕ) (enter
       name_at : DataAt (drop 4 s) ready.scope name (data_words 1 yes_value ++ behind_yes)
       name_at = record { plain = ready.plain; in_scope = scoped.0.1; spelled = ap (drop 4) spelt_words }
 
-      name_word : d % 65536 ≡ encode 65535 (evaluate_data name (environment_in m))
+      name_word : d.value ≡ encode 65535 (evaluate_data name (environment_in m))
       name_word = (data_parted (drop 4 s) m d ready.scope (data_words 1 yes_value ++ behind_yes) named name name_at).word
 
       yes_at : DataAt u ready.scope yes_value behind_yes
@@ -204,14 +205,14 @@ module _ {t : List ℕ} {f left : ℕ} (T : Turn t f left) (m : List ℕ) (enter
             ∙ ap (last_of (length (data_words 1 yes_value ++ behind_yes))) spelt_words ∙ last_behind (asking 0 (data_words 1 name)) (data_words 1 yes_value ++ behind_yes);
       }
 
-      yes_word : a % 65536 ≡ encode 65535 (evaluate_data yes_value (environment_in (set m 0 (d % 65536))))
-      yes_word = (data_parted u (set m 0 (d % 65536)) a ready.scope behind_yes valued yes_value yes_at).word
+      yes_word : a.value ≡ encode 65535 (evaluate_data yes_value (environment_in (set m 0 d.value)))
+      yes_word = (data_parted u (set m 0 d.value) a ready.scope behind_yes valued yes_value yes_at).word
 
       no_at : DataAt v ready.scope no_value ready.stands.0
       no_at = record {
         plain = ready.plain;
         in_scope = scoped.2;
-        spelled = (data_parted u (set m 0 (d % 65536)) a ready.scope behind_yes valued yes_value yes_at).behind v is_v;
+        spelled = (data_parted u (set m 0 d.value) a ready.scope behind_yes valued yes_value yes_at).behind v is_v;
       }
 
       spelt_is : spelt ≡ If (Equal (Variable 0) name) yes_value (kept_value f)
@@ -227,43 +228,43 @@ module _ {t : List ℕ} {f left : ℕ} (T : Turn t f left) (m : List ℕ) (enter
           ap (λ y. evaluate_data y (environment_in (set m 0 x))) spelt_is
           ∙ (λ j. cond (equal (element_read m x o r l j) (naming_same m x o asks_here.named j)) (evaluate_data yes_value (environment_in (set m 0 x))) (evaluate_data (kept_value f) (environment_in (set m 0 x))))
 
-      one_word : (x : ℕ) → x < k → x ≡ d % 65536 → a % 65536 ≡ new_word x
+      one_word : (x : ℕ) → x < k → x ≡ d.value → a.value ≡ new_word x
       one_word x h e =
           let l : x < 65535 = omega (arith, small_element x h) in
           yes_word ∙ ap (λ y. encode 65535 (evaluate_data yes_value (environment_in (set m 0 y)))) (sym e)
           ∙ ap (λ q. encode 65535 (cond q (evaluate_data yes_value (environment_in (set m 0 x))) (evaluate_data (kept_value f) (environment_in (set m 0 x))))) (sym (is_named x _ l (e ∙ name_word)))
           ∙ ap (encode 65535) (sym (chosen x h))
 
-      other_word : (x : ℕ) → x < k → (x ≡ d % 65536 → ⊥) → stored m (from + x) ≡ new_word x
+      other_word : (x : ℕ) → x < k → (x ≡ d.value → ⊥) → stored m (from + x) ≡ new_word x
       other_word x h n =
           kept_word x h
           ∙ ap (λ q. encode 65535 (cond q (evaluate_data yes_value (environment_in (set m 0 x))) (evaluate_data (kept_value f) (environment_in (set m 0 x))))) (sym (not_named x _ (λ e. n (e ∙ sym name_word))))
           ∙ ap (encode 65535) (sym (chosen x h))
 
-      module _ (M' : List ℕ) (copied : Copied (set m 0 (d % 65536)) M' from at k) where
+      module _ (M' : List ℕ) (copied : Copied (set m 0 d.value) M' from at k) where
         copied_word : (x : ℕ) → x < k → stored M' (at + x) ≡ stored m (from + x)
-        copied_word x h = copied.copies later x h ∙ stored_else m 0 (from + x) (d % 65536) (λ e. let z : ⊥ = omega (arith, later, placed.begin) in z)
+        copied_word x h = copied.copies later x h ∙ stored_else m 0 (from + x) d.value (λ e. let z : ⊥ = omega (arith, later, placed.begin) in z)
 
-        copied_new : (x : ℕ) → x < k → (x ≡ d % 65536 → ⊥) → stored M' (at + x) ≡ new_word x
+        copied_new : (x : ℕ) → x < k → (x ≡ d.value → ⊥) → stored M' (at + x) ≡ new_word x
         copied_new x h n = copied_word x h ∙ other_word x h n
 
         below : (i : ℕ) → 1 ≤ i → i < at → stored M' i ≡ stored m i
-        below i h l = copied.kept_below i l ∙ stored_else m 0 i (d % 65536) (λ e. let z : ⊥ = omega arith in z)
+        below i h l = copied.kept_below i l ∙ stored_else m 0 i d.value (λ e. let z : ⊥ = omega arith in z)
 
         above : (i : ℕ) → at + k ≤ i → stored M' i ≡ stored m i
-        above i h = copied.kept_above i h ∙ stored_else m 0 i (d % 65536) (λ e. let z : ⊥ = omega (arith, placed.begin) in z)
+        above i h = copied.kept_above i h ∙ stored_else m 0 i d.value (λ e. let z : ⊥ = omega (arith, placed.begin) in z)
 
-        pub none_named : k ≤ d % 65536 → Partly T.A T.o T.b T.M M' (offset T.A (suc f))
-        none_named h = all_new M' (copied.same_length ∙ length-set m 0 (d % 65536)) (λ x l. copied_new x l (λ e. let z : ⊥ = omega arith in z)) below above
+        pub none_named : k ≤ d.value → Partly T.A T.o T.b T.M M' (offset T.A (suc f))
+        none_named h = all_new M' (copied.same_length ∙ length-set m 0 d.value) (λ x l. copied_new x l (λ e. let z : ⊥ = omega arith in z)) below above
 
-        pub one_named : d % 65536 < k → at + k ≤ length m → Partly T.A T.o T.b T.M (set M' (at + d % 65536) (a % 65536)) (offset T.A (suc f))
-        one_named h room = all_new (set M' (at + d % 65536) (a % 65536)) (length-set M' (at + d % 65536) (a % 65536) ∙ copied.same_length ∙ length-set m 0 (d % 65536))
-            (λ x l. cell x l (ℕ_discrete x (d % 65536)))
-            (λ i l q. stored_else M' (at + d % 65536) i (a % 65536) (λ e. let z : ⊥ = omega arith in z) ∙ below i l q)
-            (λ i l. stored_else M' (at + d % 65536) i (a % 65536) (λ e. let z : ⊥ = omega arith in z) ∙ above i l)
+        pub one_named : d.value < k → at + k ≤ length m → Partly T.A T.o T.b T.M (set M' (at + d.value) a.value) (offset T.A (suc f))
+        one_named h room = all_new (set M' (at + d.value) a.value) (length-set M' (at + d.value) a.value ∙ copied.same_length ∙ length-set m 0 d.value)
+            (λ x l. cell x l (ℕ_discrete x d.value))
+            (λ i l q. stored_else M' (at + d.value) i a.value (λ e. let z : ⊥ = omega arith in z) ∙ below i l q)
+            (λ i l. stored_else M' (at + d.value) i a.value (λ e. let z : ⊥ = omega arith in z) ∙ above i l)
           where
-            cell : (x : ℕ) → x < k → Dec (x ≡ d % 65536) → stored (set M' (at + d % 65536) (a % 65536)) (at + x) ≡ new_word x
+            cell : (x : ℕ) → x < k → Dec (x ≡ d.value) → stored (set M' (at + d.value) a.value) (at + x) ≡ new_word x
             cell x l (yes e) =
-                ap (λ y. stored (set M' (at + d % 65536) (a % 65536)) (at + y)) e
-                ∙ stored_there M' (at + d % 65536) (a % 65536) (omega (arith, copied.same_length, length-set m 0 (d % 65536))) ∙ one_word x l e
-            cell x l (no n) = stored_else M' (at + d % 65536) (at + x) (a % 65536) (λ e. n (omega arith)) ∙ copied_new x l n
+                ap (λ y. stored (set M' (at + d.value) a.value) (at + y)) e
+                ∙ stored_there M' (at + d.value) a.value (omega (arith, copied.same_length, length-set m 0 d.value)) ∙ one_word x l e
+            cell x l (no n) = stored_else M' (at + d.value) (at + x) a.value (λ e. n (omega arith)) ∙ copied_new x l n

@@ -1,11 +1,11 @@
 -- Laws of filling one function's cells in each way: by copies of old cells, by copies and one value, or element by element; and of the loops that do it.
 -- Document 01, "Memory and the history machine".
-use Rattle.std.specs.Prelude.{◌≡◌, refl, true, List, ℕ, ◌+◌, ◌-◌, ◌*◌, ◌/◌, ◌%◌, ◌≤◌, ◌<◌, length, drop, get_or, set}
+use Rattle.std.specs.Prelude.{◌≡◌, refl, true, List, ℕ, ◌+◌, ◌*◌, ◌≤◌, ◌<◌, length, drop, get_or, set}
 use Rattle.std.proofs.Common.{sym, ap, subst, ◌∙◌, arith, lit<, length-set}
 use Rattle.std.proofs.Math.Decide.{ℕ_discrete, dec_lt}
 use Rattle.std.proofs.Math.ListN.{get_or-eq_default}
-use Rattle.std.specs.List.{CopiedTo, SameBelow, SameFrom}
 use Rattle.scan.specs.Checking.{last_of}
+use Rattle.expressions.specs.declared.Valued.{Valued}
 use Rattle.expressions.specs.Stores.{stored, row_place, before_place}
 use Rattle.expressions.specs.Answering.{Evaluated}
 use Rattle.expressions.specs.ValueLaws.{any_default}
@@ -53,16 +53,6 @@ module _ (m : List ℕ) (from at : ℕ) where
   pub copy_end : (M' : List ℕ) (x k : ℕ) → x ≤ k → k ≤ x → Copied m M' from at x → Copied m M' from at k
   copy_end M' x k h l r = let e : x ≡ k = omega arith in subst (Copied m M' from at) e r
 
--- What copying words within a slice says of each index.
-pub copied_within : (m M' : List ℕ) (from at k : ℕ) → length M' ≡ length m → CopiedTo m M' from at ((from + k) - from) → SameBelow m M' at → SameFrom m M' (at + ((from + k) - from)) → Copied m M' from at k
-unfolding stored
-copied_within m M' from at k same there below above = record {
-  same_length = same;
-  copies = λ l x h. there (at + x) 65535 (omega arith) (omega arith) ∙ (let e : from + ((at + x) - at) ≡ from + x = omega arith in ap (λ i. get_or m i 65535) e);
-  kept_below = λ i h. below i 65535 h;
-  kept_above = λ i h. above i 65535 (omega arith);
-}
-
 -- ── element by element ──
 
 -- Some cells are new, x of them, whatever function they are of.
@@ -73,9 +63,9 @@ module _ (s m : List ℕ) (at k : ℕ) where
   pub each_start : Begins s at k m m 0
   each_start f t left placed T entered = entered
 
-  pub each_next : (M' : List ℕ) (x r : ℕ) → x < k → Evaluated s (set M' 0 x) r → Begins s at k m M' x → Begins s at k m (set (set M' 0 x) (at + x) (r % 65536)) (x + 1)
+  pub each_next : (M' : List ℕ) (x : ℕ) (r : Valued) → x < k → Evaluated s (set M' 0 x) r → Begins s at k m M' x → Begins s at k m (set (set M' 0 x) (at + x) r.value) (x + 1)
   each_next M' x r h evaluated begins f t left placed T entered =
-      subst (λ i. Reached T (set (set M' 0 x) (i + x) (r % 65536)) (x + 1)) (sym placed.begin)
+      subst (λ i. Reached T (set (set M' 0 x) (i + x) r.value) (x + 1)) (sym placed.begin)
       (turn_next T m entered k (stored m (row_place f + 1)) placed.size refl M' x r s (begins f t left placed T entered) h placed.expression_at evaluated)
 
   pub each_end : (M' : List ℕ) (x : ℕ) → x ≤ k → k ≤ x → Begins s at k m M' x → (f : ℕ) → NewCells f s at k m M'
@@ -123,10 +113,10 @@ module _ (f : ℕ) (s m : List ℕ) (from at k : ℕ) (is_from : from ≡ before
   all_kept M' tells copied t left placed T entered = kept_cells T m entered s at k placed from is_from (store_words m words) tells M' copied
 
   -- d is what the element's name answers, a what its value does, u and v the words behind them
-  module _ (asks : Tells true s AsksOne) (d : ℕ) (named : Evaluated (drop 4 s) m d) (u : List ℕ) (is_u : u ≡ last_of (d / 65536) s)
-      (a : ℕ) (valued : Evaluated u (set m 0 (d % 65536)) a) (v : List ℕ) (is_v : v ≡ last_of (a / 65536) u) (keeps : Tells true v (λ b. b ≡ kept_value f)) (M' : List ℕ) (copied : Copied (set m 0 (d % 65536)) M' from at k) where
-    pub named_past : k ≤ d % 65536 → NewCells f s at k m M'
+  module _ (asks : Tells true s AsksOne) (d : Valued) (named : Evaluated (drop 4 s) m d) (u : List ℕ) (is_u : u ≡ last_of d.left s)
+      (a : Valued) (valued : Evaluated u (set m 0 d.value) a) (v : List ℕ) (is_v : v ≡ last_of a.left u) (keeps : Tells true v (λ b. b ≡ kept_value f)) (M' : List ℕ) (copied : Copied (set m 0 d.value) M' from at k) where
+    pub named_past : k ≤ d.value → NewCells f s at k m M'
     named_past h t left placed T entered = none_named T m entered s at k placed from is_from (store_words m words) asks d named u is_u a valued v is_v keeps M' copied h
 
-    pub named_one : d % 65536 < k → at + k ≤ length m → NewCells f s at k m (set M' (at + d % 65536) (a % 65536))
+    pub named_one : d.value < k → at + k ≤ length m → NewCells f s at k m (set M' (at + d.value) a.value)
     named_one h room t left placed T entered = one_named T m entered s at k placed from is_from (store_words m words) asks d named u is_u a valued v is_v keeps M' copied h room

@@ -4,7 +4,7 @@ use Rattle.std.specs.Prelude.{◌≡◌, refl, List, [], ◌∷◌, ◌≢◌, s
 use Rattle.std.proofs.Common.{sym, ◌∙◌, mul-le-mul_left, add-one, lit<, get_or-set_same, get_or-set_other}
 use Rattle.std.proofs.Math.Path.{ap, subst}
 use Rattle.std.proofs.Math.Option.{Option, none, some}
-use Prim.Native.Nat.{ℕ, zero, suc, ◌+◌, ◌*◌, ◌%◌, ◌≤◌, ◌<◌}
+use Prim.Native.Nat.{ℕ, zero, suc, ◌+◌, ◌*◌, ◌≤◌, ◌<◌}
 use native.Mathlib.Omega.{arith}
 use Rattle.std.proofs.Math.Decide.{ℕ_discrete}
 use Rattle.std.proofs.Math.ListN.{length, get_or, length-set}
@@ -18,6 +18,7 @@ use Rattle.eb3.proofs.Laws.Attributes.{apply_cong}
 use Rattle.eb3.specs.Cells.{cell_count, offset, total_cells, cell_at, cells_up_to}
 use Rattle.eb3.proofs.Laws.Cells.{renewed}
 use Rattle.scan.specs.Checking.{last_of}
+use Rattle.expressions.specs.declared.Valued.{Valued}
 use Rattle.expressions.specs.Stores.{stored, row_place, now_place, before_place, cell_in, reading_in, variable_in, environment_in}
 use Rattle.expressions.specs.Answering.{DataAt, Evaluated}
 use Rattle.expressions.specs.Laws.{data_parted, data_at_most}
@@ -173,7 +174,7 @@ module _ {t : List ℕ} {f left : ℕ} (T : Turn t f left) (m : List ℕ) (enter
       let e : offset T.A f + x ≡ offset T.A (suc f) = omega (arith, next_offset T.A f, count_here) in
       subst (Partly T.A T.o T.b T.M M') e r
 
-  module _ (M' : List ℕ) (x r : ℕ) (s : List ℕ) (reached : Reached T M' x) (h : x < k) (is_s : s ≡ last_of left t) (evaluated : Evaluated s (set M' 0 x) r) where
+  module _ (M' : List ℕ) (x : ℕ) (r : Valued) (s : List ℕ) (reached : Reached T M' x) (h : x < k) (is_s : s ≡ last_of left t) (evaluated : Evaluated s (set M' 0 x) r) where
     element_here : x < stored T.M (row_place f)
     element_here = omega (arith, size_here)
 
@@ -183,15 +184,15 @@ module _ {t : List ℕ} {f left : ℕ} (T : Turn t f left) (m : List ℕ) (enter
     data_here : DataAt s ready.scope (expression (function T.A f) T.o) ready.stands.0
     data_here = record { plain = ready.plain; in_scope = ready.in_scope; spelled = is_s ∙ ap (λ n. last_of n t) T.place ∙ ready.stands.1 }
 
-    word_here : r % 65536 ≡ encode 65535 (get_or (cells_up_to T.A T.o T.b (number_of_functions T.A)) (offset T.A f + x) undefined)
+    word_here : r.value ≡ encode 65535 (get_or (cells_up_to T.A T.o T.b (number_of_functions T.A)) (offset T.A f + x) undefined)
     word_here = (data_parted s (set M' 0 x) r ready.scope ready.stands.0 evaluated (expression (function T.A f) T.o) data_here).word
         ∙ ap (encode 65535) (turn_value T M' x x reached element_here)
 
     abbrev M''' : List ℕ
-    M''' = set (set M' 0 x) (36 + p + x) (r % 65536)
+    M''' = set (set M' 0 x) (36 + p + x) r.value
 
     two_else : (i : ℕ) → 1 ≤ i → i ≢ 36 + p + x → stored M''' i ≡ stored M' i
-    two_else i l n = stored_else (set M' 0 x) (36 + p + x) i (r % 65536) n ∙ stored_else M' 0 i x (λ e. let z : ⊥ = omega arith in z)
+    two_else i l n = stored_else (set M' 0 x) (36 + p + x) i r.value n ∙ stored_else M' 0 i x (λ e. let z : ⊥ = omega arith in z)
 
     Cell : ℕ → Type 0
     Cell c = (stored M''' (36 + c) ≡ encode 65535 (get_or (cells_up_to T.A T.o T.b (number_of_functions T.A)) c undefined))
@@ -202,7 +203,7 @@ module _ {t : List ℕ} {f left : ℕ} (T : Turn t f left) (m : List ℕ) (enter
     cell_here c l (yes e) =
         let q : 36 + c ≡ 36 + p + x = omega (arith, begin_here) in
         let w : 36 + p + x < length (set M' 0 x) = omega (arith, turn_room, length-set M' 0 x, reached.same_length, entered.same_length) in (
-          ap (stored M''') q ∙ stored_there (set M' 0 x) (36 + p + x) (r % 65536) w ∙ word_here
+          ap (stored M''') q ∙ stored_there (set M' 0 x) (36 + p + x) r.value w ∙ word_here
               ∙ ap (λ i. encode 65535 (get_or (cells_up_to T.A T.o T.b (number_of_functions T.A)) i undefined)) (sym e),
           subst (λ i. AtMost 65534 (get_or (cells_up_to T.A T.o T.b (number_of_functions T.A)) i undefined)) (sym e) (value_small T M' x x reached element_here),
         )
@@ -213,7 +214,7 @@ module _ {t : List ℕ} {f left : ℕ} (T : Turn t f left) (m : List ℕ) (enter
     pub turn_next : Reached T M''' (x + 1)
     unfolding Cell
     turn_next = record {
-      same_length = length-set (set M' 0 x) (36 + p + x) (r % 65536) ∙ length-set M' 0 x ∙ reached.same_length;
+      same_length = length-set (set M' 0 x) (36 + p + x) r.value ∙ length-set M' 0 x ∙ reached.same_length;
       begun = record {
         words = λ c l. (cell_here c l (ℕ_discrete c (offset T.A f + x))).0;
         small = λ c l. (cell_here c l (ℕ_discrete c (offset T.A f + x))).1;

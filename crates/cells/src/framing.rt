@@ -9,12 +9,23 @@ ghost use Rattle.cells.specs.Turns.{FunctionFilled};
 use expressions::{eval_data, word};
 use scan::last;
 
+// The codes as words of the stream.
+const VARIABLE: u16 = code_numbers::VARIABLE as u16;
+
+const IF: u16 = code_numbers::IF as u16;
+
+const NOW: u16 = code_numbers::NOW as u16;
+
+const BEFORE: u16 = code_numbers::BEFORE as u16;
+
+const EQUAL: u16 = code_numbers::EQUAL as u16;
+
 // Whether before f(x0) stands at the front: the element keeps its value.
 fn keeps(s: &[u16], f: usize) -> bool
     ensures { Tells result s.now (λ d. d ≡ kept_value f) }
 {
     match s {
-        [7, g, 2, 0, ..] => *g as usize == f,
+        [BEFORE, g, VARIABLE, 0, ..] => *g as usize == f,
         _ => false,
     }
 }
@@ -25,8 +36,8 @@ fn names_one(s: &[u16]) -> bool
     ensures { Tells result s.now AsksOne × (result ≡ true → 8 ≤ length s.now) }
 {
     match s {
-        [5, 8, 2, 0, 2, i, _, _, ..] => *i != 0,
-        [5, 8, 2, 0, 6 | 7, _, 2, i, ..] => *i != 0,
+        [IF, EQUAL, VARIABLE, 0, VARIABLE, i, _, _, ..] => *i != 0,
+        [IF, EQUAL, VARIABLE, 0, NOW | BEFORE, _, VARIABLE, i, ..] => *i != 0,
         _ => false,
     }
 }
@@ -49,7 +60,7 @@ fn fill_each(s: &[u16], m: &mut [u16], at: usize, k: usize)
 {
     for x in 0..k {
         m[0] = x as u16;
-        let v = eval_data(s, m) % 65536;
+        let v = eval_data(s, m).value;
         m[at + x] = v as u16;
     }
 }
@@ -59,15 +70,14 @@ fn fill_named(s: &[u16], m: &mut [u16], f: usize, from: usize, at: usize, k: usi
     requires { (8 ≤ length s.now) × (length s.now ≤ 65535) × (36 ≤ at) × (at + k ≤ length m.old) × (from + k ≤ length m.old) × (k < 65536) × (from ≡ before_place m.old + stored m.old (row_place f + 1)) × Tells true s.now AsksOne }
     ensures { (length m.new ≡ length m.old) × NewCells f s.now at k m.old m.new }
 {
-    let d = eval_data(&s[4..], m);
-    let e = d % 65536;
-    m[0] = e as u16;
-    let t = last(s, d / 65536);
-    let a = eval_data(t, m);
-    if keeps(last(t, a / 65536), f) {
+    let named = eval_data(&s[4..], m);
+    m[0] = named.value as u16;
+    let t = last(s, named.left);
+    let valued = eval_data(t, m);
+    if keeps(last(t, valued.left), f) {
         copy_cells(m, from, at, k);
-        if e < k {
-            m[at + e] = (a % 65536) as u16;
+        if named.value < k {
+            m[at + named.value] = valued.value as u16;
         }
         return;
     }

@@ -2,7 +2,7 @@
 // (document 01, "Memory and the history machine").
 #![tactic(auto)]
 
-ghost use Rattle.std.specs.Prelude.{◌≡◌, ◌+◌, ◌*◌, ◌%◌, ◌≤◌, ◌<◌, length};
+ghost use Rattle.std.specs.Prelude.{◌≡◌, ◌+◌, ◌*◌, ◌%◌, ◌≤◌, ◌<◌, length, get_or};
 ghost use Rattle.std.proofs.Math.Option.{Option};
 ghost use Rattle.eb3.specs.Expressions.{Reading};
 ghost use Rattle.eb3.specs.Terms.{VisibleAction};
@@ -11,7 +11,7 @@ ghost use Rattle.cells.specs.Filling.{Filling, Filled};
 ghost use Rattle.cells.specs.Preparing.{Prepared, ready_word, Loaded, Saved};
 ghost use Rattle.cells.specs.PreparingLaws.{Loading};
 
-use arguments::entry;
+use arguments::{entry, functions, labels};
 use framing::fill_function;
 use writing::put_words;
 
@@ -35,6 +35,22 @@ pub struct Functions<'a> {
     pub ghost narrow: { width ≤ 256 },
     pub ghost few: { count ≤ 16 },
     pub ghost few_cells: { cells ≤ 65499 },
+}
+
+impl<'a> Functions<'a> {
+    /// The functions that a rule set's tables and directory are of: a row has three words, and one more for each label.
+    pub fn of(words: &'a [u16], tables: &[u32], directory: &'a [u32], cells: usize) -> Functions<'a>
+        requires { (length words.now ≤ 65535) × (cells ≤ 1024) × (get_or tables.now 17 0 ≤ 64) × (get_or tables.now 210 0 ≤ 16) }
+        ensures { (result.words.now ≡ words.now) × (result.directory.now ≡ directory.now) × (result.width ≡ 3 + get_or tables.now 17 0) × (result.count ≡ get_or tables.now 210 0) × (result.cells ≡ cells) }
+    {
+        Functions {
+            words,
+            directory,
+            width: 3 + labels(tables),
+            count: functions(tables),
+            cells,
+        }
+    }
 }
 
 // All cells, by the expressions in column j of the directory: function by function, element by element. Word 0 of the store is the

@@ -13,6 +13,9 @@ ghost use Rattle.codes.specs.Table.{operands_after, moving_code};
 ghost use Rattle.codes.specs.Shapes.{width_of, two_parameters, arity_of, more_words, argument_count, more_operands, operand_count};
 ghost use Rattle.codes.specs.Rows.{Piece, of_term, RowAt};
 
+use code_numbers::{
+    ACTION, BEFORE, CALL, CONSTANT, DONE, EQUAL, GUARD, INTERNAL, NOW, TRUE, UNDEFINED,
+};
 use refusals::Refusal;
 
 // What the words before a place leave to come there. A rule term is a process's; a running term has no variables, quantifiers or calls, but may be done.
@@ -29,12 +32,12 @@ pub enum Due {
 pub fn refusal(w: u16, due: Due) -> Option<Refusal>
     ensures { result ≡ refused_as (refusal_of due w) }
 {
-    match (due, w) {
-        (Due::Data, 0..=7) => None,
-        (Due::Condition, 8..=13) => None,
-        (Due::RuleTerm, 20..=29) => None,
-        (Due::RunningTerm, 20..=26) => None,
-        (Due::RunningTerm, 30) => None,
+    match (due, w as usize) {
+        (Due::Data, UNDEFINED..=BEFORE) => None,
+        (Due::Condition, EQUAL..=TRUE) => None,
+        (Due::RuleTerm, INTERNAL..=CALL) => None,
+        (Due::RunningTerm, INTERNAL..=GUARD) => None,
+        (Due::RunningTerm, DONE) => None,
         _ => Some(Refusal::Form),
     }
 }
@@ -66,8 +69,8 @@ pub fn arity(shape: usize, f: usize) -> usize
 
 // ── what follows a code ──
 
-// The table in three numbers, since shifts cost less than a match by cases, which would be a jump that no machine foresees: two bits for each code's
-// operands, a bit for each code that one word follows, and a bit for the code that a mask's four words follow.
+// The table in three numbers: two bits for each code's operands, a bit for each code that one word follows, and a bit for the code that a mask's four
+// words follow. Stays: shifts are faster than a match by cases, which would be a jump that no machine foresees.
 const OPERANDS: usize = 11716395933523584;
 
 const ONE_WORD: usize = 2097350;
@@ -93,9 +96,9 @@ fn word(t: &[u16], i: usize) -> usize
 fn arguments(t: &[u16], shape: usize) -> usize
     ensures { (result ≡ argument_count shape t.now) × (result ≤ 2) }
 {
-    if word(t, 1) != 1 {
+    if word(t, 1) != CONSTANT {
         0
-    } else if word(t, 2 + width(shape)) != 1 {
+    } else if word(t, 2 + width(shape)) != CONSTANT {
         1
     } else {
         2
@@ -107,8 +110,8 @@ fn more_operands(w: usize, t: &[u16], shape: usize) -> usize
     ensures { (result ≡ more_operands shape w t.now) × (result ≤ 2) }
 {
     match w {
-        6 | 7 => second_parameter(shape, word(t, 0)),
-        21 => arguments(t, shape),
+        NOW | BEFORE => second_parameter(shape, word(t, 0)),
+        ACTION => arguments(t, shape),
         _ => 0,
     }
 }
@@ -143,7 +146,7 @@ pub fn skip_row(s: &[u16], n: usize, shape: usize) -> usize
             return 0;
         }
         let w = s[at] as usize;
-        if 30 < w {
+        if DONE < w {
             return 0;
         }
         due = due - 1 + operands(w, &s[at + 1..], shape);
@@ -162,7 +165,7 @@ pub fn skip(s: &[u16], shape: usize) -> usize
 
 // ── terms that can never move ──
 
-// A bit for each code with which a term begins that has a move whatever its operands are.
+// A bit for each code with which a term begins that has a move whatever its operands are. Stays: a shift, as above.
 const MOVING: usize = 53477376;
 
 fn moving(w: usize) -> bool
@@ -186,7 +189,7 @@ pub fn idle(s: &[u16], shape: usize) -> bool
             return false;
         }
         let w = s[at] as usize;
-        if 30 < w {
+        if DONE < w {
             return false;
         }
         if moving(w) {

@@ -6,6 +6,7 @@ ghost use Rattle.derivation.specs.Searching.{nth_place, nth_pair, LocatedBy};
 use actions::{in_set, join};
 
 // From here on an answer says how much of k is left. Listing answers with it that there was no room.
+// Stays: measured with an enum for the sides, together with the answers of the walk (FULL in lib.rt).
 pub const PASSED: usize = 1099511627776;
 
 // The place of the k-th number that passes a test.

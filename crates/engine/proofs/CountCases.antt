@@ -13,7 +13,7 @@ use Rattle.eb3.specs.Blocks.{stream, open_blocks}
 use Rattle.eb3.specs.Admission.{ended, within_limits, admission}
 use Rattle.eb3.specs.Memory.{cell_room}
 use Rattle.eb3.proofs.Laws.Sizes.{moves_below_breadth}
-use Rattle.eb3.specs.Answers.{refused, answered, and_then}
+use Rattle.eb3.specs.Answers.{answered, and_then}
 use Rattle.eb3.specs.Operations.{cells_needed, cells_given, listed, term_in, count}
 use Rattle.listing.specs.Listing.{holding}
 use Rattle.steps.specs.Counting.{Whole}

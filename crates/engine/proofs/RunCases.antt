@@ -9,7 +9,7 @@ use Rattle.eb3.specs.Blocks.{stream, open_blocks}
 use Rattle.eb3.specs.Bytes.{word_count}
 use Rattle.eb3.specs.Memory.{cell_room}
 use Rattle.eb3.specs.Admission.{ended, within_limits, admission}
-use Rattle.eb3.specs.Answers.{refused, and_then}
+use Rattle.eb3.specs.Answers.{and_then}
 use Rattle.eb3.specs.Operations.{main_reach, cells_needed}
 use Rattle.declarations.specs.Directory.{Directory}
 use Rattle.mains.specs.Mains.{RunsMain}

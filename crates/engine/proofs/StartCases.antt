@@ -13,7 +13,7 @@ use Rattle.eb3.specs.Spelling.{words}
 use Rattle.eb3.specs.Bytes.{written}
 use Rattle.eb3.specs.Unfolding.{unfold_main}
 use Rattle.eb3.specs.Admission.{ended, within_limits, admission}
-use Rattle.eb3.specs.Answers.{refused, and_then}
+use Rattle.eb3.specs.Answers.{and_then}
 use Rattle.eb3.proofs.Laws.Sizes.{size_below_reach}
 use Rattle.eb3.proofs.Laws.Spelling.{words_length}
 use Rattle.eb3.proofs.Laws.MainRunning.{main_running}

@@ -1,13 +1,11 @@
 -- A case for each way that a step from given cells returns (document 01, "Operations": Move and Present).
 use mathlib.Core.Path.{◌≡◌, refl, ap, sym, ◌∙◌, subst}
-use mathlib.Core.Bool.{Bool, true, false}
 use mathlib.Core.List.{List}
 use mathlib.Core.Option.{Option as Maybe, none, some}
-use Prim.Native.Nat.{ℕ, ◌+◌, ◌%◌, ◌≤◌, ◌<◌}
+use Prim.Native.Nat.{ℕ, ◌+◌, ◌%◌, ◌≤◌}
 use native.Mathlib.Omega.{arith}
 use lib.ListN.{length, get_or, get_elem?}
 use Rattle.eb3.specs.Refusal
-use Rattle.eb3.specs.Generic.PositionsLaws.{beyond_none}
 use Rattle.eb3.specs.Values.{Value}
 use Rattle.eb3.specs.Terms.{Term, VisibleAction, Action, internal, visible}
 use Rattle.eb3.specs.Scopes.{Scope, guard_scope}
@@ -20,14 +18,14 @@ use Rattle.eb3.specs.Spelling.{words}
 use Rattle.eb3.specs.Bytes.{word_count, written}
 use Rattle.eb3.specs.Memory.{cell_room, memory_words}
 use Rattle.eb3.specs.WellFormedness.{WellFormedAction}
-use Rattle.eb3.proofs.Laws.Sizes.{size_below_reach, move_size, moves_below_breadth}
+use Rattle.eb3.proofs.Laws.Sizes.{size_below_reach, move_size}
 use Rattle.eb3.proofs.Laws.Running.{move_running, move_action}
 use Rattle.eb3.specs.Answers.{answered, Moved as Answer_moved, Written}
 use Rattle.eb3.specs.Operations.{cells_needed, cells_given, listed, numbered, writing, moved}
 use Rattle.eb3.specs.Answers.{or_refused}
 use Rattle.eb3.proofs.Laws.Editions.{width_is_1}
 use Rattle.actions.specs.Codes.{action_code, Small}
-use Rattle.actions.specs.CodesLaws.{visible_positive, few_arguments}
+use Rattle.actions.specs.CodesLaws.{visible_positive}
 use Rattle.actions.specs.ActionLaws.{action_small}
 use Rattle.listing.specs.Listing.{holding}
 use Rattle.cells.specs.Preparing.{Saved}
@@ -41,6 +39,8 @@ use Rattle.steps.specs.Taking.{taken_as, built_over, SuccessorFits, Took}
 use Rattle.engine.specs.declared.stepping.Step.{Step}
 use Rattle.given.specs.Giving.{Described}
 use Rattle.given.specs.GivingLaws.{described_ruled}
+use Rattle.given.specs.declared.asking.Wanted.{Wanted}
+use Rattle.given.specs.declared.asking.Wanted.TheVariants.{Number as Number_of, Action as Action_of}
 use Rattle.given.specs.Asking.{Chooses}
 use Rattle.engine.specs.Stepping.{move_at, told, moved_as, Done, moved_from}
 use Rattle.std.specs.Prelude.{Ok, Err, Result, Some, None, Option}
@@ -71,35 +71,30 @@ told_visible code y n l k x₀ x₁ z e el ek e₀ e₁ (visible a) h f =
 
 -- ── the wanted move ──
 
--- The number of a small action fits into a word of 32 bits.
-code_below : (ρ : Action) → Small ρ → action_code ρ < 4294967296
-unfolding action_code
-code_below internal h = omega arith
-code_below (visible a) h = omega (arith, h.0, few_arguments a.arguments h.1 h.2)
-
 at_found : (xs : List Move) (o : Maybe ℕ) (r : Option ℕ) → r ≡ found_at o → move_at xs r ≡ numbered xs o
 unfolding found_at
 at_found xs none r e = ap (move_at xs) e
 at_found xs (some k) r e = ap (move_at xs) e
 
-first_wanted : (s M : List ℕ) (x y : ℕ) (r : Option ℕ) → y ≡ x % 4294967296
-    → ((P : Scope) (E : Term) → Whole s P E → (ρ : Action) → Small ρ → y ≡ action_code ρ → r ≡ found_at (first_with ρ (moves (holding M) E)))
-    → (P : Scope) (E : Term) (choose : List Move → Maybe Move) → Whole s P E → Chooses true x choose → move_at (moves (holding M) E) r ≡ choose (moves (holding M) E)
-first_wanted s M x y r ey first P E choose w (ρ, small, ex, ec) =
-    let xs : List Move = moves (holding M) E in
-    let e : y ≡ action_code ρ = omega (arith, ey, ex, code_below ρ small) in
-    at_found xs (first_with ρ xs) r (first P E w ρ small e) ∙ ap (λ f. f xs) (sym ec)
+module _ (s M : List ℕ) (wanted : Wanted) where
+  -- What is said of the number found, whichever term the words are of.
+  abbrev Finds : Option ℕ → Type 0
+  Finds r = (P : Scope) (E : Term) (choose : List Move → Maybe Move) → Whole s P E → Chooses wanted choose → move_at (moves (holding M) E) r ≡ choose (moves (holding M) E)
 
-pub event_wanted : (b : Bool) → b ≡ true → (s M : List ℕ) (x y : ℕ) (r : Option ℕ) → y ≡ x % 4294967296
-    → ((P : Scope) (E : Term) → Whole s P E → (ρ : Action) → Small ρ → y ≡ action_code ρ → r ≡ found_at (first_with ρ (moves (holding M) E)))
-    → (P : Scope) (E : Term) (choose : List Move → Maybe Move) → Whole s P E → Chooses b x choose → move_at (moves (holding M) E) r ≡ choose (moves (holding M) E)
-event_wanted b eb s M x y r ey first P E choose w h = first_wanted s M x y r ey first P E choose w (subst (λ c. Chooses c x choose) eb h)
+  pub action_found : (code : ℕ) (r : Option ℕ) → wanted ≡ Action_of code
+      → ((P : Scope) (E : Term) → Whole s P E → (ρ : Action) → Small ρ → code ≡ action_code ρ → r ≡ found_at (first_with ρ (moves (holding M) E)))
+      → Finds r
+  action_found code r ew first P E choose w h = go (subst (λ x. Chooses x choose) ew h)
+    where
+      go : Chooses (Action_of code) choose → move_at (moves (holding M) E) r ≡ choose (moves (holding M) E)
+      go (ρ, small, ex, ec) =
+          let xs : List Move = moves (holding M) E in
+          at_found xs (first_with ρ xs) r (first P E w ρ small ex) ∙ ap (λ f. f xs) (sym ec)
 
-pub number_wanted : (b : Bool) → b ≡ false → (s M : List ℕ) (x : ℕ) (P : Scope) (E : Term) (choose : List Move → Maybe Move) → Whole s P E → Chooses b x choose
-    → move_at (moves (holding M) E) (Some x) ≡ choose (moves (holding M) E)
-number_wanted b eb s M x P E choose w h =
-    let e : choose ≡ (λ xs. get_elem? xs x) = subst (λ c. Chooses c x choose) eb h in
-    ap (λ f. f (moves (holding M) E)) (sym e)
+  pub number_found : (k : ℕ) → wanted ≡ Number_of k → Finds (Some k)
+  number_found k ew P E choose w h =
+      let e : choose ≡ (λ xs. get_elem? xs k) = subst (λ x. Chooses x choose) ew h in
+      ap (λ f. f (moves (holding M) E)) (sym e)
 
 -- ── the step ──
 
@@ -208,16 +203,16 @@ module _ (R : RuleSet) (memory B C : List ℕ) where
   }
 
 -- From the store that was loaded: by the move that was wanted there, or where none is.
-module _ (t T D s M memory : List ℕ) (w n c x : ℕ) (b : Bool) (q : Option ℕ) (ew : w ≡ 3 + get_or T 17 0) (en : n ≡ get_or T 210 0)
+module _ (t T D s M memory : List ℕ) (w n c : ℕ) (x : Wanted) (q : Option ℕ) (ew : w ≡ 3 + get_or T 17 0) (en : n ≡ get_or T 210 0)
     (loaded : (R : RuleSet) (t T : List ℕ) → Ruled R t T D w n c → c ≤ cell_room memory → Stored R (cells_given R memory) M)
-    (wanted : (P : Scope) (E : Term) (choose : List Move → Maybe Move) → Whole s P E → Chooses b x choose → move_at (moves (holding M) E) q ≡ choose (moves (holding M) E))
+    (wanted : (P : Scope) (E : Term) (choose : List Move → Maybe Move) → Whole s P E → Chooses x choose → move_at (moves (holding M) E) q ≡ choose (moves (holding M) E))
   where
     -- What a step answers and leaves, at the listed moves of the cells of the memory.
     abbrev pub SteppedAt : List ℕ → List ℕ → Result Step Refusal → List ℕ → List ℕ → Type 0
-    SteppedAt B C r B' C' = (R : RuleSet) (E : Term) (choose : List Move → Maybe Move) → Described R E t T D s → c ≡ cells_needed R → c ≤ cell_room memory → reach 1 E ≤ word_count B → c ≤ cell_room C → Chooses b x choose
+    SteppedAt B C r B' C' = (R : RuleSet) (E : Term) (choose : List Move → Maybe Move) → Described R E t T D s → c ≡ cells_needed R → c ≤ cell_room memory → reach 1 E ≤ word_count B → c ≤ cell_room C → Chooses x choose
         → Done (writing B C (or_refused Refusal.not_offered (choose (listed R E memory))) (moved R memory B C)) r B' C'
 
-    chosen_move : (R : RuleSet) (E : Term) (choose : List Move → Maybe Move) → Described R E t T D s → c ≡ cells_needed R → c ≤ cell_room memory → Chooses b x choose
+    chosen_move : (R : RuleSet) (E : Term) (choose : List Move → Maybe Move) → Described R E t T D s → c ≡ cells_needed R → c ≤ cell_room memory → Chooses x choose
         → Stored R (cells_given R memory) M × (move_at (listed R E memory) q ≡ choose (listed R E memory))
     chosen_move R E choose d ec enough asks =
         let cells : List Value = cells_given R memory in

@@ -17,7 +17,7 @@ use Rattle.refusals.specs.declared.Refusal.{Refusal}
 use Rattle.refusals.specs.declared.Refusal.TheVariants.{Space}
 use Rattle.refusals.specs.Numbers.{refusal, RefusedBy}
 
--- The number of moves, or the refusal's.
+-- The number of moves, or the refusal of this number.
 unfoldable pub counted_as : Answer ℕ → Result ℕ Refusal
 counted_as (refused k) = Err (refusal k)
 counted_as (answered n) = Ok n

@@ -10,7 +10,7 @@ use Rattle.eb3.specs.Bytes.{word_count}
 use Rattle.eb3.specs.Memory.{cell_room}
 use Rattle.eb3.specs.Reading.{pick}
 use Rattle.eb3.specs.Admission.{admission}
-use Rattle.eb3.specs.Answers.{refused, answered, Ran as Answer_ran, Written, unwritten}
+use Rattle.eb3.specs.Answers.{answered, Ran as Answer_ran, Written, unwritten}
 use Rattle.eb3.specs.Operations.{cells_needed, main_reach, term_fits, memory_fits, writing, ran, run, ScratchAfter}
 use Rattle.mains.specs.Mains.{RanRight}
 use Rattle.mains.specs.declared.Totals.{Totals}

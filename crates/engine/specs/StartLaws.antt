@@ -14,7 +14,7 @@ use Rattle.eb3.specs.Bytes.{written, word_count}
 use Rattle.eb3.specs.Memory.{cell_room, memory_words}
 use Rattle.eb3.specs.Reading.{pick}
 use Rattle.eb3.specs.Admission.{admission}
-use Rattle.eb3.specs.Answers.{refused, answered, Written, unwritten}
+use Rattle.eb3.specs.Answers.{answered, Written, unwritten}
 use Rattle.eb3.specs.Operations.{cells_needed, main_reach, term_fits, memory_fits, writing, started, start}
 use Rattle.engine.specs.Starting.{started_as, StartDone}
 use Rattle.refusals.specs.declared.Refusal.{Refusal}

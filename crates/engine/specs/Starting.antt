@@ -5,7 +5,7 @@ use Rattle.eb3.specs.Operations.{start}
 use Rattle.refusals.specs.declared.Refusal.{Refusal}
 use Rattle.refusals.specs.Numbers.{refusal}
 
--- The start term's size, or the refusal's number.
+-- The start term's size, or the refusal of this number.
 unfoldable pub started_as : Answer ℕ → Result ℕ Refusal
 started_as (refused k) = Err (refusal k)
 started_as (answered n) = Ok n

@@ -26,7 +26,12 @@ use Rattle.eb3.proofs.Laws.Editions.{width_is_1}
 use Rattle.actions.specs.Codes.{action_code, Small}
 use Rattle.actions.specs.ActionLaws.{action_small}
 use Rattle.given.specs.Giving.{given_in}
-use Rattle.given.specs.Asking.{asked_of, asked_as, Chooses}
+use Rattle.std.specs.Borrow.{Bor}
+use Rattle.given.specs.declared.asking.Request.{Request}
+use Rattle.given.specs.declared.asking.Request.TheVariants.{Move as Move_of, Event as Event_of}
+use Rattle.given.specs.declared.asking.Wanted.{Wanted}
+use Rattle.given.specs.declared.asking.Wanted.TheVariants.{Number as Number_of, Action as Action_of}
+use Rattle.given.specs.Asking.{asked_of, event_asked, asked_as, Chooses}
 use Rattle.engine.specs.Stepping.{moved_as, Done, stepped_from, stepped}
 use Rattle.refusals.specs.declared.Refusal.{Refusal}
 use Rattle.refusals.specs.declared.Refusal.TheVariants.{Space, Stranger}
@@ -50,9 +55,9 @@ module _ (rules term memory : List ℕ) (next_term next_memory : List ℕ) where
   from_admitted f (refused k) = refl
   from_admitted f (answered R) = both_known f R (term_in R term)
 
-  pub move_stepped : (k : ℕ) (event : List ℕ) → move rules term memory k next_term next_memory ≡ stepped rules term memory false k event next_term next_memory
+  pub move_stepped : (k : ℕ) → move rules term memory k next_term next_memory ≡ stepped rules term memory (Move_of k) next_term next_memory
   unfolding move stepped asked_of
-  move_stepped k event = from_admitted (λ R E. chosen R E memory next_term next_memory λ xs. get_elem? xs k) (admission rules)
+  move_stepped k = from_admitted (λ R E. chosen R E memory next_term next_memory λ xs. get_elem? xs k) (admission rules)
 
   event_known : (R : RuleSet) (E : Term) (a : Answer Action)
       → (writing next_term next_memory a λ ρ. chosen R E memory next_term next_memory (at_first ρ))
@@ -61,27 +66,27 @@ module _ (rules term memory : List ℕ) (next_term next_memory : List ℕ) where
   event_known R E (refused k) = refl
   event_known R E (answered ρ) = refl
 
-  pub present_stepped : (k : ℕ) (event : List ℕ) → present rules term memory event next_term next_memory ≡ stepped rules term memory true k event next_term next_memory
+  pub present_stepped : (event : Bor (List ℕ)) → present rules term memory event.now next_term next_memory ≡ stepped rules term memory (Event_of event) next_term next_memory
   unfolding present stepped asked_of
-  present_stepped k event =
-      from_admitted (λ R E. writing next_term next_memory (event_in R event) λ ρ. chosen R E memory next_term next_memory (at_first ρ)) (admission rules)
+  present_stepped event =
+      from_admitted (λ R E. writing next_term next_memory (event_in R event.now) λ ρ. chosen R E memory next_term next_memory (at_first ρ)) (admission rules)
       ∙ ap (λ (f : RuleSet × Term → Written Answer_moved). writing next_term next_memory (given_in rules term) f)
-      (λ i p. event_known p.0 p.1 (event_in p.0 event) i)
+      (λ i p. event_known p.0 p.1 (event_in p.0 event.now) i)
 
   -- ── by what was given ──
 
-  module _ (by_event : Bool) (k : ℕ) (event : List ℕ) where
-    pub step_refused : (j : Refusal) → RefusedBy j (given_in rules term) → Done (stepped rules term memory by_event k event next_term next_memory) (Err j) next_term next_memory
+  module _ (request : Request) where
+    pub step_refused : (j : Refusal) → RefusedBy j (given_in rules term) → Done (stepped rules term memory request next_term next_memory) (Err j) next_term next_memory
     unfolding stepped moved_as
     step_refused j h =
-        let f : stepped rules term memory by_event k event next_term next_memory ≡ unwritten next_term next_memory h.code = ap (λ a. writing next_term next_memory a (stepped_from by_event k event memory next_term next_memory)) h.is in
+        let f : stepped rules term memory request next_term next_memory ≡ unwritten next_term next_memory h.code = ap (λ a. writing next_term next_memory a (stepped_from request memory next_term next_memory)) h.is in
         subst (λ w. Done w (Err j) next_term next_memory) (sym f) (record { answer = ap Err h.named; term_after = refl; memory_after = refl })
 
     pub step_given : (R : RuleSet) (E : Term) → given_in rules term ≡ answered (R, E) → (r : Result Step Refusal) (term' memory' : List ℕ)
-        → Done (stepped_from by_event k event memory next_term next_memory (R, E)) r term' memory' → Done (stepped rules term memory by_event k event next_term next_memory) r term' memory'
+        → Done (stepped_from request memory next_term next_memory (R, E)) r term' memory' → Done (stepped rules term memory request next_term next_memory) r term' memory'
     unfolding stepped
     step_given R E e r term' memory' d =
-        let f : stepped rules term memory by_event k event next_term next_memory ≡ stepped_from by_event k event memory next_term next_memory (R, E) = ap (λ a. writing next_term next_memory a (stepped_from by_event k event memory next_term next_memory)) e in
+        let f : stepped rules term memory request next_term next_memory ≡ stepped_from request memory next_term next_memory (R, E) = ap (λ a. writing next_term next_memory a (stepped_from request memory next_term next_memory)) e in
         subst (λ w. Done w r term' memory') (sym f) d
 
 -- ── what is asked for ──
@@ -92,9 +97,9 @@ stranger_number true none j e = let z : 11 ≡ j = cc in sym z
 stranger_number true (some ρ) j e = absurd (let z : ◌≡◌ {A = ℕ} 0 1 = cc in omega arith)
 stranger_number false o j e = let z : 11 ≡ j = cc in sym z
 
-module _ (R : RuleSet) (form : Form R) (k : ℕ) (event : List ℕ) where
-  event_so : (ρ : Action) → event_in R event ≡ answered ρ → Small ρ
-  event_so ρ e = go (even event) (given_event R (words_in event)) refl e
+module _ (R : RuleSet) (form : Form R) where
+  event_so : (event : List ℕ) (ρ : Action) → event_in R event ≡ answered ρ → Small ρ
+  event_so event ρ e = go (even event) (given_event R (words_in event)) refl e
     where
       go : (b : Bool) (o : Maybe Action) → given_event R (words_in event) ≡ o → pick b (or_refused Refusal.stranger o) (refused Refusal.stranger) ≡ answered ρ → Small ρ
       go true none q f = absurd (let z : ◌≡◌ {A = ℕ} 0 1 = cc in omega arith)
@@ -103,45 +108,51 @@ module _ (R : RuleSet) (form : Form R) (k : ℕ) (event : List ℕ) where
           subst Small h (action_small R form σ ((given_event_exact R (omega (arith, width_is_1 form)) (words_in event) σ).0 q).1)
       go false o q f = absurd (let z : ◌≡◌ {A = ℕ} 0 1 = cc in omega arith)
 
-  pub asked_stranger : (b : Bool) → None ≡ asked_as b k (event_in R event) → asked_of b k event R ≡ refused 11
-  unfolding asked_of asked_as and_then
-  asked_stranger false e = absurd (let z : ◌≡◌ {A = ℕ} 0 1 = cc in omega arith)
-  asked_stranger true e = go (event_in R event) refl e
+  pub asked_stranger : (request : Request) → None ≡ asked_as request R → asked_of request R ≡ refused 11
+  unfolding asked_of event_asked and_then
+  asked_stranger (Move_of k) e = absurd (let z : ◌≡◌ {A = ℕ} 0 1 = cc in omega arith)
+  asked_stranger (Event_of event) e = go (event_in R event.now) refl e
     where
-      go : (a : Answer Action) → event_in R event ≡ a → None ≡ asked_as true k a → (and_then a λ ρ. answered (at_first ρ)) ≡ refused 11
-      go (refused j) q f = ap refused (stranger_number (even event) (given_event R (words_in event)) j q)
+      go : (a : Answer Action) → event_in R event.now ≡ a → None ≡ event_asked a → (and_then a λ ρ. answered (at_first ρ)) ≡ refused 11
+      go (refused j) q f = ap refused (stranger_number (even event.now) (given_event R (words_in event.now)) j q)
       go (answered ρ) q f = absurd (let z : ◌≡◌ {A = ℕ} 0 1 = cc in omega arith)
 
-  -- A choice that is wanted, by the number that stands for it.
-  pub record Choosing (b : Bool) (x : ℕ) : Type 0 where
+  -- A choice that is wanted, by what stands for it.
+  pub record Choosing (request : Request) (wanted : Wanted) : Type 0 where
     pub choose : List Move → Maybe Move
-    pub asked_so : asked_of b k event R ≡ answered choose
-    pub chooses : Chooses b x choose
+    pub asked_so : asked_of request R ≡ answered choose
+    pub chooses : Chooses wanted choose
 
-  pub asked_wanted : (b : Bool) (x : ℕ) → Some x ≡ asked_as b k (event_in R event) → Choosing b x
-  unfolding asked_of asked_as and_then
-  asked_wanted false x e = let z : x ≡ k = cc in record { choose = λ xs. get_elem? xs k; asked_so = refl; chooses = λ i xs. get_elem? xs (sym z i) }
-  asked_wanted true x e = go (event_in R event) refl e
+  pub asked_wanted : (request : Request) (wanted : Wanted) → Some wanted ≡ asked_as request R → Choosing request wanted
+  unfolding asked_of event_asked and_then
+  asked_wanted (Move_of k) wanted e =
+      let z : wanted ≡ Number_of k = cc in
+      record { choose = λ xs. get_elem? xs k; asked_so = refl; chooses = subst (λ w. Chooses w (λ xs. get_elem? xs k)) (sym z) refl }
+  asked_wanted (Event_of event) wanted e = go (event_in R event.now) refl e
     where
-      go : (a : Answer Action) → event_in R event ≡ a → Some x ≡ asked_as true k a → Choosing true x
+      go : (a : Answer Action) → event_in R event.now ≡ a → Some wanted ≡ event_asked a → Choosing (Event_of event) wanted
       go (refused j) q f = absurd (let z : ◌≡◌ {A = ℕ} 0 1 = cc in omega arith)
       go (answered ρ) q f =
-          let z : x ≡ action_code ρ = cc in
-          record { choose = at_first ρ; asked_so = ap (λ a. and_then a λ σ. answered (at_first σ)) q; chooses = (ρ, event_so ρ q, z, refl) }
+          let z : wanted ≡ Action_of (action_code ρ) = cc in
+          record {
+            choose = at_first ρ;
+            asked_so = ap (λ a. and_then a λ σ. answered (at_first σ)) q;
+            chooses = subst (λ w. Chooses w (at_first ρ)) (sym z) (ρ, event_so event.now ρ q, refl, refl);
+          }
 
 -- ── by the room there is ──
 
-module _ (R : RuleSet) (E : Term) (memory next_term next_memory : List ℕ) (by_event : Bool) (k : ℕ) (event : List ℕ) where
+module _ (R : RuleSet) (E : Term) (memory next_term next_memory : List ℕ) (request : Request) where
   abbrev given : Written Answer_moved
-  given = stepped_from by_event k event memory next_term next_memory (R, E)
+  given = stepped_from request memory next_term next_memory (R, E)
 
-  pub stranger_done : asked_of by_event k event R ≡ refused 11 → Done given (Err Stranger) next_term next_memory
+  pub stranger_done : asked_of request R ≡ refused 11 → Done given (Err Stranger) next_term next_memory
   unfolding moved_as refusal
   stranger_done e =
       let f : given ≡ unwritten next_term next_memory 11 = ap (λ a. writing next_term next_memory a λ choose. chosen R E memory next_term next_memory choose) e in
       subst (λ w. Done w (Err Stranger) next_term next_memory) (sym f) (record { answer = refl; term_after = refl; memory_after = refl })
 
-  module _ (choose : List Move → Maybe Move) (e : asked_of by_event k event R ≡ answered choose) where
+  module _ (choose : List Move → Maybe Move) (e : asked_of request R ≡ answered choose) where
     abbrev choice : Written Answer_moved
     choice = writing next_term next_memory (or_refused Refusal.not_offered (choose (listed R E memory))) (moved R memory next_term next_memory)
 

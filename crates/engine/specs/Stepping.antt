@@ -1,6 +1,6 @@
 -- What Move and Present answer and leave, by the specification's operations (document 01, "Operations"). Both are one operation, asked in two ways: for
 -- the move of a number, or for the first whose action is an event.
-use Rattle.std.specs.Prelude.{◌≡◌, Bool, List, ℕ, length, get_or, Ok, Err, Result, Some, None, Option}
+use Rattle.std.specs.Prelude.{◌≡◌, List, ℕ, length, get_or, Ok, Err, Result, Some, None, Option}
 use Rattle.std.proofs.Math.Option.{Option as Maybe, none}
 use Rattle.std.proofs.Math.ListN.{get_elem?}
 use Rattle.eb3.specs.Values.{Value}
@@ -17,6 +17,7 @@ use Rattle.eb3.specs.Answers.{Answer, refused, answered, Moved as Answer_moved, 
 use Rattle.eb3.specs.Operations.{writing, chosen}
 use Rattle.engine.specs.declared.stepping.Step.{Step}
 use Rattle.given.specs.Giving.{given_in}
+use Rattle.given.specs.declared.asking.Request.{Request}
 use Rattle.given.specs.Asking.{asked_of}
 use Rattle.refusals.specs.declared.Refusal.{Refusal}
 use Rattle.refusals.specs.Numbers.{refusal}
@@ -45,13 +46,13 @@ abbrev pub reach_in_words : Term → ℕ
 reach_in_words E = reach 1 E
 
 -- Asked of a rule set and a term.
-abbrev pub stepped_from : Bool → ℕ → List ℕ → List ℕ → List ℕ → List ℕ → RuleSet × Term → Written Answer_moved
-stepped_from by_event k event memory next_term next_memory p =
-    writing next_term next_memory (asked_of by_event k event p.0) λ choose. chosen p.0 p.1 memory next_term next_memory choose
+abbrev pub stepped_from : Request → List ℕ → List ℕ → List ℕ → RuleSet × Term → Written Answer_moved
+stepped_from request memory next_term next_memory p =
+    writing next_term next_memory (asked_of request p.0) λ choose. chosen p.0 p.1 memory next_term next_memory choose
 
-unfoldable pub stepped : List ℕ → List ℕ → List ℕ → Bool → ℕ → List ℕ → List ℕ → List ℕ → Written Answer_moved
-stepped rules term memory by_event k event next_term next_memory =
-    writing next_term next_memory (given_in rules term) (stepped_from by_event k event memory next_term next_memory)
+unfoldable pub stepped : List ℕ → List ℕ → List ℕ → Request → List ℕ → List ℕ → Written Answer_moved
+stepped rules term memory request next_term next_memory =
+    writing next_term next_memory (given_in rules term) (stepped_from request memory next_term next_memory)
 
 -- What a move from given cells writes.
 abbrev pub moved_from : RuleSet → List Value → List ℕ → List ℕ → Move → Written Answer_moved

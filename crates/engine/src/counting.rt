@@ -8,7 +8,6 @@ ghost use Rattle.admission.specs.Knowing.{Opens};
 ghost use Rattle.given.specs.Giving.{Described};
 ghost use Rattle.engine.specs.Counting.{counted_as};
 
-use arguments::entry;
 use blocks::open;
 use cells::Functions;
 use given::giving::given_in;
@@ -23,13 +22,7 @@ fn count_at(s: &[u16], tb: &[u32], dir: &[u32], c: usize, memory: &[u8]) -> u32
     ensures { (R : RuleSet) (E : Term) (t : List ℕ) → Described R E t tb.now dir.now s.now → c ≡ cells_needed R → c ≤ cell_room memory.now → result ≡ length (listed R E memory.now) }
 {
     let mut m = [0u16; 2084];
-    let functions = Functions {
-        words: &[],
-        directory: dir,
-        width: 3 + entry(tb, 17) as usize,
-        count: entry(tb, 210) as usize,
-        cells: c,
-    };
+    let functions = Functions::of(&[], tb, dir, c);
     load_store(&functions, &mut m, memory);
     (count_moves(s, &m) % 4294967296) as u32
 }

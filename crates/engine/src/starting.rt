@@ -6,7 +6,6 @@ ghost use Rattle.admission.specs.Knowing.{Opens};
 ghost use Rattle.engine.specs.Starting.{StartDone};
 
 use admission::admit_in;
-use arguments::entry;
 use blocks::open;
 use cells::{Functions, fill, lay, save};
 use refusals::Refusal;
@@ -17,13 +16,7 @@ fn start_store(t: &[u16], tb: &[u32], dir: &[u32], m: &mut [u16], c: usize, memo
     requires { (length t.now ≤ 65535) × (c ≤ 1024) × (get_or tb.now 17 0 ≤ 64) × (get_or tb.now 210 0 ≤ 16) }
     ensures { MemoryStarted t.now tb.now dir.now (length m.old) c memory.old memory.new }
 {
-    let functions = Functions {
-        words: t,
-        directory: dir,
-        width: 3 + entry(tb, 17) as usize,
-        count: entry(tb, 210) as usize,
-        cells: c,
-    };
+    let functions = Functions::of(t, tb, dir, c);
     lay(&functions, m);
     fill(&functions, m, 2);
     save(m, memory, c);

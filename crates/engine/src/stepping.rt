@@ -1,6 +1,6 @@
 // Move and Present: one step from a given term and memory, into lent buffers (document 01, "Operations"). Both are one operation, asked
 // for the move of a number or for the first whose action is an event.
-ghost use Rattle.std.specs.Prelude.{◌≡◌, Bool, List, ℕ, ◌+◌, ◌*◌, ◌/◌, ◌%◌, ◌≤◌, length, get_or};
+ghost use Rattle.std.specs.Prelude.{◌≡◌, List, ℕ, ◌+◌, ◌*◌, ◌/◌, ◌%◌, ◌≤◌, length, get_or};
 ghost use Rattle.std.proofs.Math.Option.{Option};
 ghost use Rattle.std.proofs.Math.ListN.{get_elem?};
 ghost use Rattle.eb3.specs.Refusal.{not_offered};
@@ -25,10 +25,9 @@ ghost use Rattle.given.specs.Asking.{Chooses};
 ghost use Rattle.engine.specs.Stepping.{told, Done, moved_from, move_at, reach_in_words, stepped_from, stepped};
 
 use actions::{argument_at, argument_count, label_of};
-use arguments::entry;
 use blocks::open;
 use cells::{Functions, save};
-use given::asking::ask;
+use given::asking::{Request, Wanted, ask};
 use given::giving::given_in;
 use refusals::Refusal;
 use scan::front;
@@ -98,15 +97,15 @@ fn step_from(
     }
 }
 
-// The number of the move that is wanted, at a loaded store, or none where there is none: x is it, or the number of an action.
-fn wanted(s: &[u16], m: &[u16], by_event: bool, x: usize) -> Option<usize>
+// The number of the move that is wanted, at a loaded store, or none where no move has the wanted action.
+fn find(s: &[u16], m: &[u16], wanted: Wanted) -> Option<usize>
     requires { length s.now ≤ 65535 }
-    ensures { (P : Scope) (E : Term) (choose : List Move → Option Move) → Whole s.now P E → Chooses by_event x choose → move_at (moves (holding m.now) E) result ≡ choose (moves (holding m.now) E) }
+    ensures { (P : Scope) (E : Term) (choose : List Move → Option Move) → Whole s.now P E → Chooses wanted choose → move_at (moves (holding m.now) E) result ≡ choose (moves (holding m.now) E) }
 {
-    if by_event {
-        return first_move(s, m, (x % 4294967296) as u32);
+    match wanted {
+        Wanted::Number(k) => Some(k),
+        Wanted::Action(code) => first_move(s, m, code),
     }
-    Some(x)
 }
 
 // From the cells of a memory, into buffers with room.
@@ -117,24 +116,17 @@ fn step_at(
     dir: &[u32],
     c: usize,
     memory: &[u8],
-    by_event: bool,
-    x: usize,
+    wanted: Wanted,
     next_term: &mut [u8],
     next_memory: &mut [u8],
 ) -> Result<Step, Refusal>
     requires { (length t.now ≤ 65535) × (length s.now ≤ 65535) × (c ≤ 1024) × (get_or tb.now 17 0 ≤ 64) × (get_or tb.now 210 0 ≤ 16) }
-    ensures { (R : RuleSet) (E : Term) (choose : List Move → Option Move) → Described R E t.now tb.now dir.now s.now → c ≡ cells_needed R → c ≤ cell_room memory.now → reach 1 E ≤ word_count next_term.old → c ≤ cell_room next_memory.old → Chooses by_event x choose → Done (writing next_term.old next_memory.old (or_refused not_offered (choose (listed R E memory.now))) (moved R memory.now next_term.old next_memory.old)) result next_term.new next_memory.new }
+    ensures { (R : RuleSet) (E : Term) (choose : List Move → Option Move) → Described R E t.now tb.now dir.now s.now → c ≡ cells_needed R → c ≤ cell_room memory.now → reach 1 E ≤ word_count next_term.old → c ≤ cell_room next_memory.old → Chooses wanted choose → Done (writing next_term.old next_memory.old (or_refused not_offered (choose (listed R E memory.now))) (moved R memory.now next_term.old next_memory.old)) result next_term.new next_memory.new }
 {
-    let functions = Functions {
-        words: t,
-        directory: dir,
-        width: 3 + entry(tb, 17) as usize,
-        count: entry(tb, 210) as usize,
-        cells: c,
-    };
+    let functions = Functions::of(t, tb, dir, c);
     let mut m = [0u16; 2084];
     load_store(&functions, &mut m, memory);
-    match wanted(s, &m, by_event, x) {
+    match find(s, &m, wanted) {
         Some(k) => step_from(&functions, s, tb, &mut m, k, next_term, next_memory),
         None => Err(Refusal::NotOffered),
     }
@@ -149,16 +141,14 @@ fn step_given(
     c: usize,
     reach: usize,
     memory: &[u8],
-    by_event: bool,
-    k: usize,
-    event: &[u8],
+    request: Request,
     next_term: &mut [u8],
     next_memory: &mut [u8],
 ) -> Result<Step, Refusal>
     requires { (length t.now ≤ 65535) × (length s.now ≤ 65535) × (c ≤ 1024) × (get_or tb.now 17 0 ≤ 64) × (get_or tb.now 210 0 ≤ 16) }
-    ensures { (R : RuleSet) (E : Term) → Described R E t.now tb.now dir.now s.now → c ≡ cells_needed R → reach ≡ reach_in_words E → Done (stepped_from by_event k event.now memory.now next_term.old next_memory.old (R, E)) result next_term.new next_memory.new }
+    ensures { (R : RuleSet) (E : Term) → Described R E t.now tb.now dir.now s.now → c ≡ cells_needed R → reach ≡ reach_in_words E → Done (stepped_from request.entry memory.now next_term.old next_memory.old (R, E)) result next_term.new next_memory.new }
 {
-    let Some(x) = ask(tb, by_event, k, event) else {
+    let Some(wanted) = ask(tb, request) else {
         return Err(Refusal::Stranger);
     };
     if next_term.len() / 2 < reach {
@@ -170,18 +160,7 @@ fn step_given(
     if next_memory.len() / 2 < c {
         return Err(Refusal::Space);
     }
-    step_at(
-        t,
-        s,
-        tb,
-        dir,
-        c,
-        memory,
-        by_event,
-        x,
-        next_term,
-        next_memory,
-    )
+    step_at(t, s, tb, dir, c, memory, wanted, next_term, next_memory)
 }
 
 // n opened blocks and a term, decoded into lent words.
@@ -192,14 +171,12 @@ fn step_in(
     ws: &mut [u16],
     term: &[u8],
     memory: &[u8],
-    by_event: bool,
-    k: usize,
-    event: &[u8],
+    request: Request,
     next_term: &mut [u8],
     next_memory: &mut [u8],
 ) -> Result<Step, Refusal>
     requires { (length rules.now ≡ 512 * n) × (254 * n ≤ length words.old) × (1 ≤ n) × (n ≤ 64) × Opens rules.now × (length term.now / 2 ≤ 8192 → length term.now / 2 ≤ length ws.old) }
-    ensures { Done (stepped rules.now term.now memory.now by_event k event.now next_term.old next_memory.old) result next_term.new next_memory.new }
+    ensures { Done (stepped rules.now term.now memory.now request.entry next_term.old next_memory.old) result next_term.new next_memory.new }
 {
     let mut tables = [0u32; 500];
     let mut dir = [0u32; 1072];
@@ -213,9 +190,7 @@ fn step_in(
         given.cells,
         given.reach,
         memory,
-        by_event,
-        k,
-        event,
+        request,
         next_term,
         next_memory,
     )
@@ -227,14 +202,12 @@ fn step_sized<const WORDS: usize, const TERM: usize>(
     n: usize,
     term: &[u8],
     memory: &[u8],
-    by_event: bool,
-    k: usize,
-    event: &[u8],
+    request: Request,
     next_term: &mut [u8],
     next_memory: &mut [u8],
 ) -> Result<Step, Refusal>
     requires { (length rules.now ≡ 512 * n) × (254 * n ≤ WORDS) × (1 ≤ n) × (n ≤ 64) × Opens rules.now × (length term.now / 2 ≤ 8192 → length term.now / 2 ≤ TERM) × (WORDS ≤ 16256) × (TERM ≤ 8192) }
-    ensures { Done (stepped rules.now term.now memory.now by_event k event.now next_term.old next_memory.old) result next_term.new next_memory.new }
+    ensures { Done (stepped rules.now term.now memory.now request.entry next_term.old next_memory.old) result next_term.new next_memory.new }
 {
     let mut words = [0u16; WORDS];
     let mut ws = [0u16; TERM];
@@ -245,9 +218,7 @@ fn step_sized<const WORDS: usize, const TERM: usize>(
         &mut ws,
         term,
         memory,
-        by_event,
-        k,
-        event,
+        request,
         next_term,
         next_memory,
     );
@@ -258,39 +229,17 @@ fn step_by(
     rules: &[u8],
     term: &[u8],
     memory: &[u8],
-    by_event: bool,
-    k: usize,
-    event: &[u8],
+    request: Request,
     next_term: &mut [u8],
     next_memory: &mut [u8],
 ) -> Result<Step, Refusal>
-    ensures { Done (stepped rules.now term.now memory.now by_event k event.now next_term.old next_memory.old) result next_term.new next_memory.new }
+    ensures { Done (stepped rules.now term.now memory.now request.entry next_term.old next_memory.old) result next_term.new next_memory.new }
 {
     let n = open(rules)?;
     if n <= 1 && term.len() <= 512 {
-        return step_sized::<254, 256>(
-            rules,
-            n,
-            term,
-            memory,
-            by_event,
-            k,
-            event,
-            next_term,
-            next_memory,
-        );
+        return step_sized::<254, 256>(rules, n, term, memory, request, next_term, next_memory);
     }
-    step_sized::<16256, 8192>(
-        rules,
-        n,
-        term,
-        memory,
-        by_event,
-        k,
-        event,
-        next_term,
-        next_memory,
-    )
+    step_sized::<16256, 8192>(rules, n, term, memory, request, next_term, next_memory)
 }
 
 // ── the operations ──
@@ -306,8 +255,14 @@ pub fn make_move(
 ) -> Result<Step, Refusal>
     ensures { Done (move rules.now term.now memory.now k next_term.old next_memory.old) result next_term.new next_memory.new }
 {
-    let none = [0u8; 0];
-    step_by(rules, term, memory, false, k, &none, next_term, next_memory)
+    step_by(
+        rules,
+        term,
+        memory,
+        Request::Move(k),
+        next_term,
+        next_memory,
+    )
 }
 
 // Present: the first move whose action is the given event; or the first refusal of 1 to 8, 10, 11, 9 and 12.
@@ -321,5 +276,12 @@ pub fn present(
 ) -> Result<Step, Refusal>
     ensures { Done (present rules.now term.now memory.now event.now next_term.old next_memory.old) result next_term.new next_memory.new }
 {
-    step_by(rules, term, memory, true, 0, event, next_term, next_memory)
+    step_by(
+        rules,
+        term,
+        memory,
+        Request::Event(event),
+        next_term,
+        next_memory,
+    )
 }

@@ -9,6 +9,7 @@ ghost use Rattle.declarations.specs.Declaring.{Declares};
 ghost use Rattle.events.specs.Events.{event_as};
 
 use actions::code_at;
+use code_numbers::{ACTION, INTERNAL};
 use scan::{behind, first};
 use terms::given_term;
 
@@ -19,8 +20,8 @@ pub fn given_event(s: &[u16], tb: &[u32]) -> Option<u32>
 {
     given_term(s, tb)?;
     match first(s) {
-        20 => Some(0),
-        21 => Some(code_at(behind(s))),
+        INTERNAL => Some(0),
+        ACTION => Some(code_at(behind(s))),
         _ => None,
     }
 }

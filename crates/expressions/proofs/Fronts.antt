@@ -12,9 +12,10 @@ use Rattle.eb3.specs.Values.{encode, decode}
 use Rattle.eb3.specs.Expressions.{Data, Undefined, Constant, Variable, Add, Subtract, If, Now, Before, Args, Nil, Cons, Cond, Equal, Less, And, Or, Not, True, evaluate_data, evaluate_args, evaluate_cond}
 use Rattle.eb3.specs.Scopes.{Scope, ArgsInScope}
 use Rattle.eb3.specs.Spelling.{number_words, data_words, args_words, cond_words}
+use Rattle.expressions.specs.declared.Valued.{Valued}
 use Rattle.expressions.specs.Stores.{stored, reading_in, variable_in, environment_in, before_place}
-use Rattle.expressions.specs.Answering.{value_word, truth, answer, Plain, DataAt, CondAt, Evaluated, Judged}
-use Rattle.expressions.specs.Operands.{sum_word, difference_word, equal_word, less_word, Valued, Paired, Selected, Named, Joined, Negated}
+use Rattle.expressions.specs.Answering.{value_word, truth, valued, answer, Plain, DataAt, CondAt, Evaluated, Judged}
+use Rattle.expressions.specs.Operands.{sum_word, difference_word, equal_word, less_word, Fetched, Paired, Selected, Named, Compared, Joined, Negated}
 use Rattle.expressions.specs.ValueLaws.{word_of_value}
 
 -- ── data ──
@@ -62,10 +63,10 @@ other_data : (w : ℕ) → OtherData w → data_front w ≡ none
 other_data w h = simp (ne_eqb w 1 h.0.0.0.0.0.0.1, ne_eqb w 2 h.0.0.0.0.0.1, ne_eqb w 3 h.0.0.0.0.1, ne_eqb w 4 h.0.0.0.1, ne_eqb w 5 h.0.0.1, ne_eqb w 6 h.0.1, ne_eqb w 7 h.1)
 
 -- What an arm shows of r, t being the words behind the code.
-abbrev DataArm : DataFront → List ℕ → List ℕ → ℕ → Type 0
-DataArm none t M r = r ≡ answer 65535 (length t)
-DataArm constant t M r = r ≡ answer (get_or t 0 0) (length (drop 1 t))
-DataArm variable t M r = Valued t M r
+abbrev DataArm : DataFront → List ℕ → List ℕ → Valued → Type 0
+DataArm none t M r = r ≡ valued 65535 (length t)
+DataArm constant t M r = r ≡ valued (get_or t 0 0) (length (drop 1 t))
+DataArm variable t M r = Fetched t M r
 DataArm sum t M r = Paired sum_word t M r
 DataArm difference t M r = Paired difference_word t M r
 DataArm selection t M r = Selected t M r
@@ -73,24 +74,24 @@ DataArm present t M r = Named 36 t M r
 DataArm past t M r = Named (before_place M) t M r
 
 -- A function has one argument.
-module _ (M : List ℕ) (at f : ℕ) (P : Scope) (plain : Plain P) (t rest : List ℕ) (r : ℕ) (h : Named at t M r) where
+module _ (M : List ℕ) (at f : ℕ) (P : Scope) (plain : Plain P) (t rest : List ℕ) (r : Valued) (h : Named at t M r) where
   one_argument : (rs : Args) (n : ℕ) → n ≡ 1 → ArgsInScope rs P n → t ≡ f ∷ (args_words 1 rs ++ rest)
-      → r ≡ answer (value_word (reading_in M at f (evaluate_args rs (environment_in M)))) (length rest)
+      → r ≡ valued (value_word (reading_in M at f (evaluate_args rs (environment_in M)))) (length rest)
   unfolding data_words evaluate_data
   one_argument Nil n o w e = absurd (omega arith)
   one_argument (Cons a Nil) n o w e =
       let here : DataAt (drop 1 t) P a rest = record { plain = plain; in_scope = w.2; spelled = ap (drop 1) e ∙ append_assoc (data_words 1 a) [] rest } in
-      h P a rest here ∙ ap (λ u. answer (value_word (reading_in M at (get_or u 0 0) (evaluate_data a (environment_in M) ∷ []))) (length rest)) e
+      h P a rest here ∙ ap (λ u. valued (value_word (reading_in M at (get_or u 0 0) (evaluate_data a (environment_in M) ∷ []))) (length rest)) e
   one_argument (Cons a (Cons b rs)) n o w e = absurd (omega (arith, w.1, w.3.1))
 
-module _ (s t M : List ℕ) (r : ℕ) (q : t ≡ drop 1 s) where
-  by_data : (d : Data) (P : Scope) (rest : List ℕ) → DataAt s P d rest → DataArm (front_of_data d) t M r → r ≡ answer (value_word (evaluate_data d (environment_in M))) (length rest)
+module _ (s t M : List ℕ) (r : Valued) (q : t ≡ drop 1 s) where
+  by_data : (d : Data) (P : Scope) (rest : List ℕ) → DataAt s P d rest → DataArm (front_of_data d) t M r → r ≡ valued (value_word (evaluate_data d (environment_in M))) (length rest)
   unfolding data_words number_words evaluate_data encode variable_in
-  by_data Undefined P rest at h = h ∙ ap (λ u. answer 65535 (length u)) (q ∙ ap (drop 1) at.spelled)
-  by_data (Constant n) P rest at h = h ∙ ap (λ u. answer (get_or u 0 0) (length (drop 1 u))) (q ∙ ap (drop 1) at.spelled)
+  by_data Undefined P rest at h = h ∙ ap (λ u. valued 65535 (length u)) (q ∙ ap (drop 1) at.spelled)
+  by_data (Constant n) P rest at h = h ∙ ap (λ u. valued (get_or u 0 0) (length (drop 1 u))) (q ∙ ap (drop 1) at.spelled)
   by_data (Variable i) P rest at h =
-      h.value ∙ (λ j. answer (sym (word_of_value (stored M (get_or t 0 0)) h.small) j) (length (drop 1 t)))
-      ∙ ap (λ u. answer (value_word (decode 65534 (stored M (get_or u 0 0)))) (length (drop 1 u))) (q ∙ ap (drop 1) at.spelled)
+      h.value ∙ (λ j. valued (sym (word_of_value (stored M (get_or t 0 0)) h.small) j) (length (drop 1 t)))
+      ∙ ap (λ u. valued (value_word (decode 65534 (stored M (get_or u 0 0)))) (length (drop 1 u))) (q ∙ ap (drop 1) at.spelled)
   by_data (Add a b) P rest at h =
       h P a b rest (record { plain = at.plain; in_scope = at.in_scope.0; spelled = q ∙ ap (drop 1) at.spelled ∙ append_assoc (data_words 1 a) (data_words 1 b) rest }) at.in_scope.1
   by_data (Subtract a b) P rest at h =
@@ -112,10 +113,10 @@ module _ (s t M : List ℕ) (r : ℕ) (q : t ≡ drop 1 s) where
     data_arm k e h P d rest at =
         by_data d P rest at (subst (λ j. DataArm j t M r) (sym e ∙ ap data_front first ∙ data_known d s rest at.spelled) h)
 
-    pub data_constant : w ≡ 1 → r ≡ answer (get_or t 0 0) (length (drop 1 t)) → Evaluated s M r
+    pub data_constant : w ≡ 1 → r ≡ valued (get_or t 0 0) (length (drop 1 t)) → Evaluated s M r
     data_constant e h = data_arm constant (ap data_front e) h
 
-    pub data_variable : w ≡ 2 → Valued t M r → Evaluated s M r
+    pub data_variable : w ≡ 2 → Fetched t M r → Evaluated s M r
     data_variable e h = data_arm variable (ap data_front e) h
 
     pub data_sum : w ≡ 3 → Paired sum_word t M r → Evaluated s M r
@@ -133,7 +134,7 @@ module _ (s t M : List ℕ) (r : ℕ) (q : t ≡ drop 1 s) where
     pub data_past : (at : ℕ) → w ≡ 7 → at ≡ before_place M → Named at t M r → Evaluated s M r
     data_past at e i h = data_arm past (ap data_front e) (subst (λ j. Named j t M r) i h)
 
-    pub data_none : OtherData w → r ≡ answer 65535 (length t) → Evaluated s M r
+    pub data_none : OtherData w → r ≡ valued 65535 (length t) → Evaluated s M r
     data_none o h = data_arm none (other_data w o) h
 
 -- ── conditions ──
@@ -167,8 +168,8 @@ cond_known (Not c) s rest e = ap (λ u. cond_front (get_or u 0 0)) e
 cond_known True s rest e = ap (λ u. cond_front (get_or u 0 0)) e
 
 abbrev CondArm : CondFront → List ℕ → List ℕ → ℕ → Type 0
-CondArm equality t M r = Paired equal_word t M r
-CondArm order t M r = Paired less_word t M r
+CondArm equality t M r = Compared equal_word t M r
+CondArm order t M r = Compared less_word t M r
 CondArm conjunction t M r = Joined ◌&&◌ t M r
 CondArm disjunction t M r = Joined ◌||◌ t M r
 CondArm negation t M r = Negated t M r
@@ -199,10 +200,10 @@ module _ (s t M : List ℕ) (r : ℕ) (q : t ≡ drop 1 s) where
     cond_arm k e h P c rest at =
         by_cond c P rest at (subst (λ j. CondArm j t M r) (sym e ∙ ap cond_front first ∙ cond_known c s rest at.spelled) h)
 
-    pub cond_equality : w ≡ 8 → Paired equal_word t M r → Judged s M r
+    pub cond_equality : w ≡ 8 → Compared equal_word t M r → Judged s M r
     cond_equality e h = cond_arm equality (ap cond_front e) h
 
-    pub cond_order : w ≡ 9 → Paired less_word t M r → Judged s M r
+    pub cond_order : w ≡ 9 → Compared less_word t M r → Judged s M r
     cond_order e h = cond_arm order (ap cond_front e) h
 
     pub cond_conjunction : w ≡ 10 → Joined ◌&&◌ t M r → Judged s M r

@@ -1,11 +1,12 @@
--- What an evaluation answers, in one number: the value as a word, and 65,536 times the words that are left behind the expression.
--- One number, since every other answer goes through memory.
+-- What an evaluation answers: the value as a word, and the words that are left behind the expression; over conditions in one number, the words left
+-- 65,536 times.
 -- Document 01, "Values and conditions".
 use Rattle.std.specs.Prelude.{◌≡◌, Bool, cond, List, ◌++◌, ℕ, ◌+◌, ◌*◌, length}
 use Rattle.eb3.specs.Values.{Value, encode}
 use Rattle.eb3.specs.Expressions.{Data, Cond, evaluate_data, evaluate_cond}
 use Rattle.eb3.specs.Scopes.{Scope, DataInScope, CondInScope}
 use Rattle.eb3.specs.Spelling.{data_words, cond_words}
+use Rattle.expressions.specs.declared.Valued.{Valued}
 use Rattle.expressions.specs.Stores.{environment_in}
 
 abbrev pub value_word : Value → ℕ
@@ -13,6 +14,9 @@ value_word v = encode 65535 v
 
 unfoldable pub truth : Bool → ℕ
 truth b = cond b 1 0
+
+abbrev pub valued : ℕ → ℕ → Valued
+valued v left = record { value = v; left = left }
 
 unfoldable pub answer : ℕ → ℕ → ℕ
 answer w left = w + 65536 * left
@@ -34,8 +38,8 @@ pub record CondAt (s : List ℕ) (P : Scope) (c : Cond) (rest : List ℕ) : Type
   pub spelled : s ≡ cond_words 1 c ++ rest
 
 -- The answer, whatever expression stands at the front.
-abbrev pub Evaluated : List ℕ → List ℕ → ℕ → Type 0
-Evaluated s M r = (P : Scope) (d : Data) (rest : List ℕ) → DataAt s P d rest → r ≡ answer (value_word (evaluate_data d (environment_in M))) (length rest)
+abbrev pub Evaluated : List ℕ → List ℕ → Valued → Type 0
+Evaluated s M r = (P : Scope) (d : Data) (rest : List ℕ) → DataAt s P d rest → r ≡ valued (value_word (evaluate_data d (environment_in M))) (length rest)
 
 abbrev pub Judged : List ℕ → List ℕ → ℕ → Type 0
 Judged s M r = (P : Scope) (c : Cond) (rest : List ℕ) → CondAt s P c rest → r ≡ answer (truth (evaluate_cond c (environment_in M))) (length rest)

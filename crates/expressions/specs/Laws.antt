@@ -11,6 +11,7 @@ use Rattle.eb3.specs.Scopes.{Scope, DataInScope}
 use Rattle.eb3.specs.Spelling.{data_words, cond_words}
 use Rattle.scan.specs.Checking.{last_of}
 use Rattle.scan.specs.Laws.{last_behind}
+use Rattle.expressions.specs.declared.Valued.{Valued}
 use Rattle.expressions.specs.Stores.{cell_in, reading_in, variable_in, environment_in, before_place}
 use Rattle.expressions.specs.Answering.{value_word, truth, answer, Plain, DataAt, CondAt, Evaluated, Judged}
 
@@ -58,28 +59,30 @@ module _ (M : List ℕ) (P : Scope) (plain : Plain P) where
 
 -- ── an answer taken apart ──
 
--- Of x, the answer of an expression's evaluation over s, with rest behind the expression.
-pub record Parted (s rest : List ℕ) (x w : ℕ) : Type 0 where
-  pub word : x % 65536 ≡ w
-  pub left : x / 65536 ≡ length rest
-  pub behind : (u : List ℕ) → u ≡ last_of (x / 65536) s → u ≡ rest
+-- v is the value that an evaluation over s answers, as a word w, and l how many words it leaves: rest, behind the expression.
+pub record Parted (s rest : List ℕ) (v l w : ℕ) : Type 0 where
+  pub word : v ≡ w
+  pub left : l ≡ length rest
+  pub behind : (u : List ℕ) → u ≡ last_of l s → u ≡ rest
 
-parted : (s front rest : List ℕ) (x w : ℕ) → w < 65536 → s ≡ front ++ rest → x ≡ answer w (length rest) → Parted s rest x w
-parted s front rest x w h e q =
-    let l : x / 65536 ≡ length rest = ap (λ y. y / 65536) q ∙ answer_left w (length rest) h in
-    record {
-      word = ap (λ y. y % 65536) q ∙ answer_word w (length rest) h;
-      left = l;
-      behind = λ u k. k ∙ ap (λ n. last_of n s) l ∙ ap (last_of (length rest)) e ∙ last_behind front rest;
-    }
+parted : (s front rest : List ℕ) (v l w : ℕ) → s ≡ front ++ rest → v ≡ w → l ≡ length rest → Parted s rest v l w
+parted s front rest v l w e q h = record {
+  word = q;
+  left = h;
+  behind = λ u k. k ∙ ap (λ n. last_of n s) h ∙ ap (last_of (length rest)) e ∙ last_behind front rest;
+}
 
-module _ (s M : List ℕ) (x : ℕ) (P : Scope) (rest : List ℕ) where
-  pub data_parted : Evaluated s M x → (a : Data) → DataAt s P a rest → Parted s rest x (value_word (evaluate_data a (environment_in M)))
-  data_parted f a h = parted s (data_words 1 a) rest x _ (value_small _ (data_at_most M P h.plain a h.in_scope)) h.spelled (f P a rest h)
-
-  pub cond_parted : Judged s M x → (c : Cond) → CondAt s P c rest → Parted s rest x (truth (evaluate_cond c (environment_in M)))
-  cond_parted f c h = parted s (cond_words 1 c) rest x _ (truth_word _) h.spelled (f P c rest h)
+module _ (s M : List ℕ) (x : Valued) (P : Scope) (rest : List ℕ) (f : Evaluated s M x) (a : Data) (h : DataAt s P a rest) where
+  pub data_parted : Parted s rest x.value x.left (value_word (evaluate_data a (environment_in M)))
+  data_parted = parted s (data_words 1 a) rest _ _ _ h.spelled (ap (λ y. y.value) (f P a rest h)) (ap (λ y. y.left) (f P a rest h))
 
   -- the word is the value's
-  pub data_value : Evaluated s M x → (a : Data) → DataAt s P a rest → decode 65534 (x % 65536) ≡ evaluate_data a (environment_in M)
-  data_value f a h = ap (decode 65534) (data_parted f a h).word ∙ decode_encode 65534 65535 (lit< tt) _ (data_at_most M P h.plain a h.in_scope)
+  pub data_value : decode 65534 x.value ≡ evaluate_data a (environment_in M)
+  data_value = ap (decode 65534) data_parted.word ∙ decode_encode 65534 65535 (lit< tt) _ (data_at_most M P h.plain a h.in_scope)
+
+module _ (s M : List ℕ) (x : ℕ) (P : Scope) (rest : List ℕ) (f : Judged s M x) (c : Cond) (h : CondAt s P c rest) where
+  pub cond_parted : Parted s rest (x % 65536) (x / 65536) (truth (evaluate_cond c (environment_in M)))
+  cond_parted =
+      parted s (cond_words 1 c) rest _ _ _ h.spelled
+      (ap (λ y. y % 65536) (f P c rest h) ∙ answer_word _ (length rest) (truth_word _))
+      (ap (λ y. y / 65536) (f P c rest h) ∙ answer_left _ (length rest) (truth_word _))

@@ -6,15 +6,27 @@
 ghost use Rattle.std.specs.Prelude.{◌≡◌, Bool, [], ◌∷◌, ◌≤◌, ◌<◌, length, drop, get_or};
 ghost use Rattle.eb3.specs.Values.{decode, encode, add, subtract, equal, less};
 ghost use Rattle.expressions.specs.Stores.{stored, reading_in, before_place};
-ghost use Rattle.expressions.specs.Answering.{truth, answer, Evaluated, Judged};
-ghost use Rattle.expressions.specs.Operands.{operated, connected, Valued, Paired, Selected, Named, Joined, Negated};
+ghost use Rattle.expressions.specs.Answering.{truth, answer, valued, Evaluated, Judged};
+ghost use Rattle.expressions.specs.Operands.{operated, connected, Fetched, Paired, Selected, Named, Compared, Joined, Negated};
 
+use code_numbers::{
+    AND, BEFORE, CONSTANT, DIFFERENCE, EQUAL, IF, LESS, NOT, NOW, OR, SUM, VARIABLE,
+};
 use scan::{behind, first, last};
 
 const UNDEFINED: usize = 65535;
 
 // ── answers ──
 
+/// The value of a data expression as a word, and how many words are left behind the expression.
+#[derive(Clone, Copy)]
+pub struct Valued {
+    pub value: usize,
+    pub left: usize,
+}
+
+// Whether a condition holds, 1 or 0, and 65,536 times the words that are left behind it.
+// Stays: measured, a condition of 1,000 ands takes 12 % more instructions as a struct, and each level 16 bytes more stack (docs/DESIGN-PASS.md, "Answers in one number").
 fn pack(v: usize, left: usize) -> usize
     requires { (v < 65536) × (left < 65536) }
     ensures { (result ≡ answer v left) × (result < 4294967296) }
@@ -127,31 +139,35 @@ fn old_cells(m: &[u16]) -> usize
 // ── data ──
 
 // A constant, and a variable, behind their code.
-fn constant(t: &[u16]) -> usize
-    requires { length t.now < 65535 }
-    ensures { (result ≡ answer (get_or t.now 0 0) (length (drop 1 t.now))) × (result < 4294967296) }
+fn constant(t: &[u16]) -> Valued
+    ensures { (result ≡ valued (get_or t.now 0 0) (length (drop 1 t.now))) × (result.value < 65536) × (result.left ≤ length t.now) }
 {
-    pack(first(t), behind(t).len())
+    Valued {
+        value: first(t),
+        left: behind(t).len(),
+    }
 }
 
-fn variable(t: &[u16], m: &[u16]) -> usize
-    requires { length t.now < 65535 }
-    ensures { Valued t.now m.now result × (result < 4294967296) }
+fn variable(t: &[u16], m: &[u16]) -> Valued
+    ensures { Fetched t.now m.now result × (result.value < 65536) × (result.left ≤ length t.now) }
 {
-    pack(word(m, first(t)), behind(t).len())
+    Valued {
+        value: word(m, first(t)),
+        left: behind(t).len(),
+    }
 }
 
 // As eval_data, but a constant or a variable costs no call: most operands are one of these.
 #[cycle(evaluators)]
-fn operand(s: &[u16], m: &[u16]) -> usize
+fn operand(s: &[u16], m: &[u16]) -> Valued
     requires { length s.now ≤ 65535 }
-    ensures { Evaluated s.now m.now result × (result < 4294967296) }
+    ensures { Evaluated s.now m.now result × (result.value < 65536) × (result.left ≤ length s.now) }
 {
     let w = first(s);
     let t = behind(s);
     match w {
-        1 => constant(t),
-        2 => variable(t, m),
+        CONSTANT => constant(t),
+        VARIABLE => variable(t, m),
         _ => eval_data(s, m),
     }
 }
@@ -159,63 +175,86 @@ fn operand(s: &[u16], m: &[u16]) -> usize
 // Two data, one behind the other, and what an operation makes of them. Inlined, since its frame would come on top of the evaluator's at each level.
 #[cycle(evaluators)]
 #[inline(always)]
-fn paired(operation: Operation, t: &[u16], m: &[u16]) -> usize
+fn paired(operation: Operation, t: &[u16], m: &[u16]) -> Valued
     requires { length t.now < 65535 }
-    ensures { Paired (operated operation) t.now m.now result × (result < 4294967296) }
+    ensures { Paired (operated operation) t.now m.now result × (result.value < 65536) × (result.left ≤ length t.now) }
 {
     let x = operand(t, m);
-    let y = operand(last(t, x / 65536), m);
-    pack(operate(operation, x % 65536, y % 65536), y / 65536)
+    let y = operand(last(t, x.left), m);
+    Valued {
+        value: operate(operation, x.value, y.value),
+        left: y.left,
+    }
 }
 
 // Both data are evaluated: the words left must be known, and there is no other effect.
 #[cycle(evaluators)]
-fn selected(t: &[u16], m: &[u16]) -> usize
+fn selected(t: &[u16], m: &[u16]) -> Valued
     requires { length t.now < 65535 }
-    ensures { Selected t.now m.now result × (result < 4294967296) }
+    ensures { Selected t.now m.now result × (result.value < 65536) × (result.left ≤ length t.now) }
 {
     let c = eval_cond(t, m);
     let u = last(t, c / 65536);
     let x = operand(u, m);
-    let y = operand(last(u, x / 65536), m);
+    let y = operand(last(u, x.left), m);
     if c % 65536 == 0 {
         y
     } else {
-        pack(x % 65536, y / 65536)
+        Valued {
+            value: x.value,
+            left: y.left,
+        }
     }
 }
 
 // A function's number, and its argument; its cells begin at a place.
 #[cycle(evaluators)]
-fn attribute(t: &[u16], m: &[u16], at: usize) -> usize
+fn attribute(t: &[u16], m: &[u16], at: usize) -> Valued
     requires { (length t.now < 65535) × (at < 65536) }
-    ensures { Named at t.now m.now result × (result < 4294967296) }
+    ensures { Named at t.now m.now result × (result.value < 65536) × (result.left ≤ length t.now) }
 {
     let x = operand(behind(t), m);
-    pack(cell(m, at, first(t), x % 65536), x / 65536)
+    Valued {
+        value: cell(m, at, first(t), x.value),
+        left: x.left,
+    }
 }
 
 // The value of the data expression at the front.
 #[cycle(evaluators)]
-pub fn eval_data(s: &[u16], m: &[u16]) -> usize
+pub fn eval_data(s: &[u16], m: &[u16]) -> Valued
     requires { length s.now ≤ 65535 }
-    ensures { Evaluated s.now m.now result × (result < 4294967296) }
+    ensures { Evaluated s.now m.now result × (result.value < 65536) × (result.left ≤ length s.now) }
 {
     let w = first(s);
     let t = behind(s);
     match w {
-        1 => constant(t),
-        2 => variable(t, m),
-        3 => paired(Operation::Add, t, m),
-        4 => paired(Operation::Subtract, t, m),
-        5 => selected(t, m),
-        6 => attribute(t, m, 36),
-        7 => attribute(t, m, old_cells(m)),
-        _ => pack(UNDEFINED, t.len()),
+        CONSTANT => constant(t),
+        VARIABLE => variable(t, m),
+        SUM => paired(Operation::Add, t, m),
+        DIFFERENCE => paired(Operation::Subtract, t, m),
+        IF => selected(t, m),
+        NOW => attribute(t, m, 36),
+        BEFORE => attribute(t, m, old_cells(m)),
+        _ => Valued {
+            value: UNDEFINED,
+            left: t.len(),
+        },
     }
 }
 
 // ── conditions ──
+
+// Two data, one behind the other, and how they compare: 1 or 0.
+#[cycle(evaluators)]
+#[inline(always)]
+fn compared(operation: Operation, t: &[u16], m: &[u16]) -> usize
+    requires { length t.now < 65535 }
+    ensures { Compared (operated operation) t.now m.now result × (result < 4294967296) }
+{
+    let v = paired(operation, t, m);
+    pack(v.value, v.left)
+}
 
 // Two conditions, one behind the other, and what a connective makes of them: of 0 and 1, the least is `and`, and the largest `or`.
 #[cycle(evaluators)]
@@ -246,11 +285,11 @@ pub fn eval_cond(s: &[u16], m: &[u16]) -> usize
     let w = first(s);
     let t = behind(s);
     match w {
-        8 => paired(Operation::Equal, t, m),
-        9 => paired(Operation::Less, t, m),
-        10 => joined(Connective::And, t, m),
-        11 => joined(Connective::Or, t, m),
-        12 => negated(t, m),
+        EQUAL => compared(Operation::Equal, t, m),
+        LESS => compared(Operation::Less, t, m),
+        AND => joined(Connective::And, t, m),
+        OR => joined(Connective::Or, t, m),
+        NOT => negated(t, m),
         _ => pack(1, t.len()),
     }
 }

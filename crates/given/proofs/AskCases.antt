@@ -31,7 +31,9 @@ use Rattle.cells.specs.Preparing.{Loaded}
 use Rattle.cells.specs.MemoryLaws.{loaded_words}
 use Rattle.actions.specs.Codes.{action_code}
 use Rattle.events.specs.Events.{event_as}
-use Rattle.given.specs.Asking.{asked_as}
+use Rattle.given.specs.declared.asking.Wanted.{Wanted}
+use Rattle.given.specs.declared.asking.Wanted.TheVariants.{Action as Action_of}
+use Rattle.given.specs.Asking.{event_asked}
 
 -- ── an event is short ──
 
@@ -66,42 +68,42 @@ unfolding event_as
 action_from none code e = absurd (let z : ◌≡◌ {A = ℕ} 0 1 = cc in omega arith)
 action_from (some ρ) code e = (ρ, refl, cc)
 
-module _ (event : List ℕ) (R : RuleSet) (k : ℕ) where
+module _ (event : List ℕ) (R : RuleSet) where
   -- What is asked for, where the number of bytes is even or odd.
-  asked_at : Bool → Option ℕ
-  asked_at b = asked_as true k (pick b (or_refused Refusal.stranger (given_event R (words_in event))) (refused Refusal.stranger))
+  asked_at : Bool → Option Wanted
+  asked_at b = event_asked (pick b (or_refused Refusal.stranger (given_event R (words_in event))) (refused Refusal.stranger))
 
-  odd_stranger : (length event % 2 ≡ 0 → ⊥) → None ≡ asked_as true k (event_in R event)
-  unfolding asked_as asked_at
+  odd_stranger : (length event % 2 ≡ 0 → ⊥) → None ≡ event_asked (event_in R event)
+  unfolding event_asked asked_at
   odd_stranger h = sym (ap asked_at (ne_eqb (length event % 2) 0 h))
 
   -- Words that are no event are none with an odd byte behind them either.
-  none_asked : given_event R (words_in event) ≡ none → None ≡ asked_as true k (event_in R event)
-  unfolding asked_as asked_at
+  none_asked : given_event R (words_in event) ≡ none → None ≡ event_asked (event_in R event)
+  unfolding event_asked asked_at
   none_asked e = go (even event)
     where
       go : (b : Bool) → None ≡ asked_at b
-      go true = sym (ap (λ o. asked_as true k (or_refused Refusal.stranger o)) e)
+      go true = sym (ap (λ o. event_asked (or_refused Refusal.stranger o)) e)
       go false = refl
 
-  some_asked : length event % 2 ≡ 0 → (code z : ℕ) → Some code ≡ event_as (given_event R (words_in event)) → z ≡ code → Some z ≡ asked_as true k (event_in R event)
-  unfolding asked_as asked_at
+  some_asked : length event % 2 ≡ 0 → (code z : ℕ) → Some code ≡ event_as (given_event R (words_in event)) → z ≡ code → Some (Action_of z) ≡ event_asked (event_in R event)
+  unfolding event_asked asked_at
   some_asked ev code z e ez =
       let p = action_from (given_event R (words_in event)) code e in
-      ap Some (ez ∙ p.2) ∙ sym (ap asked_at (eq-eqb (length event % 2) 0 ev) ∙ ap (λ o. asked_as true k (or_refused Refusal.stranger o)) p.1)
+      ap (λ x. Some (Action_of x)) (ez ∙ p.2) ∙ sym (ap asked_at (eq-eqb (length event % 2) 0 ev) ∙ ap (λ o. event_asked (or_refused Refusal.stranger o)) p.1)
 
 -- ── the ways of returning ──
 
 module _ (T event : List ℕ) where
   -- What is asked for by the event, at each rule set that the tables declare.
-  abbrev EventAsked : Option ℕ → Type 0
-  EventAsked r = (R : RuleSet) → Form R → Declares T R → (k : ℕ) → r ≡ asked_as true k (event_in R event)
+  abbrev EventAsked : Option Wanted → Type 0
+  EventAsked r = (R : RuleSet) → Form R → Declares T R → r ≡ event_asked (event_in R event)
 
   pub asked_odd : (length event % 2 ≡ 0 → ⊥) → EventAsked None
-  asked_odd h R form d k = odd_stranger event R k h
+  asked_odd h R form d = odd_stranger event R h
 
   pub asked_long : 6 < word_count event → EventAsked None
-  asked_long h R form d k = none_asked event R k (long_stranger R form (words_in event) (omega (arith, words_counted event)))
+  asked_long h R form d = none_asked event R (long_stranger R form (words_in event) (omega (arith, words_counted event)))
 
   -- The words loaded into an array with room for them, and what was told of its front.
   module _ (M M' s : List ℕ) (room : word_count event ≤ length M) (l : Loaded event M M' 0 (word_count event)) (es : s ≡ take (word_count event) M') (g : Option ℕ) (told : (R : RuleSet) → Form R → Declares T R → g ≡ event_as (given_event R s)) where
@@ -109,18 +111,7 @@ module _ (T event : List ℕ) where
     told_event R form d = told R form d ∙ ap (λ u. event_as (given_event R u)) (es ∙ loaded_words event M M' (word_count event) refl room l)
 
     pub asked_stranger : g ≡ None → EventAsked None
-    asked_stranger f R form d k = none_asked event R k (stranger_from (given_event R (words_in event)) (sym f ∙ told_event R form d))
+    asked_stranger f R form d = none_asked event R (stranger_from (given_event R (words_in event)) (sym f ∙ told_event R form d))
 
-    pub asked_action : length event % 2 ≡ 0 → (code z : ℕ) → g ≡ Some code → z ≡ code → EventAsked (Some z)
-    asked_action ev code z f ez R form d k = some_asked event R k ev code z (sym f ∙ told_event R form d) ez
-
-  -- By a number, or by an event.
-  module _ (b : Bool) (k : ℕ) where
-    pub asked_by_event : (r : Option ℕ) → b ≡ true → EventAsked r → (R : RuleSet) → Form R → Declares T R → r ≡ asked_as b k (event_in R event)
-    asked_by_event r e h R form d = h R form d k ∙ ap (λ x. asked_as x k (event_in R event)) (sym e)
-
-    pub asked_by_number : b ≡ false → (R : RuleSet) → Form R → Declares T R → Some k ≡ asked_as b k (event_in R event)
-    unfolding asked_as
-    asked_by_number e R form d = sym (ap (λ x. asked_as x k (event_in R event)) e)
-
-pub ruleset cases = (asked_stranger, asked_action, asked_by_event, asked_by_number)
+    pub asked_action : length event % 2 ≡ 0 → (code z : ℕ) → g ≡ Some code → z ≡ code → EventAsked (Some (Action_of z))
+    asked_action ev code z f ez R form d = some_asked event R ev code z (sym f ∙ told_event R form d) ez

@@ -11,8 +11,11 @@ ghost use Rattle.scan.specs.Checking.{checked};
 ghost use Rattle.grammar.specs.Scoping.{scope};
 ghost use Rattle.grammar.specs.Fronts.{Operand, DataFront, CondFront};
 
+use code_numbers::{
+    AND, BEFORE, CONSTANT, DIFFERENCE, EQUAL, IF, LESS, NOT, NOW, OR, SUM, TRUE, UNDEFINED,
+    VARIABLE,
+};
 use refusals::Refusal;
-use scan::wide;
 
 // How many variables there are, and how many functions now and before may name.
 // Where before may name none, its code itself is refused.
@@ -38,7 +41,8 @@ fn operand(s: &[u16], at: usize, refusal: Refusal, limit: usize, m: usize) -> Re
     if s.len() <= at {
         return Err(Refusal::Form);
     }
-    if wide(s[at]) < limit {
+    let n = s[at] as usize;
+    if n < limit {
         return Ok(Front::On(at + 1, m));
     }
     Err(refusal)
@@ -52,16 +56,15 @@ fn data_front(s: &[u16], at: usize, rest: usize, c: Scope) -> Result<Front, Refu
     if s.len() <= at {
         return Err(Refusal::Form);
     }
-    let w = s[at];
     let b = at + 1;
-    match w {
-        0 => Ok(Front::On(b, rest)),
-        1 => operand(s, b, Refusal::Form, 65535, rest),
-        2 => operand(s, b, Refusal::Reference, c.variables, rest),
-        3..=4 => Ok(Front::On(b, rest + 2)),
-        5 => Ok(Front::Other(b)),
-        6 => operand(s, b, Refusal::Reference, c.now, rest + 1),
-        7 => {
+    match s[at] as usize {
+        UNDEFINED => Ok(Front::On(b, rest)),
+        CONSTANT => operand(s, b, Refusal::Form, 65535, rest),
+        VARIABLE => operand(s, b, Refusal::Reference, c.variables, rest),
+        SUM..=DIFFERENCE => Ok(Front::On(b, rest + 2)),
+        IF => Ok(Front::Other(b)),
+        NOW => operand(s, b, Refusal::Reference, c.now, rest + 1),
+        BEFORE => {
             if 0 < c.before {
                 operand(s, b, Refusal::Reference, c.before, rest + 1)
             } else {
@@ -80,13 +83,12 @@ fn cond_front(s: &[u16], at: usize, rest: usize, c: Scope) -> Result<Front, Refu
     if s.len() <= at {
         return Err(Refusal::Form);
     }
-    let w = s[at];
     let b = at + 1;
-    match w {
-        8..=9 => Ok(Front::Other(b)),
-        10..=11 => Ok(Front::On(b, rest + 2)),
-        12 => Ok(Front::On(b, rest + 1)),
-        13 => Ok(Front::On(b, rest)),
+    match s[at] as usize {
+        EQUAL..=LESS => Ok(Front::Other(b)),
+        AND..=OR => Ok(Front::On(b, rest + 2)),
+        NOT => Ok(Front::On(b, rest + 1)),
+        TRUE => Ok(Front::On(b, rest)),
         _ => Err(Refusal::Form),
     }
 }

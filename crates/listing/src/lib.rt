@@ -13,6 +13,7 @@ ghost use Rattle.listing.specs.Rows.{RowAt};
 ghost use Rattle.listing.specs.Counting.{operand_count, more_words, moving_code};
 
 use actions::{behind_action, code_at, in_set, join, mask_set};
+use code_numbers::{ACTION, CHOICE, DONE, GUARD, INTERNAL, PARALLEL, SEQUENCE, STAR};
 use combining::combine;
 use expressions::eval_cond;
 use scan::{behind, first, last};
@@ -30,7 +31,7 @@ const ONE_MORE: usize = 198;
 // The code before whose operands the four words of a mask stand.
 const FOUR_MORE: usize = 33554432;
 
-// By shifts and not by a table of cases, which would be a jump that no machine foresees.
+// Stays: shifts, in the three tables of bits, are faster than a match by cases, which would be a jump that no machine foresees.
 fn operands_behind(w: usize) -> usize
     requires { w ≤ 30 }
     ensures { (result ≡ operand_count w) × (result < 4) }
@@ -49,7 +50,7 @@ fn words_behind(w: usize) -> usize
 fn known_code(s: &[u16], at: usize) -> Option<usize>
     ensures { MatchOption result (at < length s.now → 30 < get_or s.now at 0) (λ w. (w ≡ get_or s.now at 0) × (at < length s.now) × (w ≤ 30)) }
 {
-    s.get(at).map(|w| *w as usize).filter(|w| *w <= 30)
+    s.get(at).map(|w| *w as usize).filter(|w| *w <= DONE)
 }
 
 // The words left behind n terms in a row. One loop over codes, which says nothing about values: `due` counts the terms, data and
@@ -64,7 +65,7 @@ pub fn skip_row(s: &[u16], n: usize) -> usize
         let Some(w) = known_code(s, at) else {
             return 0;
         };
-        if w == 21 {
+        if w == ACTION {
             at = s.len() - behind_action(&s[at + 1..]);
             due -= 1;
             continue;
@@ -115,7 +116,9 @@ pub fn idle(s: &[u16]) -> bool
 
 // ── listing ──
 
-// An answer that says that there was no room.
+// An answer that says that there was no room. Every other is 65,536 times how many moves are listed, and the words left.
+// Stays: measured, an Option of both numbers in a struct takes up to 1.30 times the instructions (guards; sequences behind done 1.22), and 160 bytes a
+// level of the stack for 96 (docs/DESIGN-PASS.md, "Answers in one number").
 const FULL: usize = 1099511627776;
 
 // One move.
@@ -142,7 +145,7 @@ pub fn behind_mask(d: &[u16]) -> &[u16]
 pub fn both_done(t: &[u16]) -> bool
     ensures { (P : Scope) (E F : Term) (rest : List ℕ) → TwoAt t.now P E F rest → result ≡ (done? E && done? F) }
 {
-    first(t) == 30 && first(behind(t)) == 30
+    first(t) == DONE && first(behind(t)) == DONE
 }
 
 // An action's move, or none where its label is in x.
@@ -176,13 +179,13 @@ fn list_shown(s: &[u16], m: &[u16], x: u64, acts: &mut [u32]) -> usize
     let w = first(s);
     let t = behind(s);
     match w {
-        20 => list_one(0, t.len(), acts),
-        21 => list_action(t, x, acts),
-        22 => list_sequence(t, m, x, acts),
-        23 => list_two(t, m, x, acts),
-        24 => list_star(t, m, x, acts),
-        25 => list_parallel(t, m, x, acts),
-        26 => list_guard(t, m, x, acts),
+        INTERNAL => list_one(0, t.len(), acts),
+        ACTION => list_action(t, x, acts),
+        SEQUENCE => list_sequence(t, m, x, acts),
+        CHOICE => list_two(t, m, x, acts),
+        STAR => list_star(t, m, x, acts),
+        PARALLEL => list_parallel(t, m, x, acts),
+        GUARD => list_guard(t, m, x, acts),
         _ => t.len(),
     }
 }
@@ -195,7 +198,7 @@ fn list_sequence(t: &[u16], m: &[u16], x: u64, acts: &mut [u32]) -> usize
     ensures { ShownListed x (22 ∷ t.now) m.now acts.old acts.new result }
 {
     let w = first(t);
-    if w == 30 {
+    if w == DONE {
         return list_shown(behind(t), m, x, acts);
     }
     let l = list_shown(t, m, x, acts);

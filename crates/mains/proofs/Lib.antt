@@ -1,3 +1,4 @@
 -- What the proofs of several functions use (document 01, "Operations": Run).
 mod MainCases
 mod BareCases
+mod MadeCases

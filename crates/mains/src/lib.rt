@@ -7,7 +7,6 @@ ghost use Rattle.std.specs.Prelude.{◌≡◌, ◌+◌, ◌≤◌, length, get_o
 ghost use Rattle.mains.specs.Mains.{RunsMain, Padded, Finished};
 ghost use Rattle.mains.specs.Starts.{RunsBare, RunsMasked};
 
-use arguments::{entry, low32};
 use cells::{Functions, load, save};
 use runs::run_moves;
 use runs::scratch::Scratch;
@@ -94,7 +93,7 @@ fn run_bare(
         memory,
     );
     Totals {
-        size: low32(q / 65536),
+        size: (q / 65536 % 4294967296) as u32,
         visible: r.visible,
         internal: r.internal,
         refused: r.refused,
@@ -120,7 +119,7 @@ fn run_masked(
     let r = run_moves(numbers, functions, n, ws, m, spare, scratch);
     finish(ws, r.size, reach, m, functions.cells, term, memory);
     Totals {
-        size: low32(r.size),
+        size: (r.size % 4294967296) as u32,
         visible: r.visible,
         internal: r.internal,
         refused: r.refused,
@@ -220,13 +219,7 @@ pub fn run_main(
     requires { (length t.now ≤ 65535) × (c ≤ 1024) × (get_or tb.now 17 0 ≤ 64) × (get_or tb.now 210 0 ≤ 16) }
     ensures { RunsMain numbers.now t.now tb.now dir.now c reach 8192 term.old memory.old spare.old result term.new memory.new spare.new }
 {
-    let functions = Functions {
-        words: t,
-        directory: dir,
-        width: 3 + entry(tb, 17) as usize,
-        count: entry(tb, 210) as usize,
-        cells: c,
-    };
+    let functions = Functions::of(t, tb, dir, c);
     if reach <= 256 {
         return run_sized::<256>(numbers, &functions, tb, reach, term, memory, spare);
     }

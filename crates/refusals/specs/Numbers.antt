@@ -1,7 +1,7 @@
 -- The number of each refusal, and the refusal of each number: the one is the other's inverse from 1 to 12.
 -- Document 01, the table under "Operations".
 use Rattle.std.specs.Prelude.{◌≡◌, refl, Bool, true, false, ◌||◌, List, [], ◌∷◌, ℕ, T, eqb}
-use Rattle.std.proofs.Common.{sym, subst, eqb→eq}
+use Rattle.std.proofs.Common.{sym, ap, ◌∙◌, subst, eqb→eq}
 use Rattle.eb3.specs.Refusal as named
 use Rattle.eb3.specs.Reading.{pick}
 use Rattle.eb3.specs.Answers.{Answer, refused}
@@ -65,3 +65,7 @@ pub record RefusedBy {A : Type 0} (k : Refusal) (a : Answer A) : Type 0 where
   pub code : ℕ
   pub is : a ≡ refused code
   pub named : k ≡ refusal code
+
+-- An operation's answer is refused by the number itself, as all numbers that operations refuse by are refusals'.
+pub refused_by : {A : Type 0} (k : Refusal) (a : Answer A) → ((j : ℕ) → a ≡ refused j → T (one_of named.of_present j)) → RefusedBy k a → a ≡ refused (number k)
+refused_by k a within h = h.is ∙ ap refused (sym (ap number h.named ∙ number_refusal h.code (within h.code h.is)))

@@ -17,7 +17,7 @@ use Rattle.eb3.proofs.Laws.ExpressionReading.{cond_sound}
 use Rattle.eb3.proofs.Laws.Spelling.{cond_length}
 use Rattle.eb3.proofs.Laws.Measures.{guard_size_one}
 use Rattle.scan.specs.Checking.{checked, last_of, Checked}
-use Rattle.scan.specs.ReadingLaws.{Taken, checked_refused, checked_taken, giving_refused, giving_taken, both_first, both_second, both_taken, by_number_refused, by_number_taken}
+use Rattle.scan.specs.ReadingLaws.{Taken, checked_refused, checked_taken, giving_refused_as, giving_taken, both_first_as, both_second_as, both_taken, by_number_refused, by_number_taken}
 use Rattle.grammar.specs.Laws.{cond_ends}
 use Rattle.weights.specs.declared.Weight.{Weight}
 use Rattle.weights.specs.Weighing.{cap, measure}
@@ -61,7 +61,7 @@ module _ (T Γ : List ℕ) where
     as_declared = e ∙ ap checked width_one
 
     pub guard_none : (k : Refusal) → p ≡ Err k → Err k ≡ answer T guards
-    guard_none k h = refused_in (declared T) (callee T) _ k (giving_refused _ _ k (both_first conditions (terms T Γ) t k (checked_refused (conditions t) k (sym h ∙ as_declared))))
+    guard_none k h = refused_in (declared T) (callee T) _ k (giving_refused_as _ _ k (both_first_as conditions (terms T Γ) t k (checked_refused (conditions t) k (sym h ∙ as_declared))))
 
     module _ (n : ℕ) (r : List ℕ) (q : Answer) (h : p ≡ Ok n) (l : r ≡ last_of n t) (f : q ≡ answer T (terms T Γ r)) where
       got_condition : Taken t n (conditions t)
@@ -70,7 +70,7 @@ module _ (T Γ : List ℕ) where
       pub guard_out : (k : Refusal) → q ≡ Err k → Err k ≡ answer T guards
       guard_out k o =
           let g = got_condition in
-          refused_in (declared T) (callee T) _ k (giving_refused _ _ k (both_second conditions (terms T Γ) t g.value g.rest k g.read (refused_behind (terms T Γ) t r n _ k g l (no_term T Γ r k q f o))))
+          refused_in (declared T) (callee T) _ k (giving_refused_as _ _ k (both_second_as conditions (terms T Γ) t g.value g.rest k g.read (refused_behind (terms T Γ) t r n _ k g l (no_term T Γ r k q f o))))
 
       size_taken : (c : ℕ) → c ≡ length t - n → c ≡ guard_size (declared T).edition.width got_condition.value
       unfolding declared

@@ -4,19 +4,20 @@ use mathlib.Core.Path.{◌≡◌, refl, sym, ap, ◌∙◌}
 use mathlib.Core.List.{List}
 use lib.ListN.{length, drop, get_or}
 use borrow.Author.Tests.{ne_eqb, lt-ltb, le-ltb}
-use Rattle.eb3.specs.RuleSets.{RuleTerm, rule_internal, rule_sequence, rule_choice}
+use Rattle.eb3.specs.RuleSets.{RuleTerm, rule_internal}
 use Rattle.eb3.specs.Measures.{sat, leaf, measure_term}
-use Rattle.eb3.specs.Reading.{Read}
+use Rattle.eb3.specs.Reading.{Read, both}
 use Rattle.eb3.specs.RuleReading.{RuleKind, rule_kind, rule_by, rule_terms, read_rule_term}
 use Rattle.scan.specs.Laws.{nil_form}
 use Rattle.weights.specs.declared.Weight.{Weight}
 use Rattle.weights.specs.Weighing.{cap, measure}
 use Rattle.arguments.specs.Tables.{declared, callee}
-use Rattle.rule_terms.specs.Weighed.{weighed, Answer, found}
+use Rattle.rule_terms.specs.Weighed.{weighed, weighed_two, Answer, found}
 use Rattle.rule_terms.specs.Laws.{term_case}
 use Rattle.rule_terms.specs.WeighedLaws.{weighed_in}
-use Rattle.rule_terms.proofs.Parts.{terms, answer, pair_first, sides_first, pair_second, sides_second, sequence_in, choice_in, sides_in, parallel_none, parallel_in, copies_none, copies_out, copies_in}
+use Rattle.rule_terms.proofs.Parts.{terms, answer, two_first, two_second, two_in, weighed_sequence, weighed_choice, parallel_none, parallel_in, copies_none, copies_out, copies_in}
 use Rattle.rule_terms.proofs.Binders.{guard_none, guard_out, guard_in, quantified_none, quantified_in}
+use Rattle.rule_terms.specs.declared.Joint.TheVariants.{Sequence as InSequence, Choice as InChoice}
 use Rattle.std.specs.Prelude.{Err}
 use Rattle.refusals.specs.declared.Refusal.TheVariants.{Form}
 use Rattle.refusals.specs.Numbers.{refusal}
@@ -55,11 +56,11 @@ module _ (T Γ s t : List ℕ) (h : length s ≡ 0 → ⊥) (q : t ≡ drop 1 s)
     pub term_action : get_or s 0 0 ≡ 21 → p ≡ answer T (by RuleKind.action) → p ≡ answer T (terms T Γ s)
     term_action e f = by_code 21 p e f
 
-    pub term_sequence : get_or s 0 0 ≡ 22 → p ≡ answer T (by (RuleKind.pair rule_sequence)) → p ≡ answer T (terms T Γ s)
-    term_sequence e f = by_code 22 p e f
+    pub term_sequence : get_or s 0 0 ≡ 22 → p ≡ weighed_two (declared T) (callee T) InSequence (both (terms T Γ) (terms T Γ) t) → p ≡ answer T (terms T Γ s)
+    term_sequence e f = by_code 22 p e (f ∙ weighed_sequence (declared T) (callee T) (both (terms T Γ) (terms T Γ) t))
 
-    pub term_choice : get_or s 0 0 ≡ 23 → p ≡ answer T (by (RuleKind.pair rule_choice)) → p ≡ answer T (terms T Γ s)
-    term_choice e f = by_code 23 p e f
+    pub term_choice : get_or s 0 0 ≡ 23 → p ≡ weighed_two (declared T) (callee T) InChoice (both (terms T Γ) (terms T Γ) t) → p ≡ answer T (terms T Γ s)
+    term_choice e f = by_code 23 p e (f ∙ weighed_choice (declared T) (callee T) (both (terms T Γ) (terms T Γ) t))
 
     pub term_parallel : get_or s 0 0 ≡ 25 → p ≡ answer T (by RuleKind.parallel) → p ≡ answer T (terms T Γ s)
     term_parallel e f = by_code 25 p e f
@@ -87,6 +88,6 @@ module _ (T Γ s t : List ℕ) (h : length s ≡ 0 → ⊥) (q : t ≡ drop 1 s)
 
 pub ruleset codes = (term_none, term_internal, term_action, term_sequence, term_choice, term_parallel, term_guard, term_over, term_many, term_over_full, term_many_full, term_call, term_other)
 
-pub ruleset parts = (pair_first, sides_first, pair_second, sides_second, sequence_in, choice_in, sides_in, parallel_none, parallel_in, copies_none, copies_out, copies_in)
+pub ruleset parts = (two_first, two_second, two_in, parallel_none, parallel_in, copies_none, copies_out, copies_in)
 
 pub ruleset binders = (guard_none, guard_out, guard_in, quantified_none, quantified_in)

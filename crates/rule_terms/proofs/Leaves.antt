@@ -11,7 +11,7 @@ use Rattle.eb3.specs.Measures.{sat, Measure, nothing, leaf, measure_term}
 use Rattle.eb3.specs.Reading.{Read, giving, number_of, by_number}
 use Rattle.eb3.specs.RuleReading.{arguments_of, rule_action_of, call_of}
 use Rattle.scan.specs.Checking.{checked, last_of, Checked}
-use Rattle.scan.specs.ReadingLaws.{Taken, checked_refused, checked_taken, giving_refused, giving_taken, by_number_refused, by_number_taken, number_below, RefusedAs, same_refused}
+use Rattle.scan.specs.ReadingLaws.{Taken, checked_refused, checked_taken, giving_refused_as, giving_taken, by_number_refused, by_number_taken, number_below, same_refused}
 use Rattle.weights.specs.declared.Weight.{Weight}
 use Rattle.weights.specs.Weighing.{cap, measure}
 use Rattle.arguments.specs.Tables.{row, declared, callee}
@@ -48,7 +48,7 @@ module _ (T Γ t : List ℕ) (k : ℕ → List Argument → RuleTerm) (limit : �
     there = by_number_taken 5 limit _ t n (sym h ∙ e) ∙ ap (λ x. giving (k (get_or t 0 0)) (arguments_of (declared T) Γ (rows (get_or t 0 0)) x)) (sym l) ∙ ap (λ x. giving (k (get_or t 0 0)) (arguments_of (declared T) Γ x r)) (sym i)
 
     asked_out : (j : Refusal) → q ≡ Err j → Err j ≡ weighed (declared T) (callee T) asked
-    asked_out j g = refused_in (declared T) (callee T) asked j (same_refused _ _ j there (giving_refused (k (get_or t 0 0)) _ j (checked_refused _ j (sym g ∙ f))))
+    asked_out j g = refused_in (declared T) (callee T) asked j (same_refused _ _ j there (giving_refused_as (k (get_or t 0 0)) _ j (checked_refused _ j (sym g ∙ f))))
 
     asked_in : (m : ℕ) (w : Weight) → q ≡ Ok m → ((rs : List Argument) → length rs ≡ length ds → measure w ≡ measure_term (sat cap) (declared T) (callee T) (k (get_or t 0 0) rs)) → found m w ≡ weighed (declared T) (callee T) asked
     asked_in m w g o =

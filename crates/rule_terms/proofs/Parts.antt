@@ -13,17 +13,19 @@ use Rattle.eb3.specs.TermReading.{mask_of}
 use Rattle.eb3.specs.RuleReading.{rule_mask_of, read_rule_term}
 use Rattle.scan.specs.Checking.{checked, last_of, Checked}
 use Rattle.scan.specs.Laws.{Ends, tail_here}
-use Rattle.scan.specs.ReadingLaws.{Taken, checked_refused, checked_taken, giving_refused, giving_taken, both_first, both_second, both_taken, RefusedAs, same_refused}
+use Rattle.scan.specs.ReadingLaws.{Taken, checked_refused, checked_taken, giving_refused_as, both_first_as, both_second_as, both_taken, RefusedAs, same_refused}
 use Rattle.weights.specs.declared.Weight.{Weight}
 use Rattle.weights.specs.Weighing.{cap, measure, weight, parallel_by}
 use Rattle.arguments.specs.Tables.{declared, callee}
 use Rattle.arguments.specs.TableLaws.{labels_length, mask_read}
 use Rattle.rule_terms.specs.declared.Weighed.{Weighed}
-use Rattle.rule_terms.specs.Weighed.{weighed, weighed_sides, mask_if, copies_of, weighed_copies, Answer, found}
+use Rattle.rule_terms.specs.Weighed.{weighed, joint_of, weighed_two, mask_if, copies_of, weighed_copies, Answer, found}
 use Rattle.rule_terms.specs.Laws.{term_ends, rule_mask_ends}
-use Rattle.rule_terms.specs.WeighedLaws.{weighed_out, weighed_got, weighed_in, refused_in}
+use Rattle.rule_terms.specs.WeighedLaws.{weighed_out, weighed_got, refused_in}
 use Rattle.std.specs.Prelude.{Ok, Err}
 use Rattle.refusals.specs.declared.Refusal.{Refusal}
+use Rattle.rule_terms.specs.declared.Joint.{Joint}
+use Rattle.rule_terms.specs.declared.Joint.TheVariants.{Sequence as InSequence, Choice as InChoice, Parallel as InParallel}
 use Rattle.rule_terms.specs.declared.Quantifier.{Quantifier}
 use Rattle.rule_terms.specs.declared.Quantifier.TheVariants.{Choice, Parallel}
 
@@ -51,59 +53,53 @@ refused_behind f t r n s k g l h = same_refused _ _ k (behind_got f t r n s g l)
 
 -- ── two terms ──
 
-module _ (T Γ t : List ℕ) (p : Answer) (e : p ≡ answer T (terms T Γ t)) where
-  no_first : (k : Refusal) → p ≡ Err k → RefusedAs k (both (terms T Γ) (terms T Γ) t)
-  no_first k h = both_first (terms T Γ) (terms T Γ) t k (no_term T Γ t k p e h)
+module _ (j : Joint) (a b x : Weight) where
+  pub joint_sequence : j ≡ InSequence → measure x ≡ sequence_of (sat cap) (measure a) (measure b) → measure x ≡ joint_of j (measure a) (measure b)
+  unfolding joint_of
+  joint_sequence e h = rw e h
 
-  pub pair_first : (f : RuleTerm × RuleTerm → RuleTerm) (k : Refusal) → p ≡ Err k → Err k ≡ answer T (giving f (both (terms T Γ) (terms T Γ) t))
-  pair_first f k h = refused_in (declared T) (callee T) _ k (giving_refused f _ k (no_first k h))
+  pub joint_choice : j ≡ InChoice → measure x ≡ choice_of (sat cap) (measure a) (measure b) → measure x ≡ joint_of j (measure a) (measure b)
+  unfolding joint_of
+  joint_choice e h = rw e h
 
-  pub sides_first : (z : Bool) (k : Refusal) → p ≡ Err k → Err k ≡ weighed_sides (declared T) (callee T) z (both (terms T Γ) (terms T Γ) t)
-  unfolding weighed_sides
-  sides_first z k h = let n = no_first k h in rw n.read (ap Err n.named)
+  pub joint_parallel : (z : Bool) → j ≡ InParallel z → measure x ≡ parallel_by z (measure a) (measure b) → measure x ≡ joint_of j (measure a) (measure b)
+  unfolding joint_of
+  joint_parallel z e h = rw e h
+
+pub ruleset joints = (joint_sequence, joint_choice, joint_parallel)
+
+module _ (T Γ t : List ℕ) (j : Joint) (p : Answer) (e : p ≡ answer T (terms T Γ t)) where
+  pub two_first : (k : Refusal) → p ≡ Err k → Err k ≡ weighed_two (declared T) (callee T) j (both (terms T Γ) (terms T Γ) t)
+  unfolding weighed_two
+  two_first k h = let n = both_first_as (terms T Γ) (terms T Γ) t k (no_term T Γ t k p e h) in rw n.read (ap Err n.named)
 
   module _ (one : Weighed) (r : List ℕ) (q : Answer) (h : p ≡ Ok one) (l : r ≡ last_of one.left t) (f : q ≡ answer T (terms T Γ r)) where
-    no_second : (k : Refusal) → q ≡ Err k → RefusedAs k (both (terms T Γ) (terms T Γ) t)
-    no_second k i =
+    pub two_second : (k : Refusal) → q ≡ Err k → Err k ≡ weighed_two (declared T) (callee T) j (both (terms T Γ) (terms T Γ) t)
+    unfolding weighed_two
+    two_second k i =
         let g = (got_term T Γ t one.left one.weight p e h).0 in
-        both_second (terms T Γ) (terms T Γ) t g.value g.rest k g.read (refused_behind (terms T Γ) t r one.left _ k g l (no_term T Γ r k q f i))
+        let n = both_second_as (terms T Γ) (terms T Γ) t g.value g.rest k g.read (refused_behind (terms T Γ) t r one.left _ k g l (no_term T Γ r k q f i)) in
+        rw n.read (ap Err n.named)
 
-    pub pair_second : (g : RuleTerm × RuleTerm → RuleTerm) (k : Refusal) → q ≡ Err k → Err k ≡ answer T (giving g (both (terms T Γ) (terms T Γ) t))
-    pair_second g k i = refused_in (declared T) (callee T) _ k (giving_refused g _ k (no_second k i))
+    pub two_in : (m : ℕ) (w x : Weight) → q ≡ found m w → measure x ≡ joint_of j (measure one.weight) (measure w) → found m x ≡ weighed_two (declared T) (callee T) j (both (terms T Γ) (terms T Γ) t)
+    unfolding weighed_two
+    two_in m w x i d =
+        let a = got_term T Γ t one.left one.weight p e h in
+        let b = got_term T Γ r m w q f i in
+        rw (both_taken (terms T Γ) (terms T Γ) t a.0.value a.0.rest b.0.value b.0.rest a.0.read (behind_got (terms T Γ) t r one.left _ a.0 l ∙ b.0.read))
+        ((λ y. found (b.0.left y) (weight (d y))) ∙ (λ y. found (length b.0.rest) (weight (joint_of j (a.1 y) (b.1 y)))))
 
-    pub sides_second : (z : Bool) (k : Refusal) → q ≡ Err k → Err k ≡ weighed_sides (declared T) (callee T) z (both (terms T Γ) (terms T Γ) t)
-    unfolding weighed_sides
-    sides_second z k i = let n = no_second k i in rw n.read (ap Err n.named)
+-- Two terms in a row are a sequence, or a choice.
+module _ (R : RuleSet) (M : ℕ → Measure) where
+  pub weighed_sequence : (s : Read (RuleTerm × RuleTerm)) → weighed_two R M InSequence s ≡ weighed R M (giving (λ p. rule_sequence p.0 p.1) s)
+  unfolding weighed_two joint_of weighed giving measure_term
+  weighed_sequence (refused k) = refl
+  weighed_sequence (taken p u) = refl
 
-    module _ (m : ℕ) (w x : Weight) (i : q ≡ found m w) where
-      two_read : both (terms T Γ) (terms T Γ) t ≡ taken ((got_term T Γ t one.left one.weight p e h).0.value, (got_term T Γ r m w q f i).0.value) (got_term T Γ r m w q f i).0.rest
-      two_read =
-          let a = got_term T Γ t one.left one.weight p e h in
-          let b = got_term T Γ r m w q f i in
-          both_taken (terms T Γ) (terms T Γ) t a.0.value a.0.rest b.0.value b.0.rest a.0.read (behind_got (terms T Γ) t r one.left _ a.0 l ∙ b.0.read)
-
-      pub sequence_in : measure x ≡ sequence_of (sat cap) (measure one.weight) (measure w) → found m x ≡ answer T (giving (λ s. rule_sequence s.0 s.1) (both (terms T Γ) (terms T Γ) t))
-      unfolding measure_term
-      sequence_in d =
-          let a = got_term T Γ t one.left one.weight p e h in
-          let b = got_term T Γ r m w q f i in
-          weighed_in (declared T) (callee T) m x _ (rule_sequence a.0.value b.0.value) b.0.rest (giving_taken _ _ (a.0.value, b.0.value) b.0.rest two_read) b.0.left
-          (d ∙ (λ j. sequence_of (sat cap) (a.1 j) (b.1 j)))
-
-      pub choice_in : measure x ≡ choice_of (sat cap) (measure one.weight) (measure w) → found m x ≡ answer T (giving (λ s. rule_choice s.0 s.1) (both (terms T Γ) (terms T Γ) t))
-      unfolding measure_term
-      choice_in d =
-          let a = got_term T Γ t one.left one.weight p e h in
-          let b = got_term T Γ r m w q f i in
-          weighed_in (declared T) (callee T) m x _ (rule_choice a.0.value b.0.value) b.0.rest (giving_taken _ _ (a.0.value, b.0.value) b.0.rest two_read) b.0.left
-          (d ∙ (λ j. choice_of (sat cap) (a.1 j) (b.1 j)))
-
-      pub sides_in : (z : Bool) → measure x ≡ parallel_by z (measure one.weight) (measure w) → found m x ≡ weighed_sides (declared T) (callee T) z (both (terms T Γ) (terms T Γ) t)
-      unfolding weighed_sides
-      sides_in z d =
-          let a = got_term T Γ t one.left one.weight p e h in
-          let b = got_term T Γ r m w q f i in
-          rw two_read ((λ j. found (b.0.left j) (weight (d j))) ∙ (λ j. found (length b.0.rest) (weight (parallel_by z (a.1 j) (b.1 j)))))
+  pub weighed_choice : (s : Read (RuleTerm × RuleTerm)) → weighed_two R M InChoice s ≡ weighed R M (giving (λ p. rule_choice p.0 p.1) s)
+  unfolding weighed_two joint_of weighed giving measure_term
+  weighed_choice (refused k) = refl
+  weighed_choice (taken p u) = refl
 
 -- ── a mask, then two terms ──
 
@@ -112,12 +108,11 @@ unfolding both then
 both_there f g t a u e = rw e
 
 sides_beside : (R : RuleSet) (M : ℕ → Measure) (Δ : List ℕ) (r : Read (RuleTerm × RuleTerm))
-    → weighed_sides R M (zero_mask Δ) r ≡ weighed R M (giving (λ (s : List ℕ × (RuleTerm × RuleTerm)). rule_parallel s.0 s.1.0 s.1.1) (giving (λ b. (Δ, b)) r))
-unfolding weighed weighed_sides giving measure_term
+    → weighed_two R M (InParallel (zero_mask Δ)) r ≡ weighed R M (giving (λ (s : List ℕ × (RuleTerm × RuleTerm)). rule_parallel s.0 s.1.0 s.1.1) (giving (λ b. (Δ, b)) r))
+unfolding weighed weighed_two joint_of giving measure_term
 sides_beside R M Δ (refused k) = refl
 sides_beside R M Δ (taken p u) = refl
 
--- b is the number of labels, as the code has it
 module _ (T t : List ℕ) (b : ℕ) (p : Checked) (i : b ≡ get_or T 17 0) (e : p ≡ checked (mask_of 4 b t)) where
   as_declared : p ≡ checked (rule_mask_of (declared T) t)
   as_declared = e ∙ ap (λ n. checked (mask_of 4 n t)) (i ∙ sym (labels_length T))
@@ -127,13 +122,13 @@ module _ (T t : List ℕ) (b : ℕ) (p : Checked) (i : b ≡ get_or T 17 0) (e :
     parallels = giving (λ s. rule_parallel s.0 s.1.0 s.1.1) (both (rule_mask_of (declared T)) (both (terms T Γ) (terms T Γ)) t)
 
     pub parallel_none : (k : Refusal) → p ≡ Err k → Err k ≡ answer T parallels
-    parallel_none k h = refused_in (declared T) (callee T) _ k (giving_refused _ _ k (both_first (rule_mask_of (declared T)) (both (terms T Γ) (terms T Γ)) t k (checked_refused (rule_mask_of (declared T) t) k (sym h ∙ as_declared))))
+    parallel_none k h = refused_in (declared T) (callee T) _ k (giving_refused_as _ _ k (both_first_as (rule_mask_of (declared T)) (both (terms T Γ) (terms T Γ)) t k (checked_refused (rule_mask_of (declared T) t) k (sym h ∙ as_declared))))
 
-    pub parallel_in : (n : ℕ) (r : List ℕ) (q : Answer) (z : Bool) → p ≡ Ok n → r ≡ last_of n t → z ≡ zero_mask (take 4 t) → q ≡ weighed_sides (declared T) (callee T) z (both (terms T Γ) (terms T Γ) r) → q ≡ answer T parallels
+    pub parallel_in : (n : ℕ) (r : List ℕ) (q : Answer) (z : Bool) → p ≡ Ok n → r ≡ last_of n t → z ≡ zero_mask (take 4 t) → q ≡ weighed_two (declared T) (callee T) (InParallel z) (both (terms T Γ) (terms T Γ) r) → q ≡ answer T parallels
     parallel_in n r q z h l c f =
         let g : Taken t n (rule_mask_of (declared T) t) = checked_taken t n (rule_mask_of (declared T) t) (rule_mask_ends (declared T) t) (sym h ∙ as_declared) in
         let m : g.value ≡ take 4 t = mask_read 4 (length (declared T).labels) t g.value g.rest g.read in
-        f ∙ ap (λ y. weighed_sides (declared T) (callee T) y (both (terms T Γ) (terms T Γ) r)) (c ∙ ap zero_mask (sym m)) ∙ sides_beside (declared T) (callee T) g.value (both (terms T Γ) (terms T Γ) r)
+        f ∙ ap (λ y. weighed_two (declared T) (callee T) (InParallel y) (both (terms T Γ) (terms T Γ) r)) (c ∙ ap zero_mask (sym m)) ∙ sides_beside (declared T) (callee T) g.value (both (terms T Γ) (terms T Γ) r)
         ∙ ap (λ y. answer T (giving (λ s. rule_parallel s.0 s.1.0 s.1.1) y))
         (ap (giving (λ s. (g.value, s))) (sym (behind_got (both (terms T Γ) (terms T Γ)) t r n _ g l)) ∙ sym (both_there (rule_mask_of (declared T)) (both (terms T Γ) (terms T Γ)) t g.value g.rest g.read))
 
@@ -172,7 +167,7 @@ module _ (T Γ t : List ℕ) (w : Quantifier) (c : ℕ) (p : Checked) (e : p ≡
   pub copies_none : (k : Refusal) → p ≡ Err k → Err k ≡ weighed_copies (declared T) (callee T) w c copies
   unfolding weighed_copies
   copies_none k h =
-      let n = both_first (mask_if w (declared T)) (terms T Γ) t k (checked_refused (mask_if w (declared T) t) k (sym h ∙ e)) in
+      let n = both_first_as (mask_if w (declared T)) (terms T Γ) t k (checked_refused (mask_if w (declared T) t) k (sym h ∙ e)) in
       rw n.read (ap Err n.named)
 
   module _ (n : ℕ) (r : List ℕ) (q : Answer) (h : p ≡ Ok n) (l : r ≡ last_of n t) (f : q ≡ answer T (terms T Γ r)) where
@@ -183,7 +178,7 @@ module _ (T Γ t : List ℕ) (w : Quantifier) (c : ℕ) (p : Checked) (e : p ≡
     unfolding weighed_copies
     copies_out k o =
         let g = got_mask in
-        let m = both_second (mask_if w (declared T)) (terms T Γ) t g.value g.rest k g.read (refused_behind (terms T Γ) t r n _ k g l (no_term T Γ r k q f o)) in
+        let m = both_second_as (mask_if w (declared T)) (terms T Γ) t g.value g.rest k g.read (refused_behind (terms T Γ) t r n _ k g l (no_term T Γ r k q f o)) in
         rw m.read (ap Err m.named)
 
     pub copies_in : (m : ℕ) (z : Bool) (v x : Weight) → q ≡ found m v → z ≡ zero_mask (take 4 t) → measure x ≡ copies_of w z c (measure v) → found m x ≡ weighed_copies (declared T) (callee T) w c copies

@@ -15,7 +15,7 @@ use Rattle.weights.specs.declared.Weight.{Weight}
 use Rattle.weights.specs.Weighing.{cap, measure, stars_of}
 use Rattle.arguments.specs.Tables.{declared, callee}
 use Rattle.rule_terms.specs.Starred.{starred, Stars}
-use Rattle.scan.specs.ReadingLaws.{giving_refused, RefusedAs, same_refused}
+use Rattle.scan.specs.ReadingLaws.{giving_refused_as, RefusedAs, same_refused}
 use Rattle.rule_terms.specs.Laws.{term_case}
 use Rattle.rule_terms.specs.WeighedLaws.{weighed_in, refused_in}
 use Rattle.rule_terms.proofs.Parts.{terms, answer, got_term, no_term}
@@ -65,7 +65,7 @@ beyond_front s t k e h f = h (ap (λ u. get_or u 0 0) (sym e) ∙ f)
 starred_refused : (k : ℕ) (j : Refusal) (r : Read RuleTerm) → RefusedAs j r → RefusedAs j (starred k r)
 unfolding starred
 starred_refused zero j r e = e
-starred_refused (suc k) j r e = giving_refused rule_star (starred k r) j (starred_refused k j r e)
+starred_refused (suc k) j r e = giving_refused_as rule_star (starred k r) j (starred_refused k j r e)
 
 abbrev nest : ℕ → RuleTerm → RuleTerm
 nest zero E = E

@@ -3,7 +3,7 @@
 use Rattle.std.specs.Prelude.{Bool, List, [], ℕ, length, Result, Ok, Err}
 use Rattle.eb3.specs.RuleSets.{RuleTerm, RuleSet}
 use Rattle.eb3.specs.Sizes.{zero_mask}
-use Rattle.eb3.specs.Measures.{sat, Measure, nothing, choice_of, measure_term}
+use Rattle.eb3.specs.Measures.{sat, Measure, nothing, sequence_of, choice_of, measure_term}
 use Rattle.eb3.specs.Unfolding.{right_nest}
 use Rattle.eb3.specs.Reading.{Read, refused, taken, Reader}
 use Rattle.eb3.specs.RuleReading.{rule_mask_of, RuleKind}
@@ -12,6 +12,8 @@ use Rattle.weights.specs.Weighing.{cap, weight, parallel_by}
 use Rattle.refusals.specs.declared.Refusal.{Refusal}
 use Rattle.refusals.specs.Numbers.{refusal}
 use Rattle.rule_terms.specs.declared.Weighed.{Weighed}
+use Rattle.rule_terms.specs.declared.Joint.{Joint}
+use Rattle.rule_terms.specs.declared.Joint.TheVariants.{Sequence as InSequence, Choice as InChoice, Parallel as InParallel}
 use Rattle.rule_terms.specs.declared.Quantifier.{Quantifier}
 use Rattle.rule_terms.specs.declared.Quantifier.TheVariants.{Choice, Parallel}
 
@@ -26,10 +28,16 @@ unfoldable pub weighed : RuleSet → (ℕ → Measure) → Read RuleTerm → Ans
 weighed R M (refused k) = Err (refusal k)
 weighed R M (taken E t) = found (length t) (weight (measure_term (sat cap) R M E))
 
--- The same of the two sides of a parallel, whose mask is zero or is not.
-unfoldable pub weighed_sides : RuleSet → (ℕ → Measure) → Bool → Read (RuleTerm × RuleTerm) → Answer
-weighed_sides R M z (refused k) = Err (refusal k)
-weighed_sides R M z (taken p t) = found (length t) (weight (parallel_by z (measure_term (sat cap) R M p.0) (measure_term (sat cap) R M p.1)))
+-- What two terms measure together.
+unfoldable pub joint_of : Joint → Measure → Measure → Measure
+joint_of InSequence l r = sequence_of (sat cap) l r
+joint_of InChoice l r = choice_of (sat cap) l r
+joint_of (InParallel z) l r = parallel_by z l r
+
+-- The answer of two terms in a row.
+unfoldable pub weighed_two : RuleSet → (ℕ → Measure) → Joint → Read (RuleTerm × RuleTerm) → Answer
+weighed_two R M j (refused k) = Err (refusal k)
+weighed_two R M j (taken p t) = found (length t) (weight (joint_of j (measure_term (sat cap) R M p.0) (measure_term (sat cap) R M p.1)))
 
 -- ── quantifiers: a choice, or a parallel, which has a mask ──
 

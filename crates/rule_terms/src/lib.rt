@@ -3,7 +3,7 @@
 #![tactic(auto)]
 
 ghost use Rattle.std.specs.Prelude.{◌≡◌, Bool, ◌+◌, ◌-◌, ◌≤◌, ◌<◌, drop, take, get_or, length};
-ghost use Rattle.eb3.specs.RuleSets.{rule_sequence, rule_choice, attributes};
+ghost use Rattle.eb3.specs.RuleSets.{attributes};
 ghost use Rattle.eb3.specs.Scopes.{guard_scope};
 ghost use Rattle.eb3.specs.Reading.{both};
 ghost use Rattle.eb3.specs.ExpressionReading.{read_cond};
@@ -11,12 +11,15 @@ ghost use Rattle.eb3.specs.RuleReading.{rule_action_of, call_of, RuleKind, rule_
 ghost use Rattle.weights.specs.Weighing.{measure};
 ghost use Rattle.arguments.specs.Tables.{declared, callee};
 ghost use Rattle.scan.specs.Checking.{checked};
-ghost use Rattle.rule_terms.specs.Weighed.{weighed, weighed_sides, weighed_copies, mask_if, copies_of, quantifier};
+ghost use Rattle.rule_terms.specs.Weighed.{weighed, joint_of, weighed_two, weighed_copies, mask_if, copies_of, quantifier};
 ghost use Rattle.rule_terms.specs.Starred.{Stars};
 
 use arguments::{
     check_arguments, check_mask, domains, entry, functions, labels, mask_zero, processes, row_at,
     size_of, with,
+};
+use code_numbers::{
+    ACTION, CALL, CHOICE, CHOICE_OVER, GUARD, INTERNAL, PARALLEL, PARALLEL_OVER, SEQUENCE, STAR,
 };
 use grammar::{Scope, check_cond};
 use refusals::Refusal;
@@ -35,8 +38,16 @@ pub struct Weighed {
     pub weight: Weight,
 }
 
+// How two terms stand together: for a parallel, whether its mask is zero.
+#[derive(Clone, Copy)]
+enum Joint {
+    Sequence,
+    Choice,
+    Parallel(bool),
+}
+
 // Over the elements of a domain: a choice of copies, or copies in parallel, for which a mask is given.
-#[derive(Clone, Copy, PartialEq, Eq)]
+#[derive(Clone, Copy)]
 enum Quantifier {
     Choice,
     Parallel,
@@ -97,44 +108,30 @@ fn operand(t: &[u16], tb: &[u32], vars: &[u16]) -> Result<Weighed, Refusal>
     check_term(t, tb, vars)
 }
 
-// Two terms in a row.
-#[cycle(terms)]
-fn in_sequence(t: &[u16], tb: &[u32], vars: &[u16]) -> Result<Weighed, Refusal>
-    requires { (length vars.now ≤ 8) × (length t.now ≤ 65535) }
-    ensures { result ≡ weighed (declared tb.now) (callee tb.now) (rule_by (declared tb.now) (read_rule_term (declared tb.now)) vars.now (RuleKind.pair rule_sequence) t.now) }
+// What two terms measure together.
+fn joined(joint: Joint, a: Weight, b: Weight) -> Weight
+    ensures { measure result ≡ joint_of joint (measure a) (measure b) }
 {
-    let a = operand(t, tb, vars)?;
-    let b = operand(last(t, a.left), tb, vars)?;
-    Ok(Weighed {
-        left: b.left,
-        weight: sequence(a.weight, b.weight),
-    })
+    match joint {
+        Joint::Sequence => sequence(a, b),
+        Joint::Choice => choice(a, b),
+        Joint::Parallel(zero) => parallel(zero, a, b),
+    }
 }
 
+// Two terms in a row. Always inlined: a level of nesting is then one frame of `check_term`, of 256 bytes, and else this
+// function's beside it.
+#[inline(always)]
 #[cycle(terms)]
-fn in_choice(t: &[u16], tb: &[u32], vars: &[u16]) -> Result<Weighed, Refusal>
+fn two_terms(t: &[u16], tb: &[u32], vars: &[u16], joint: Joint) -> Result<Weighed, Refusal>
     requires { (length vars.now ≤ 8) × (length t.now ≤ 65535) }
-    ensures { result ≡ weighed (declared tb.now) (callee tb.now) (rule_by (declared tb.now) (read_rule_term (declared tb.now)) vars.now (RuleKind.pair rule_choice) t.now) }
+    ensures { result ≡ weighed_two (declared tb.now) (callee tb.now) joint (both (read_rule_term (declared tb.now) vars.now) (read_rule_term (declared tb.now) vars.now) t.now) }
 {
     let a = operand(t, tb, vars)?;
     let b = operand(last(t, a.left), tb, vars)?;
     Ok(Weighed {
         left: b.left,
-        weight: choice(a.weight, b.weight),
-    })
-}
-
-// The two sides of a parallel whose mask is zero, or is not.
-#[cycle(terms)]
-fn sides(t: &[u16], tb: &[u32], vars: &[u16], zero: bool) -> Result<Weighed, Refusal>
-    requires { (length vars.now ≤ 8) × (length t.now ≤ 65535) }
-    ensures { result ≡ weighed_sides (declared tb.now) (callee tb.now) zero (both (read_rule_term (declared tb.now) vars.now) (read_rule_term (declared tb.now) vars.now) t.now) }
-{
-    let a = operand(t, tb, vars)?;
-    let b = operand(last(t, a.left), tb, vars)?;
-    Ok(Weighed {
-        left: b.left,
-        weight: parallel(zero, a.weight, b.weight),
+        weight: joined(joint, a.weight, b.weight),
     })
 }
 
@@ -145,7 +142,7 @@ fn in_parallel(t: &[u16], tb: &[u32], vars: &[u16]) -> Result<Weighed, Refusal>
     ensures { result ≡ weighed (declared tb.now) (callee tb.now) (rule_by (declared tb.now) (read_rule_term (declared tb.now)) vars.now RuleKind.parallel t.now) }
 {
     let n = check_mask(t, 4, labels(tb))?;
-    sides(last(t, n), tb, vars, mask_zero(t))
+    two_terms(last(t, n), tb, vars, Joint::Parallel(mask_zero(t)))
 }
 
 // A guard's condition, which names no function before. Apart from `guarded`, so that what it hands over shares its place in
@@ -215,7 +212,8 @@ fn copies(
     })
 }
 
-// A domain, and copies of a term with one variable more.
+// A domain, and copies of a term with one variable more. As a function with two callers it keeps a frame of its own and takes
+// nothing of `check_term`'s.
 #[cycle(terms)]
 fn quantified(t: &[u16], tb: &[u32], vars: &[u16], over: Quantifier) -> Result<Weighed, Refusal>
     requires { (length vars.now < 8) × (length t.now ≤ 65535) }
@@ -227,24 +225,6 @@ fn quantified(t: &[u16], tb: &[u32], vars: &[u16], over: Quantifier) -> Result<W
     copies(last(t, n), tb, &more[..k], size_of(tb, first(t)), over)
 }
 
-// A choice, and a parallel: each calls `quantified`, which as a function with two callers keeps a frame of its own and takes
-// nothing of `check_term`'s.
-#[cycle(terms)]
-fn over(t: &[u16], tb: &[u32], vars: &[u16]) -> Result<Weighed, Refusal>
-    requires { (length vars.now < 8) × (length t.now ≤ 65535) }
-    ensures { result ≡ weighed (declared tb.now) (callee tb.now) (rule_by (declared tb.now) (read_rule_term (declared tb.now)) vars.now RuleKind.choice_quantifier t.now) }
-{
-    quantified(t, tb, vars, Quantifier::Choice)
-}
-
-#[cycle(terms)]
-fn many(t: &[u16], tb: &[u32], vars: &[u16]) -> Result<Weighed, Refusal>
-    requires { (length vars.now < 8) × (length t.now ≤ 65535) }
-    ensures { result ≡ weighed (declared tb.now) (callee tb.now) (rule_by (declared tb.now) (read_rule_term (declared tb.now)) vars.now RuleKind.parallel_quantifier t.now) }
-{
-    quantified(t, tb, vars, Quantifier::Parallel)
-}
-
 // ── any term ──
 
 // The stars in front.
@@ -252,7 +232,7 @@ fn stars_in(s: &[u16]) -> usize
     ensures { Stars s.now result × (get_or (drop result s.now) 0 0 ≡ 24 → ⊥) }
 {
     for i in 0..s.len() {
-        if s[i] != 24 {
+        if s[i] as usize != STAR {
             return i;
         }
     }
@@ -276,31 +256,30 @@ fn check_plain(s: &[u16], tb: &[u32], vars: &[u16]) -> Result<Weighed, Refusal>
     if s.len() == 0 {
         return Err(Refusal::Form);
     }
-    let c = s[0];
     let t = behind(s);
-    match c {
-        20 => Ok(Weighed {
+    match s[0] as usize {
+        INTERNAL => Ok(Weighed {
             left: t.len(),
             weight: single(1),
         }),
-        21 => action(t, tb, vars),
-        22 => in_sequence(t, tb, vars),
-        23 => in_choice(t, tb, vars),
-        25 => in_parallel(t, tb, vars),
-        26 => guarded(t, tb, vars),
-        27 => {
+        ACTION => action(t, tb, vars),
+        SEQUENCE => two_terms(t, tb, vars, Joint::Sequence),
+        CHOICE => two_terms(t, tb, vars, Joint::Choice),
+        PARALLEL => in_parallel(t, tb, vars),
+        GUARD => guarded(t, tb, vars),
+        CHOICE_OVER => {
             if vars.len() < VARIABLES {
-                return over(t, tb, vars);
+                return quantified(t, tb, vars, Quantifier::Choice);
             }
             Err(Refusal::Form)
         }
-        28 => {
+        PARALLEL_OVER => {
             if vars.len() < VARIABLES {
-                return many(t, tb, vars);
+                return quantified(t, tb, vars, Quantifier::Parallel);
             }
             Err(Refusal::Form)
         }
-        29 => call(t, tb, vars),
+        CALL => call(t, tb, vars),
         _ => Err(Refusal::Form),
     }
 }

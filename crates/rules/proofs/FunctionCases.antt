@@ -12,7 +12,7 @@ use Rattle.eb3.specs.Reading.{Read, refused, taken, Reader, then, count_of, seri
 use Rattle.eb3.specs.RuleReading.{parameter_limit, read_parameter_counts, read_function, read_functions, read_process, with_process, read_processes, without_processes}
 use Rattle.scan.specs.Checking.{checked, last_of, Checked}
 use Rattle.scan.specs.Laws.{Tail, Fine, tail_at, tail_on, last_tail}
-use Rattle.scan.specs.ReadingLaws.{checked_refused, then_refused, then_taken, not_taken, RefusedAs, same_refused}
+use Rattle.scan.specs.ReadingLaws.{checked_refused, then_refused_as, then_taken, not_taken, RefusedAs, same_refused}
 use Rattle.scan.specs.RowLaws.{count_word}
 use Rattle.weights.specs.Weighing.{cap, weight}
 use Rattle.arguments.specs.Tables.{declared}
@@ -85,12 +85,12 @@ module _ (T t : List ℕ) (p : Checked) (e : p ≡ checked (count_of 0 16 t)) wh
   pub functions_none : (D : List ℕ) (k : Refusal) → p ≡ Err k → FunctionSectionRead t T D (Err k) T D
   unfolding function_section read_functions
   functions_none D k h =
-      let r : (ds : List ℕ) (ls : List (List ℕ)) → RefusedAs k (read_functions edition_1 (length ds) ls t) = λ ds ls. then_refused (count_of 0 16 t) _ k (checked_refused (count_of 0 16 t) k (sym h ∙ e)) in
+      let r : (ds : List ℕ) (ls : List (List ℕ)) → RefusedAs k (read_functions edition_1 (length ds) ls t) = λ ds ls. then_refused_as (count_of 0 16 t) _ k (checked_refused (count_of 0 16 t) k (sym h ∙ e)) in
       record {
         answer = λ ds ls z. rules_out (read_functions edition_1 (length ds) ls t) _ k (r ds ls);
         same_tables = refl;
         same_directory = refl;
-        filled = λ ds ls z whole R u tl small g room. absurd (not_taken (function_section ds ls t) k R u (then_refused (read_functions edition_1 (length ds) ls t) _ k (r ds ls)) g);
+        filled = λ ds ls z whole R u tl small g room. absurd (not_taken (function_section ds ls t) k R u (then_refused_as (read_functions edition_1 (length ds) ls t) _ k (r ds ls)) g);
       }
 
   module _ (m n x : ℕ) (s : length T ≡ 500) (b : Bounded T) (h : p ≡ Ok m) (i : n ≡ get_or t 0 0) (f : x ≡ n) where
@@ -185,7 +185,7 @@ module _ (T t : List ℕ) (p : Checked) (e : p ≡ checked (count_of 0 16 t)) wh
       answer = λ ds ls z. rules_out (read_functions edition_1 (length ds) ls t) _ k (functions_refused u D D' l a g ds ls z k q);
       same_tables = length-set T 210 x;
       same_directory = g.same_length;
-      filled = λ ds ls z whole R w tl small e room. absurd (not_taken (function_section ds ls t) k R w (then_refused (read_functions edition_1 (length ds) ls t) _ k (functions_refused u D D' l a g ds ls z k q)) e);
+      filled = λ ds ls z whole R w tl small e room. absurd (not_taken (function_section ds ls t) k R w (then_refused_as (read_functions edition_1 (length ds) ls t) _ k (functions_refused u D D' l a g ds ls z k q)) e);
     }
 
     pub functions_in : (u v D D' T' : List ℕ) (a : Result Counted Refusal) (j c : ℕ) (q : Answer) (w : Result Rules Refusal) → u ≡ last_of m t → FunctionsNoted (set T 210 x) n n 0 u D 0 a D' → a ≡ found_cells j c → v ≡ last_of j u

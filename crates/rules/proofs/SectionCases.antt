@@ -14,7 +14,7 @@ use Rattle.eb3.specs.RuleReading.{read_domains, read_labels, read_processes, wit
 use Rattle.eb3.proofs.Laws.Reading.{Sound, count_sound}
 use Rattle.scan.specs.Checking.{checked, last_of, Checked}
 use Rattle.scan.specs.Laws.{Tail, tail_on, number_ends, got, last_tail}
-use Rattle.scan.specs.ReadingLaws.{checked_refused, then_refused, then_taken, not_taken, RefusedAs, same_refused}
+use Rattle.scan.specs.ReadingLaws.{checked_refused, then_refused_as, then_taken, not_taken, RefusedAs, same_refused}
 use Rattle.scan.specs.RowLaws.{count_word, repeat_ends, counted_ends}
 use Rattle.arguments.specs.Tables.{row, declared}
 use Rattle.arguments.specs.TableLaws.{domains_length}
@@ -56,7 +56,7 @@ module _ (T t : List ℕ) (p : Checked) (e : p ≡ checked (count_of 1 32 t)) wh
       record {
         answer = λ ds ls fs z. main_out (count_of 1 32 t) _ k r;
         same_length = refl;
-        placed = λ whole ds ls fs R u tl z g. absurd (not_taken (process_section ds ls fs t) k R u (then_refused (count_of 1 32 t) _ k r) g);
+        placed = λ whole ds ls fs R u tl z g. absurd (not_taken (process_section ds ls fs t) k R u (then_refused_as (count_of 1 32 t) _ k r) g);
       }
 
   pub section_in : (m n : ℕ) (r T' : List ℕ) (q : Answer) → 212 ≤ length T → Bounded T → p ≡ Ok m → n ≡ get_or t 0 0 → r ≡ last_of m t → ProcessesRead r (set T 211 0) n q T' → ProcessSectionRead t T q T'
@@ -88,12 +88,12 @@ module _ (T t : List ℕ) (p : Checked) (e : p ≡ checked (count_of 1 64 t)) wh
   pub labels_none : (D : List ℕ) (k : Refusal) → p ≡ Err k → LabelSectionRead t T D (Err k) T D
   unfolding label_section counted
   labels_none D k h =
-      let r : (ds : List ℕ) → RefusedAs k (read_labels (length ds) t) = λ ds. then_refused (count_of 1 64 t) _ k (checked_refused (count_of 1 64 t) k (sym h ∙ e)) in
+      let r : (ds : List ℕ) → RefusedAs k (read_labels (length ds) t) = λ ds. then_refused_as (count_of 1 64 t) _ k (checked_refused (count_of 1 64 t) k (sym h ∙ e)) in
       record {
         answer = λ ds z. rules_out (read_labels (length ds) t) _ k (r ds);
         same_tables = refl;
         same_directory = refl;
-        filled = λ ds z whole R u tl small g room. absurd (not_taken (label_section ds t) k R u (then_refused (read_labels (length ds) t) _ k (r ds)) g);
+        filled = λ ds z whole R u tl small g room. absurd (not_taken (label_section ds t) k R u (then_refused_as (read_labels (length ds) t) _ k (r ds)) g);
       }
 
   module _ (m n x d y : ℕ) (s : length T ≡ 500) (few : get_or T 0 0 ≤ 16) (h : p ≡ Ok m) (i : n ≡ get_or t 0 0) (f : x ≡ n) (fd : d ≡ y) (fy : y ≡ get_or (set T 17 x) 0 0) where
@@ -156,7 +156,7 @@ module _ (T t : List ℕ) (p : Checked) (e : p ≡ checked (count_of 1 64 t)) wh
       answer = λ ds z. rules_out (read_labels (length ds) t) _ k (labels_refused u l r T' en k q ds z);
       same_tables = en.same_length ∙ length-set T 17 x;
       same_directory = refl;
-      filled = λ ds z whole R c tl small g room. absurd (not_taken (label_section ds t) k R c (then_refused (read_labels (length ds) t) _ k (labels_refused u l r T' en k q ds z)) g);
+      filled = λ ds z whole R c tl small g room. absurd (not_taken (label_section ds t) k R c (then_refused_as (read_labels (length ds) t) _ k (labels_refused u l r T' en k q ds z)) g);
     }
 
     pub labels_bounded : (u T' : List ℕ) (r : Checked) (j : ℕ) → u ≡ last_of m t → Entered u (set T 17 x) n 18 d r T' → r ≡ Ok j → (length T' ≡ 500) × Bounded T'
@@ -176,7 +176,7 @@ module _ (T t : List ℕ) (p : Checked) (e : p ≡ checked (read_domains t)) whe
         answer = rules_out (read_domains t) _ k r;
         same_tables = refl;
         same_directory = refl;
-        directory = λ R u g room. absurd (not_taken (read_rules edition_1 t) k R u (then_refused (read_domains t) _ k r) g);
+        directory = λ R u g room. absurd (not_taken (read_rules edition_1 t) k R u (then_refused_as (read_domains t) _ k r) g);
       }
 
   module _ (m k : ℕ) (s : length T ≡ 500) (h : p ≡ Ok m) (i : k ≡ get_or t 0 0) where

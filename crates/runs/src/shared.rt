@@ -11,7 +11,7 @@ use sharing::step;
 use steps::renewing::renew;
 
 // From here on an answer of a step says that there is no such move.
-// Stays: a step's answer is one number, which holds the action's number and how many words the term has.
+// Stays: measured in `sharing`, whose answer this is (docs/DESIGN-PASS.md, "Answers in one number").
 const PASSED: usize = 1099511627776;
 
 // Move k of the shared term in the first n words of d; the cells are renewed.
@@ -40,6 +40,8 @@ fn step_shared(
 }
 
 // From the shared term in the first n words of d and the cells in the store, by all numbers of the list; an odd last byte is ignored.
+// Stays: this is the loop of run_moves around another step. A step lent as a closure would have to be callable in every state of the arrays that it borrows
+// and writes, so their lengths would stand in the contract once more, and that contract would be longer than these four lines; the proofs share theirs.
 pub fn run_shared(
     numbers: &[u8],
     functions: &Functions,

@@ -59,30 +59,46 @@ not_taken r k a u h f =
 
 -- ── readers in a row ──
 
-pub giving_refused : {A B : Type 0} (f : A → B) (r : Read A) (k : Refusal) → RefusedAs k r → RefusedAs k (giving f r)
+pub giving_refused : {A B : Type 0} (f : A → B) (r : Read A) (k : ℕ) → r ≡ refused k → giving f r ≡ refused k
 unfolding giving
-giving_refused f r k h = record { code = h.code; read = rw h.read; named = h.named }
+giving_refused f r k e = rw e
+
+pub giving_refused_as : {A B : Type 0} (f : A → B) (r : Read A) (k : Refusal) → RefusedAs k r → RefusedAs k (giving f r)
+unfolding giving
+giving_refused_as f r k h = record { code = h.code; read = rw h.read; named = h.named }
 
 pub giving_taken : {A B : Type 0} (f : A → B) (r : Read A) (a : A) (u : List ℕ) → r ≡ taken a u → giving f r ≡ taken (f a) u
 unfolding giving
 giving_taken f r a u e = rw e
 
-pub then_refused : {A B : Type 0} (r : Read A) (g : A → Reader B) (k : Refusal) → RefusedAs k r → RefusedAs k (then r g)
+pub then_refused : {A B : Type 0} (r : Read A) (g : A → Reader B) (k : ℕ) → r ≡ refused k → then r g ≡ refused k
 unfolding then
-then_refused r g k h = record { code = h.code; read = rw h.read; named = h.named }
+then_refused r g k e = rw e
+
+pub then_refused_as : {A B : Type 0} (r : Read A) (g : A → Reader B) (k : Refusal) → RefusedAs k r → RefusedAs k (then r g)
+unfolding then
+then_refused_as r g k h = record { code = h.code; read = rw h.read; named = h.named }
 
 pub then_taken : {A B : Type 0} (r : Read A) (g : A → Reader B) (a : A) (u : List ℕ) → r ≡ taken a u → then r g ≡ g a u
 unfolding then
 then_taken r g a u e = rw e
 
 module _ {A B : Type 0} (f : Reader A) (g : Reader B) (t : List ℕ) where
-  pub both_first : (k : Refusal) → RefusedAs k (f t) → RefusedAs k (both f g t)
+  pub both_first : (k : ℕ) → f t ≡ refused k → both f g t ≡ refused k
   unfolding both then
-  both_first k h = record { code = h.code; read = rw h.read; named = h.named }
+  both_first k e = rw e
 
-  pub both_second : (a : A) (u : List ℕ) (k : Refusal) → f t ≡ taken a u → RefusedAs k (g u) → RefusedAs k (both f g t)
+  pub both_first_as : (k : Refusal) → RefusedAs k (f t) → RefusedAs k (both f g t)
+  unfolding both then
+  both_first_as k h = record { code = h.code; read = rw h.read; named = h.named }
+
+  pub both_second : (a : A) (u : List ℕ) (k : ℕ) → f t ≡ taken a u → g u ≡ refused k → both f g t ≡ refused k
   unfolding both then giving
-  both_second a u k e h = record { code = h.code; read = rw (e, h.read); named = h.named }
+  both_second a u k e h = rw (e, h)
+
+  pub both_second_as : (a : A) (u : List ℕ) (k : Refusal) → f t ≡ taken a u → RefusedAs k (g u) → RefusedAs k (both f g t)
+  unfolding both then giving
+  both_second_as a u k e h = record { code = h.code; read = rw (e, h.read); named = h.named }
 
   pub both_taken : (a : A) (u : List ℕ) (b : B) (v : List ℕ) → f t ≡ taken a u → g u ≡ taken b v → both f g t ≡ taken (a, b) v
   unfolding both then giving
@@ -96,7 +112,7 @@ module _ {A B : Type 0} (f : Reader A) (g : Reader B) (t : List ℕ) where
 module _ {B : Type 0} (k limit : ℕ) (g : ℕ → Reader B) (t : List ℕ) where
   pub by_number_refused : (j : Refusal) → Err j ≡ checked (number_of k limit t) → RefusedAs j (by_number k limit g t)
   unfolding by_number
-  by_number_refused j e = then_refused (number_of k limit t) g j (checked_refused (number_of k limit t) j e)
+  by_number_refused j e = then_refused_as (number_of k limit t) g j (checked_refused (number_of k limit t) j e)
 
   pub by_number_taken : (n : ℕ) → Ok n ≡ checked (number_of k limit t) → by_number k limit g t ≡ g (get_or t 0 0) (last_of n t)
   unfolding by_number

@@ -1,4 +1,4 @@
-// Reading words from the front: how many words are left behind what was read, or the number of a refusal
+// Reading words from the front: how many words are left behind what was read, or a refusal
 // (document 01, "Operations": 4, 5 and 6 by the first offending word of the stream).
 #![tactic(auto)]
 
@@ -9,6 +9,7 @@ ghost use Rattle.scan.specs.Checking.{checked, last_of};
 
 use refusals::Refusal;
 
+// A word as a number. Stays: it is public, and what is public keeps its promise; today's form is a cast in place.
 pub fn wide(x: u16) -> usize
     ensures { (result ≡ x) × (result < 65536) }
 {
@@ -56,7 +57,7 @@ pub fn behind(s: &[u16]) -> &[u16]
     &s[0..]
 }
 
-// One number below a limit, else refused k.
+// One number below a limit, else this refusal.
 pub fn number(t: &[u16], refusal: Refusal, limit: usize) -> Result<usize, Refusal>
     ensures { result ≡ checked (number_of (number refusal) limit t.now) }
 {

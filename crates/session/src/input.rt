@@ -6,6 +6,7 @@ use std::io::{Read, Stdin};
 
 // Reads until the buffer is full, the input ends or a read fails, and answers how many bytes it put at the buffer's start. A failed
 // read counts as the end of the input. An empty buffer is not read into.
+// Stays a `while`: the count grows by what each read gives, so there is no range to go through.
 fn read_full(input: &mut Stdin, buffer: &mut [u8]) -> usize
     ensures within { result ≤ length buffer.new }
     ensures taken { result ≡ length (take result buffer.new) }

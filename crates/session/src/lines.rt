@@ -7,7 +7,7 @@ use std::fmt::{self, Display, Formatter};
 use std::io::{self, Stdout, Write};
 
 // The bytes of which the first `used` wait, and where they go.
-// Stays: std's BufWriter does this with a buffer on the heap, and this program has none.
+// Stays: std's BufWriter would do this, but it takes its buffer from the heap, and this program has no heap.
 #[derive(Drop)]
 pub struct Page {
     bytes: [u8; 4096],
@@ -36,10 +36,12 @@ impl Page {
 }
 
 impl Write for Page {
-    // As many bytes wait as the page has room for. A full page is written first.
+    // As many bytes wait as the page has room for. A full page is written first; where it cannot be, it is lost, and printing goes on: the
+    // end of the line tells whether the output takes anything.
     fn write(&mut self, text: &[u8]) -> io::Result<usize> {
         if self.used == 4096 {
-            self.flush()?;
+            let _lost = self.flush();
+            self.used = 0;
         }
         let n = text.len().min(4096 - self.used);
         let end = self.used + n;
@@ -62,7 +64,12 @@ pub struct Refused(pub Refusal);
 
 impl Display for Refused {
     fn fmt<W: fmt::Write>(&self, f: &mut Formatter<W>) -> fmt::Result {
-        let number = u32::from(self.0);
-        write!(f, "refused {number}")
+        write!(f, "refused {}", u32::from(self.0))
     }
+}
+
+// A line that is a refusal.
+pub fn print_refusal(page: &mut Page, refusal: Refusal) -> io::Result<()> {
+    write!(page, "{}", Refused(refusal))?;
+    page.end_line()
 }

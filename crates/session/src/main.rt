@@ -10,19 +10,11 @@ mod states;
 
 use admission::admit;
 use input::{read_number, read_rules};
-use lines::{Page, Refused};
+use lines::{Page, Refused, print_refusal};
 use positions::Position;
-use refusals::Refusal;
 use states::print_state;
 use std::io::{self, Stdin, Write};
 use std::mem;
-
-// A line that is a refusal.
-fn print_refusal(page: &mut Page, refusal: Refusal) -> io::Result<()> {
-    let refused = Refused(refusal);
-    write!(page, "{refused}")?;
-    page.end_line()
-}
 
 // The move of number k from here into the next position, and its choice line. Answers whether the move was taken.
 fn choose(
@@ -35,8 +27,7 @@ fn choose(
     write!(page, "choice {k}")?;
     let made = here.step(rules, k as usize, next);
     if let Err(refusal) = made {
-        let refused = Refused(refusal);
-        write!(page, " {refused}")?;
+        write!(page, " {}", Refused(refusal))?;
     }
     page.end_line()?;
     Ok(made.is_ok())

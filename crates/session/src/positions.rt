@@ -1,5 +1,7 @@
 // A term and a memory between two moves of a session, in buffers for the largest sizes that are reported.
-ghost use Rattle.std.specs.Prelude.{◌≡◌, ◌*◌, take};
+ghost use Rattle.std.specs.Prelude.{◌≡◌, ◌*◌, take, Ok, Err, IfOk, IfErr, OnOk};
+ghost use Rattle.engine.specs.Starting.{StartDone};
+ghost use Rattle.session.specs.Positions.{term_of, memory_of};
 
 use engine::counting::count;
 use engine::starting::start;
@@ -7,6 +9,7 @@ use engine::stepping::{Step, make_move};
 use refusals::Refusal;
 
 // The words of the term and the cells of the memory stand at the start of the buffers.
+// Stays: two Vecs would keep their lengths, but this program has no heap.
 #[derive(Drop)]
 pub struct Position {
     term: [u8; 16384],
@@ -25,7 +28,9 @@ fn cut(buffer: &[u8], words: u32) -> &[u8]
 
 impl Position {
     // No term yet, and a memory of so many cells.
-    pub fn new(cells: u32) -> Position {
+    pub fn new(cells: u32) -> Position
+        ensures { result.cells ≡ cells }
+    {
         Position {
             term: [0; 16384],
             words: 0,
@@ -34,33 +39,49 @@ impl Position {
         }
     }
 
-    pub fn memory(&self) -> &[u8] {
+    fn term(&self) -> &[u8]
+        ensures { result.now ≡ term_of self.now }
+    {
+        cut(&self.term, self.words)
+    }
+
+    pub fn memory(&self) -> &[u8]
+        ensures { result.now ≡ memory_of self.now }
+    {
         cut(&self.memory, self.cells)
     }
 
     // The start of a rule set takes the place of what stood here.
-    pub fn start(&mut self, rules: &[u8]) -> Result<(), Refusal> {
+    pub fn start(&mut self, rules: &[u8]) -> Result<(), Refusal>
+        ensures started { OnOk result (StartDone rules.now self.old.term self.old.memory (Ok self.new.words) self.new.term self.new.memory) }
+        ensures refused { IfErr result (λ refusal. StartDone rules.now self.old.term self.old.memory (Err refusal) self.new.term self.new.memory) }
+        ensures kept { self.new.cells ≡ self.old.cells }
+    {
         self.words = start(rules, &mut self.term, &mut self.memory)?;
         Ok(())
     }
 
     // How many moves there are here.
     pub fn count(&self, rules: &[u8]) -> Result<u32, Refusal> {
-        count(rules, cut(&self.term, self.words), self.memory())
+        count(rules, self.term(), self.memory())
     }
 
     // The move of number k leads from here into the next position. Where it is refused, what stands there is of no use.
-    pub fn step(&self, rules: &[u8], k: usize, next: &mut Position) -> Result<Step, Refusal> {
-        let term = cut(&self.term, self.words);
-        let step = make_move(
+    pub fn step(&self, rules: &[u8], k: usize, next: &mut Position) -> Result<Step, Refusal>
+        ensures words { IfOk result (λ step. next.new.words ≡ step.size) }
+        ensures kept { next.new.cells ≡ next.old.cells }
+    {
+        let made = make_move(
             rules,
-            term,
+            self.term(),
             self.memory(),
             k,
             &mut next.term,
             &mut next.memory,
-        )?;
-        next.words = step.size;
-        Ok(step)
+        );
+        if let Ok(step) = made {
+            next.words = step.size;
+        }
+        made
     }
 }

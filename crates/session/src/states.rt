@@ -1,6 +1,6 @@
 // What is printed of a state: a line with the moves taken, the move count and the cells, then a line for each move (document 01,
 // "Examples").
-use super::lines::{Page, Refused};
+use super::lines::{Page, Refused, print_refusal};
 use super::positions::Position;
 use engine::stepping::Step;
 use std::fmt::{self, Display, Formatter};
@@ -57,27 +57,20 @@ pub fn print_state(
     here: &Position,
     other: &mut Position,
 ) -> io::Result<()> {
-    match here.count(rules) {
-        Ok(moves) => {
-            let cells = Cells(here.memory());
-            write!(page, "state {taken} moves {moves} cells{cells}")?;
-            for k in 0..moves {
-                write!(page, "\n{k}")?;
-                match here.step(rules, k as usize, other) {
-                    Ok(step) => {
-                        let action = Action(step);
-                        write!(page, "{action}")?;
-                    }
-                    Err(refusal) => {
-                        let refused = Refused(refusal);
-                        write!(page, " {refused}")?;
-                    }
-                }
-            }
-        }
-        Err(refusal) => {
-            let refused = Refused(refusal);
-            write!(page, "{refused}")?;
+    let moves = match here.count(rules) {
+        Ok(moves) => moves,
+        Err(refusal) => return print_refusal(page, refusal),
+    };
+    write!(
+        page,
+        "state {taken} moves {moves} cells{}",
+        Cells(here.memory()),
+    )?;
+    for k in 0..moves {
+        write!(page, "\n{k}")?;
+        match here.step(rules, k as usize, other) {
+            Ok(step) => write!(page, "{}", Action(step))?,
+            Err(refusal) => write!(page, " {}", Refused(refusal))?,
         }
     }
     page.end_line()

@@ -1,13 +1,27 @@
--- Words put into an array, and words of it replaced by others (document 01, "Moves, in order": the term of the next state).
+-- Words copied into an array, and words of it replaced by others (document 01, "Moves, in order": the term of the next state).
 use mathlib.Core.Path.{◌≡◌, refl, sym, ap, ◌∙◌}
 use mathlib.Core.List.{List, ◌++◌, append_assoc}
-use Prim.Native.Nat.{ℕ, ◌+◌, ◌-◌, ◌≤◌}
+use Prim.Native.Nat.{ℕ, ◌+◌, ◌-◌, ◌≤◌, ◌<◌}
+use native.Mathlib.Numerals.{add-one}
 use native.Mathlib.Omega.{arith}
-use lib.ListN.{length, take, drop, length-append, length-drop}
-use lib.Seq.{slice, length-slice, length-take-le, take_at, drop_at, take-add, take-append-add}
+use lib.ListN.{length, take, drop, set, get_or, length-append, length-drop}
+use lib.Seq.{paste, paste-suc, slice, length-slice, length-take-le, take_all, take_at, drop_at, take-add, take-append-add}
 use Rattle.sharing.specs.Beginning.{put_at}
 use Rattle.sharing.specs.Splicing.{Spliced}
 use Rattle.sharing.proofs.BeginningPuts.{put_length}
+
+-- ── copying ──
+
+pub copy_more : (T T₀ s : List ℕ) (at i w : ℕ) → i < length s → at + length s ≤ length T₀ → w ≡ get_or s i 0 → T ≡ paste T₀ at s i → set T (at + i) w ≡ paste T₀ at s (i + 1)
+copy_more T T₀ s at i w h a f e = rw (e, f) (rw (add-one i) (paste-suc T₀ at s i 0 (omega arith) (omega arith)))
+
+pub copy_last : (T T₀ s : List ℕ) (at i : ℕ) → length s ≤ i → i ≤ length s → T ≡ paste T₀ at s i → T ≡ put_at at s T₀
+copy_last T T₀ s at i h a e =
+    let k : i ≡ length s = omega arith in
+    e ∙ ap (λ n. take at T₀ ++ take n s ++ drop (at + n) T₀) k ∙ append_assoc (take at T₀) (take (length s) s) (drop (at + length s) T₀)
+    ∙ ap (λ w. take at T₀ ++ (w ++ drop (at + length s) T₀)) (take_all (length s) s (omega arith))
+
+-- ── replacing ──
 
 -- A part in the middle, cut the other way round.
 pub slice_cut : (e n : ℕ) (d : List ℕ) → e ≤ n → n ≤ length d → take (n - e) (drop e d) ≡ slice e n d

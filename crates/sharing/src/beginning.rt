@@ -4,6 +4,7 @@ ghost use Rattle.std.specs.Prelude.{◌≡◌, cond, ◌+◌, ◌≤◌, ◌<◌
 ghost use Rattle.sharing.specs.Beginning.{Beginning, LeftBegun, BothBegun, ActionNumber, EndPut};
 
 use actions::code_at;
+use code_numbers::{ACTION, CHOICE, DONE, GUARD, PARALLEL, SEQUENCE, STAR};
 use listing::skip;
 use scan::{behind, first, last};
 use successors::conditions::behind_condition;
@@ -14,8 +15,8 @@ pub fn part_word(s: &[u16]) -> u16
     requires { length s.now ≤ 65503 }
     ensures { result ≡ cond (eqb (get_or s.now 0 0) 30) 30 (32 + length s.now) }
 {
-    if first(s) == 30 {
-        return 30;
+    if first(s) == DONE {
+        return DONE as u16;
     }
     (32 + s.len()) as u16
 }
@@ -39,22 +40,24 @@ fn put_done(out: &mut [u16], at: usize, left: usize, action: usize) -> usize
     if out.len() <= at {
         return 0;
     }
-    out[at] = 30;
+    out[at] = DONE as u16;
     at + 1 + 65536 * (left + 65536 * action)
 }
 
+// The word behind those written, 65,536 times how many words of the path are left, and 4,294,967,296 times the action's number; 0 where there was no room.
+// Stays: measured, together with seek (docs/DESIGN-PASS.md, "Answers in one number"): as an Option of the three numbers it takes frames of 112 bytes for 80.
 #[cycle(beginning)]
 pub fn begin(s: &[u16], path: &[u16], out: &mut [u16], at: usize) -> usize
     requires { (length s.now ≤ 65503) × (length path.now ≤ 65535) × (at ≤ length out.old) × (length out.old ≤ 65535) }
     ensures { Beginning s.now path.now at out.old out.new result }
 {
     match first(s) {
-        21 => put_done(out, at, path.len(), action_number(behind(s))),
-        22 => begin_sequence(s, path, out, at),
-        23 => begin_choice(s, path, out, at),
-        24 => begin_star(s, path, out, at),
-        25 => begin_parallel(s, path, out, at),
-        26 => begin_guard(s, path, out, at),
+        ACTION => put_done(out, at, path.len(), action_number(behind(s))),
+        SEQUENCE => begin_sequence(s, path, out, at),
+        CHOICE => begin_choice(s, path, out, at),
+        STAR => begin_star(s, path, out, at),
+        PARALLEL => begin_parallel(s, path, out, at),
+        GUARD => begin_guard(s, path, out, at),
         _ => put_done(out, at, path.len(), 0),
     }
 }
@@ -66,13 +69,13 @@ fn begin_sequence(s: &[u16], path: &[u16], out: &mut [u16], at: usize) -> usize
     ensures { Beginning s.now path.now at out.old out.new result }
 {
     let t = behind(s);
-    if first(t) == 30 {
+    if first(t) == DONE {
         return begin(behind(t), path, out, at);
     }
     if out.len() < at + 2 {
         return 0;
     }
-    out[at] = 22;
+    out[at] = SEQUENCE as u16;
     out[at + 1] = (32 + skip(t)) as u16;
     begin(t, path, out, at + 2)
 }
@@ -105,7 +108,7 @@ fn begin_star(s: &[u16], path: &[u16], out: &mut [u16], at: usize) -> usize
     if out.len() < at + 2 {
         return 0;
     }
-    out[at] = 22;
+    out[at] = SEQUENCE as u16;
     out[at + 1] = (32 + s.len()) as u16;
     begin(behind(s), behind(path), out, at + 2)
 }
@@ -133,7 +136,7 @@ fn begin_parallel(s: &[u16], path: &[u16], out: &mut [u16], at: usize) -> usize
         return 0;
     }
     if d == 1 {
-        out[at] = 25;
+        out[at] = PARALLEL as u16;
         return begin_left(&s[5..], behind(path), out, at + 1);
     }
     begin_right(s, path, out, at)
@@ -165,7 +168,7 @@ fn begin_right(s: &[u16], path: &[u16], out: &mut [u16], at: usize) -> usize
     if e.len() < n {
         return 0;
     }
-    out[at] = 25;
+    out[at] = PARALLEL as u16;
     if first(path) == 2 {
         out[at + 1] = part_word(e);
         return begin(&e[n..], behind_size(path), out, at + 2);

@@ -3,6 +3,7 @@ ghost use Rattle.std.specs.Prelude.{◌≡◌, [], ◌∷◌, ◌+◌, ◌≤◌
 ghost use Rattle.sharing.specs.Splicing.{Expanded, PartExpanded, DoneExpanded};
 
 use super::splicing::copy_words;
+use code_numbers::{DONE, PARALLEL, SEQUENCE};
 use listing::skip;
 use scan::{behind, first, last};
 
@@ -23,6 +24,8 @@ fn expand_part(u: &[u16], w: usize, left: usize, out: &mut [u16], at: usize) -> 
     left + 65536 * (at + n)
 }
 
+// How many words of s are left behind the term, and 65,536 times the word behind those written.
+// Stays: measured, as an Option of both numbers in a struct each level takes a frame of 160 bytes for 64 (docs/DESIGN-PASS.md, "Answers in one number").
 #[cycle(expanding)]
 pub fn expand(u: &[u16], s: &[u16], out: &mut [u16], at: usize) -> usize
     requires { (length u.now ≤ 65503) × (length s.now ≤ 65535) × (length out.old ≤ 65535) }
@@ -31,9 +34,9 @@ pub fn expand(u: &[u16], s: &[u16], out: &mut [u16], at: usize) -> usize
     let w = first(s);
     let t = behind(s);
     match w {
-        22 => expand_then(u, t, out, at),
-        25 => expand_beside(u, t, out, at),
-        30 => expand_done(t.len(), out, at),
+        SEQUENCE => expand_then(u, t, out, at),
+        PARALLEL => expand_beside(u, t, out, at),
+        DONE => expand_done(t.len(), out, at),
         _ => expand_part(u, w, t.len(), out, at),
     }
 }
@@ -45,7 +48,7 @@ fn expand_done(left: usize, out: &mut [u16], at: usize) -> usize
     if out.len() <= at {
         return 0;
     }
-    out[at] = 30;
+    out[at] = DONE as u16;
     left + 65536 * (at + 1)
 }
 
@@ -58,7 +61,7 @@ fn expand_then(u: &[u16], t: &[u16], out: &mut [u16], at: usize) -> usize
     if out.len() <= at {
         return 0;
     }
-    out[at] = 22;
+    out[at] = SEQUENCE as u16;
     let a = expand(u, behind(t), out, at + 1);
     expand_part(u, first(t), a % 65536, out, a / 65536)
 }
@@ -71,7 +74,7 @@ fn expand_beside(u: &[u16], t: &[u16], out: &mut [u16], at: usize) -> usize
     if out.len() < at || out.len() - at < 5 {
         return 0;
     }
-    copy_words(&[25, 0, 0, 0, 0], out, at);
+    copy_words(&[PARALLEL as u16, 0, 0, 0, 0], out, at);
     let a = expand(u, t, out, at + 5);
     expand(u, last(t, a % 65536), out, a / 65536)
 }

@@ -4,6 +4,7 @@ ghost use Rattle.std.specs.Prelude.{◌≡◌, ◌+◌, ◌≤◌, ◌<◌, [], 
 ghost use Rattle.sharing.specs.Finding.{Found, PartFound};
 
 use super::seeking::{FULL, PASSED, seek};
+use code_numbers::{DONE, PARALLEL, SEQUENCE};
 use derivation::passing;
 use scan::{behind, first, last};
 
@@ -49,9 +50,9 @@ pub fn find(u: &[u16], s: &[u16], m: &[u16], k: usize, path: &mut [u16], acts: &
     let w = first(s);
     let t = behind(s);
     match w {
-        22 => find_then(u, t, m, k, path, acts),
-        25 => find_beside(u, t, m, k, path, acts),
-        30 => passing(k, t.len()),
+        SEQUENCE => find_then(u, t, m, k, path, acts),
+        PARALLEL => find_beside(u, t, m, k, path, acts),
+        DONE => passing(k, t.len()),
         _ => {
             let place = Place {
                 here: s.len(),
@@ -69,7 +70,7 @@ fn find_then(u: &[u16], t: &[u16], m: &[u16], k: usize, path: &mut [u16], acts: 
     ensures { Found u.now (22 ∷ t.now) m.now k path.old path.new (length acts.old) result }
 {
     let q = behind(t);
-    if first(q) == 30 {
+    if first(q) == DONE {
         let place = Place {
             here: t.len() + 1,
             behind: behind(q).len(),
@@ -92,7 +93,7 @@ fn find_beside(
     requires { (length u.now ≤ 65503) × (length t.now < 65535) × (k < 65536) × (length path.old ≤ 65535) × (length acts.old ≤ 131072) }
     ensures { Found u.now (25 ∷ t.now) m.now k path.old path.new (length acts.old) result }
 {
-    if first(t) == 30 && first(behind(t)) == 30 {
+    if first(t) == DONE && first(behind(t)) == DONE {
         if k == 0 {
             return t.len() + 1;
         }

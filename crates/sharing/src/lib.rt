@@ -15,6 +15,7 @@ pub mod seeking;
 pub mod splicing;
 
 use beginning::begin;
+use code_numbers::{DONE, PARALLEL, SEQUENCE};
 use finding::find;
 use scan::{front, last};
 use seeking::PASSED;
@@ -27,16 +28,17 @@ fn change(u: &[u16], d: &mut [u16], n: usize, i: usize, path: &[u16], mid: &mut 
     requires { (n ≤ length d.old) × (i < n) × (length u.now ≤ 65503) × (length d.old ≤ 65535) × (length path.now ≤ 65535) × (length mid.old ≤ 65535) }
     ensures { Changed u.now d.old n i path.now mid.old d.new mid.new result }
 {
-    match d[i] {
-        22 => {
+    let w = d[i];
+    match w as usize {
+        SEQUENCE => {
             if n < i + 3 {
                 return PASSED;
             }
             let follows = d[i + 1];
             change_part(u, d, n, i..i + 3, follows, path, mid)
         }
-        25 => join(d, n, i, mid),
-        w => change_part(u, d, n, i..i + 1, w, path, mid),
+        PARALLEL => join(d, n, i, mid),
+        _ => change_part(u, d, n, i..i + 1, w, path, mid),
     }
 }
 
@@ -48,7 +50,7 @@ fn join(d: &mut [u16], n: usize, i: usize, mid: &mut [u16]) -> usize
     if n < i + 3 || mid.is_empty() {
         return PASSED;
     }
-    mid[0] = 30;
+    mid[0] = DONE as u16;
     splice(d, n, i, i + 3, mid, 1)
 }
 

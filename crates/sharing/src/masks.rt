@@ -4,6 +4,7 @@ ghost use Rattle.eb3.specs.Sizes.{zero_mask};
 ghost use Rattle.sharing.specs.Masks.{Bare, Shareable};
 
 use actions::behind_action;
+use code_numbers::{ACTION, CHOICE, GUARD, PARALLEL, SEQUENCE, STAR};
 use listing::behind_mask;
 use scan::{behind, first, front, last};
 use successors::conditions::behind_condition;
@@ -32,18 +33,18 @@ fn bare(mut s: &[u16], levels: usize) -> Option<usize>
     loop {
         let t = behind(s);
         match first(s) {
-            21 => return Some(behind_action(t)),
-            22 => s = last(t, bare(t, levels - 1)?),
-            23 => s = last(t, bare(t, levels)?),
-            24 => s = t,
-            25 => {
+            ACTION => return Some(behind_action(t)),
+            SEQUENCE => s = last(t, bare(t, levels - 1)?),
+            CHOICE => s = last(t, bare(t, levels)?),
+            STAR => s = t,
+            PARALLEL => {
                 if has_label(t) {
                     return None;
                 }
                 let e = behind_mask(t);
                 s = last(e, bare(e, levels - 1)?);
             }
-            26 => s = last(t, behind_condition(t)),
+            GUARD => s = last(t, behind_condition(t)),
             _ => return Some(t.len()),
         }
     }

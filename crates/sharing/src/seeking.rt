@@ -4,12 +4,15 @@ ghost use Rattle.std.specs.Prelude.{◌≡◌, ◌+◌, ◌-◌, ◌≤◌, ◌<
 ghost use Rattle.derivation.specs.Derived.{passed};
 ghost use Rattle.sharing.specs.Seeking.{Sought, TwoSought};
 
+use code_numbers::{ACTION, CHOICE, DONE, GUARD, INTERNAL, PARALLEL, SEQUENCE, STAR};
 use derivation::{decide, decide_right, derive, size_before};
 use expressions::eval_cond;
 use listing::{behind_mask, both_done};
 use scan::{behind, first, last};
 
 // From here on an answer says how much of k is left; from FULL on, that there was no room.
+// Stays: measured, Options of structs and enums as the answers of seek, find, begin and step take 1.15 to 1.33 times the instructions in runs of 10,000
+// numbers over a shared term (docs/DESIGN-PASS.md, "Answers in one number").
 pub const PASSED: usize = 1099511627776;
 
 pub const FULL: usize = 2199023255552;
@@ -34,13 +37,13 @@ pub fn seek(s: &[u16], m: &[u16], k: usize, path: &mut [u16], acts: &mut [u32]) 
     let w = first(s);
     let t = behind(s);
     match w {
-        20 => only(k, path.len()),
-        21 => only(k, path.len()),
-        22 => seek_sequence(t, m, k, path, acts),
-        23 => seek_two(t, m, k, 0, path, acts),
-        24 => seek_star(t, m, k, path, acts),
-        25 => seek_parallel(t, m, k, path, acts),
-        26 => seek_guard(t, m, k, path, acts),
+        INTERNAL => only(k, path.len()),
+        ACTION => only(k, path.len()),
+        SEQUENCE => seek_sequence(t, m, k, path, acts),
+        CHOICE => seek_two(t, m, k, 0, path, acts),
+        STAR => seek_star(t, m, k, path, acts),
+        PARALLEL => seek_parallel(t, m, k, path, acts),
+        GUARD => seek_guard(t, m, k, path, acts),
         _ => PASSED + k,
     }
 }
@@ -51,7 +54,7 @@ fn seek_sequence(t: &[u16], m: &[u16], k: usize, path: &mut [u16], acts: &mut [u
     requires { (length t.now ≤ 65535) × (k < 65536) × (length path.old ≤ 65535) × (length acts.old ≤ 131072) }
     ensures { Sought (22 ∷ t.now) m.now k path.old path.new (length acts.old) result }
 {
-    if first(t) == 30 {
+    if first(t) == DONE {
         return seek(behind(t), m, k, path, acts);
     }
     seek(t, m, k, path, acts)

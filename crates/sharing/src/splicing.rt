@@ -4,15 +4,18 @@ ghost use Rattle.sharing.specs.Beginning.{put_at};
 ghost use Rattle.sharing.specs.Splicing.{Spliced};
 
 // All words of one array into another, from a place on.
+// Stays word by word: copy_from_slice calls memmove, and the library promises C hosts to call memcpy and memset only (host/eb3.h, Linking).
 pub fn copy_words(src: &[u16], dst: &mut [u16], at: usize)
     requires { at + length src.now ≤ length dst.old }
     ensures { dst.new ≡ put_at at src.now dst.old }
 {
-    dst[at..at + src.len()].copy_from_slice(src);
+    for i in 0..src.len() {
+        dst[at + i] = src[i];
+    }
 }
 
 // Of the first n words of d those from i to e, by the first k words of mid; what stands behind them moves by way of mid, if it moves at all.
-// Stays by way of mid: copy_within calls memmove, and the library promises C hosts to call memcpy and memset only (host/eb3.h, Linking).
+// Stays by way of mid: copy_within calls memmove, as above.
 pub fn splice(d: &mut [u16], n: usize, i: usize, e: usize, mid: &mut [u16], k: usize) -> usize
     requires { (length d.old ≤ 65535) × (length mid.old ≤ 65535) × (n ≤ 65535) × (e ≤ 65535) × (i ≤ 65535) × (k ≤ 65535) }
     ensures { Spliced d.old mid.old n i e k d.new mid.new result }

@@ -12,12 +12,14 @@ use cells::{Functions, fill};
 const NOW: usize = 36;
 
 // The c cells copied behind themselves, where before reads them.
+// Stays word by word: copy_from_slice calls memmove, and the library promises C hosts to call memcpy and memset only (host/eb3.h, Linking).
 fn keep(m: &mut [u16], c: usize)
     requires { 36 + 2 * c ≤ length m.old }
     ensures { (length m.new ≡ length m.old) × Kept m.old m.new c }
 {
-    let (front, back) = m.split_at_mut(NOW + c);
-    back[..c].copy_from_slice(&front[NOW..]);
+    for i in 0..c {
+        m[NOW + c + i] = m[NOW + i];
+    }
 }
 
 // The arguments of an action as variables 1 and 2; variable 0 is a function's parameter.

@@ -2,7 +2,7 @@
 use mathlib.Core.Path.{◌≡◌, refl, sym, ap, ◌∙◌, subst}
 use mathlib.Core.Bool.{true}
 use mathlib.Core.List.{List, [], ◌∷◌, ◌++◌, append-nil, append_assoc}
-use Prim.Native.Nat.{ℕ, ◌+◌, ◌-◌, ◌*◌, ◌≤◌, ◌/◌, ◌%◌}
+use Prim.Native.Nat.{ℕ, ◌+◌, ◌-◌, ◌*◌, ◌≤◌}
 use native.Mathlib.Omega.{arith}
 use lib.ListN.{length, take, drop, get_or, length-append, length-drop}
 use Rattle.eb3.specs.Expressions.{Cond}
@@ -178,8 +178,8 @@ after_head s n p x y z X r long W given =
 -- ── the whole term ──
 
 -- Behind the words that stay, the operand's successor and what stands behind the operand: with nothing left, the whole successor.
-pub built : (s p : List ℕ) (d : ℕ) (x y z : List ℕ) (X r : Built) → Unchanged s p d → After s (d % 65536) (lent (d / 65536) p) x y X → Closed s X 0 y z r → Building s p x z r
-built s p d x y z X r U given C = record {
+pub built : (s p : List ℕ) (n l : ℕ) (x y z : List ℕ) (X r : Built) → Unchanged s p n l → After s n (lent l p) x y X → Closed s X 0 y z r → Building s p x z r
+built s p n l x y z X r U given C = record {
   same_length = C.bounds.same_length ∙ given.bounds.same_length;
   has_room = λ P E i j k. (made P E i j).has_room k;
   right = λ P E i j k.
@@ -188,16 +188,16 @@ built s p d x y z X r U given C = record {
 }
   where
     q : List ℕ
-    q = drop (d / 65536) p
+    q = drop l p
 
-    A : After s (d % 65536) q x y X
-    A = subst (λ l. After s (d % 65536) l x y X) (part (d / 65536) p) given
+    A : After s n q x y X
+    A = subst (λ c. After s n c x y X) (part l p) given
 
     made : (P : Scope) (E : Term) (i : TermAt s P E []) (j : marked E p ≡ true)
         → Made (built_words E p) (action_code (follow (U.ahead P E [] i j).operand q).action) 0 (length (follow (U.ahead P E [] i j).operand q).rest) x z r
     made P E i j =
         let u = U.ahead P E [] i j in
-        let h = take (d % 65536) s in
+        let h = take n s in
         let o = built_words u.operand q in
         let e : built_words E p ++ [] ≡ (h ++ o) ++ u.behind = u.stays ∙ sym (append_assoc h o u.behind) in
         let g = going_as (built_words E p) [] (h ++ o) u.behind e (omega arith) (A.begun P u.operand u.behind u.there u.led).going in

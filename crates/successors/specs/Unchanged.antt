@@ -1,6 +1,6 @@
 -- The words at the front of a term that stay as they are when an operand behind them moves, and the words of the path that lead to it.
 -- Document 01, "Moves, in order"; "Operations": the successor is built within a part of the lent buffer.
-use Rattle.std.specs.Prelude.{◌≡◌, true, List, ◌++◌, ℕ, ◌≤◌, ◌<◌, ◌/◌, ◌%◌, eqb, length, take, drop, get_or}
+use Rattle.std.specs.Prelude.{◌≡◌, true, List, ◌++◌, ℕ, ◌≤◌, ◌<◌, eqb, length, take, drop, get_or}
 use Rattle.eb3.specs.Reading.{pick}
 use Rattle.eb3.specs.Scopes.{Scope}
 use Rattle.eb3.specs.Terms.{Term}
@@ -32,8 +32,8 @@ pub record Staying (s p : List ℕ) (n : ℕ) : Type 0 where
   pub fewer : 0 < n → leading_words s p ≤ n
   pub ahead : 0 < n → Ahead s p n (leading_words s p)
 
--- All steps: how many words stay, and 65,536 times how many words of the path lead behind them.
-pub record Unchanged (s p : List ℕ) (d : ℕ) : Type 0 where
-  pub stay_bounded : d % 65536 ≤ length s
-  pub lead_bounded : d / 65536 ≤ length p
-  pub ahead : Ahead s p (d % 65536) (d / 65536)
+-- All steps: n words stay, and l words of the path lead behind them.
+pub record Unchanged (s p : List ℕ) (n l : ℕ) : Type 0 where
+  pub stay_bounded : n ≤ length s
+  pub lead_bounded : l ≤ length p
+  pub ahead : Ahead s p n l

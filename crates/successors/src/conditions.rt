@@ -5,18 +5,22 @@ ghost use Rattle.eb3.specs.Scopes.{Scope};
 ghost use Rattle.expressions.specs.Answering.{CondAt};
 ghost use Rattle.successors.specs.Passing.{operands, numbers, pass};
 
+use code_numbers::{
+    BEFORE, CONSTANT, DIFFERENCE, EQUAL, IF, NOT, NOW, OR, SUM, UNDEFINED, VARIABLE,
+};
+
 // How many expressions stand behind a code.
 #[tactic(auto, unfolding(crate::specs::Passing::operands))]
 fn operands_of(c: usize) -> usize
     ensures { (result ≡ operands c) × (result ≤ 3) }
 {
     match c {
-        0..=2 => 0,
-        3..=4 => 2,
-        5 => 3,
-        6..=7 => 1,
-        8..=11 => 2,
-        12 => 1,
+        UNDEFINED..=VARIABLE => 0,
+        SUM..=DIFFERENCE => 2,
+        IF => 3,
+        NOW..=BEFORE => 1,
+        EQUAL..=OR => 2,
+        NOT => 1,
         _ => 0,
     }
 }
@@ -27,8 +31,8 @@ fn words_of(c: usize) -> usize
     ensures { (result ≡ 1 + numbers c) × (result ≤ 2) }
 {
     match c {
-        1..=2 => 2,
-        6..=7 => 2,
+        CONSTANT..=VARIABLE => 2,
+        NOW..=BEFORE => 2,
         _ => 1,
     }
 }

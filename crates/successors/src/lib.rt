@@ -8,6 +8,7 @@ ghost use Rattle.successors.specs.Building.{Building};
 ghost use Rattle.successors.specs.Parts.{Whole, Unbuilt, Added, Closed, Beginning, Behind, After, with_right, Both};
 
 use actions::{behind_action, code_at};
+use code_numbers::{ACTION, CHOICE, DONE, GUARD, PARALLEL, SEQUENCE, STAR};
 use conditions::behind_condition;
 use listing::{skip, skip_row};
 use scan::{behind, first, last};
@@ -156,7 +157,7 @@ fn begin_sequence(s: &[u16], path: &[u16], out: &mut [u8]) -> Built
     ensures { Beginning s.now path.now out.old out.new result }
 {
     let t = behind(s);
-    if first(t) == 30 {
+    if first(t) == DONE {
         return begin(behind(t), path, out);
     }
     with_right(begin_after(s, 1, path, out))
@@ -199,7 +200,7 @@ fn begin_star(s: &[u16], path: &[u16], out: &mut [u8]) -> Built
     ensures { Beginning s.now path.now out.old out.new result }
 {
     if first(path) == 0 {
-        return put_one(30, 0, skip(behind(s)), behind(path).len(), out);
+        return put_one(DONE as u16, 0, skip(behind(s)), behind(path).len(), out);
     }
     begin_round(s, path, out)
 }
@@ -212,7 +213,7 @@ fn begin_round(s: &[u16], path: &[u16], out: &mut [u8]) -> Built
     ensures { Beginning s.now path.now out.old out.new result }
 {
     let t = behind(s);
-    let h = put_one(22, 0, 0, 0, out);
+    let h = put_one(SEQUENCE as u16, 0, 0, 0, out);
     let x = begin_behind(h, t, behind(path), out);
     let e = skip_row(last(t, x.left), x.due);
     let z = close(t, x, e, out);
@@ -232,7 +233,7 @@ fn begin_parallel(s: &[u16], path: &[u16], out: &mut [u8]) -> Built
     match first(path) {
         0 => {
             let n = skip(&s[5..]);
-            put_one(30, 0, skip(last(s, n)), behind(path).len(), out)
+            put_one(DONE as u16, 0, skip(last(s, n)), behind(path).len(), out)
         }
         1 => with_right(begin_after(s, 5, behind(path), out)),
         _ => begin_right(s, path, out),
@@ -286,7 +287,7 @@ fn begin_action(s: &[u16], path: &[u16], out: &mut [u8]) -> Built
     ensures { Beginning s.now path.now out.old out.new result }
 {
     let t = behind(s);
-    put_one(30, code_at(t), behind_action(t), path.len(), out)
+    put_one(DONE as u16, code_at(t), behind_action(t), path.len(), out)
 }
 
 #[cycle(building)]
@@ -295,13 +296,13 @@ fn begin(s: &[u16], path: &[u16], out: &mut [u8]) -> Built
     ensures { Beginning s.now path.now out.old out.new result }
 {
     match first(s) {
-        21 => begin_action(s, path, out),
-        22 => begin_sequence(s, path, out),
-        23 => begin_choice(s, path, out),
-        24 => begin_star(s, path, out),
-        25 => begin_parallel(s, path, out),
-        26 => begin_guard(s, path, out),
-        _ => put_one(30, 0, behind(s).len(), path.len(), out),
+        ACTION => begin_action(s, path, out),
+        SEQUENCE => begin_sequence(s, path, out),
+        CHOICE => begin_choice(s, path, out),
+        STAR => begin_star(s, path, out),
+        PARALLEL => begin_parallel(s, path, out),
+        GUARD => begin_guard(s, path, out),
+        _ => put_one(DONE as u16, 0, behind(s).len(), path.len(), out),
     }
 }
 
@@ -313,8 +314,7 @@ pub fn build(s: &[u16], path: &[u16], out: &mut [u8]) -> Built
     requires { length s.now ≤ 65535 }
     ensures { Building s.now path.now out.old out.new result }
 {
-    let d = unchanged(s, path);
-    let used = d / 65536;
-    let x = begin_after(s, d % 65536, &path[used..], out);
+    let stay = unchanged(s, path);
+    let x = begin_after(s, stay.words, &path[stay.path..], out);
     close(s, x, 0, out)
 }

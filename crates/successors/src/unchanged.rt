@@ -3,6 +3,7 @@
 ghost use Rattle.std.specs.Prelude.{◌≡◌, ◌≤◌, ◌<◌, IfSome, length, drop, get_or};
 ghost use Rattle.successors.specs.Unchanged.{leading_words, Staying, Unchanged};
 
+use code_numbers::{DONE, PARALLEL, SEQUENCE};
 use scan::{behind, first};
 
 // ── the left operand's size in the path, behind the decision ──
@@ -30,8 +31,8 @@ fn staying(s: &[u16], path: &[u16]) -> Option<usize>
     ensures { IfSome result (λ n. (0 < n) × Staying s.now path.now n) }
 {
     match first(s) {
-        22 if first(behind(s)) != 30 => Some(1),
-        25 => match first(path) {
+        SEQUENCE if first(behind(s)) != DONE => Some(1),
+        PARALLEL => match first(path) {
             1 => Some(5),
             2 => Some(5 + size_word(path)),
             _ => None,
@@ -45,7 +46,7 @@ fn staying(s: &[u16], path: &[u16]) -> Option<usize>
 fn leading(s: &[u16], path: &[u16]) -> usize
     ensures { (result ≡ leading_words s.now path.now) × (result ≤ 2) }
 {
-    if first(s) == 22 {
+    if first(s) == SEQUENCE {
         0
     } else if first(path) == 1 {
         1
@@ -54,11 +55,18 @@ fn leading(s: &[u16], path: &[u16]) -> usize
     }
 }
 
-// How many words at the front of the term stay, and 65,536 times how many words of the path lead behind them: from there on the term changes. Most of a
-// large term is parallels, and what stands in front of the operand that moves need not be gone through again when it is written.
-pub fn unchanged(s: &[u16], path: &[u16]) -> usize
+// How many words at the front of a term stay, and how many words of the path lead behind them.
+#[derive(Clone, Copy)]
+pub struct Stay {
+    pub words: usize,
+    pub path: usize,
+}
+
+// From behind these words on the term changes. Most of a large term is parallels, and what stands in front of the operand that moves need not be gone
+// through again when it is written.
+pub fn unchanged(s: &[u16], path: &[u16]) -> Stay
     requires { length s.now ≤ 65535 }
-    ensures { Unchanged s.now path.now result }
+    ensures { Unchanged s.now path.now result.words result.path }
 {
     let mut at = 0;
     let mut used = 0;
@@ -70,5 +78,8 @@ pub fn unchanged(s: &[u16], path: &[u16]) -> usize
         at += n;
         used = next;
     }
-    at + 65536 * used
+    Stay {
+        words: at,
+        path: used,
+    }
 }

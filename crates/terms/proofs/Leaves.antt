@@ -21,7 +21,7 @@ use Rattle.eb3.specs.TermReading.{elements_of, perform, action_of}
 use Rattle.eb3.proofs.Laws.Reading.{Sound}
 use Rattle.eb3.proofs.Laws.TermReading.{elements_sound}
 use Rattle.scan.specs.Laws.{Fine, nil_form, cons_form}
-use Rattle.scan.specs.ReadingLaws.{Taken, giving_refused, giving_taken, same_refused}
+use Rattle.scan.specs.ReadingLaws.{Taken, giving_refused_as, giving_taken, same_refused}
 use Rattle.weights.specs.declared.Weight.{Weight}
 use Rattle.weights.specs.Weighing.{cap, measure}
 use Rattle.arguments.specs.Tables.{row, declared}
@@ -82,7 +82,7 @@ module _ (T t : List ℕ) where
       pub action_out : length t ≤ 8192 → m ≡ wrong → wrong ≡ weighed_running (action_of (declared T) t)
       action_out y g =
           let a = left_wrong (drop 1 t) _ (short y) ends (sym g ∙ behind) in
-          refused_wrong _ a.0 (same_refused _ _ a.0 there (giving_refused _ _ a.0 a.1))
+          refused_wrong _ a.0 (same_refused _ _ a.0 there (giving_refused_as _ _ a.0 a.1))
 
       module _ (c : ℕ) (w : Weight) (g : m ≡ wrong → ⊥) (y : c ≡ length ds) (v : measure w ≡ leaf (sat cap) (2 + 2 * c)) where
         arguments_taken : Taken (drop 1 t) m (elements_of 1 (sizes_of (declared T) ds) (drop 1 t))

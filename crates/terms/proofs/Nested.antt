@@ -18,7 +18,7 @@ use Rattle.eb3.specs.TermReading.{TermKind, term_kind, read_term}
 use Rattle.scan.specs.Checking.{last_of}
 use Rattle.weights.specs.Weighing.{cap}
 use Rattle.arguments.specs.Tables.{declared}
-use Rattle.scan.specs.ReadingLaws.{giving_refused, same_refused, RefusedAs}
+use Rattle.scan.specs.ReadingLaws.{giving_refused_as, same_refused, RefusedAs}
 use native.Mathlib.Nat.{le_refl}
 use Rattle.terms.specs.Given.{wrong, weighed_running}
 use Rattle.terms.specs.Answers.{packed, unpacked, Answer, stars_of, starred_of, stars_in_front, InFront}
@@ -82,7 +82,7 @@ stars_read R (w ∷ t) = go (stars_read R t) (eqb w 24) refl
 stars_refused : (k : ℕ) (j : Refusal) (r : Read Term) → RefusedAs j r → RefusedAs j (stars_over k r)
 unfolding stars_over
 stars_refused zero j r h = h
-stars_refused (suc k) j r h = giving_refused Star (stars_over k r) j (stars_refused k j r h)
+stars_refused (suc k) j r h = giving_refused_as Star (stars_over k r) j (stars_refused k j r h)
 
 stars_taken : (k : ℕ) (E : Term) (u : List ℕ) → stars_over k (taken E u) ≡ taken (stars_around k E) u
 unfolding stars_over stars_around giving

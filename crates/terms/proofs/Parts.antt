@@ -23,7 +23,7 @@ use Rattle.eb3.proofs.Laws.ExpressionReading.{cond_sound}
 use Rattle.eb3.proofs.Laws.Spelling.{cond_length}
 use Rattle.scan.specs.Checking.{checked, last_of, Checked}
 use Rattle.scan.specs.Laws.{last_len}
-use Rattle.scan.specs.ReadingLaws.{Taken, checked_refused, checked_taken, giving_refused, giving_taken, both_first, both_second, both_taken, both_behind, same_refused}
+use Rattle.scan.specs.ReadingLaws.{Taken, checked_refused, checked_taken, giving_refused_as, giving_taken, both_first_as, both_second_as, both_taken, both_behind, same_refused}
 use Rattle.grammar.specs.Laws.{cond_ends}
 use Rattle.weights.specs.Weighing.{cap, parallel_by}
 use Rattle.arguments.specs.Tables.{declared}
@@ -46,7 +46,7 @@ module _ (T t : List ℕ) (c : Pair) (p : ℕ) (fits : length t ≤ 8192) (e : p
   unfolding weighed_pair
   pair_first h =
       let g = none_read T t p fits e h in
-      let m = both_first (reads T) (reads T) t g.0 g.1 in
+      let m = both_first_as (reads T) (reads T) t g.0 g.1 in
       rw m.read
 
   -- n words are left behind the first, r is these
@@ -67,7 +67,7 @@ module _ (T t : List ℕ) (c : Pair) (p : ℕ) (fits : length t ≤ 8192) (e : p
     unfolding weighed_pair
     pair_second o =
         let g = none_read T r q short f o in
-        let m = both_second (reads T) (reads T) t first.value first.rest g.0 first.read (same_refused _ _ g.0 (ap (reads T) rest_is) g.1) in
+        let m = both_second_as (reads T) (reads T) t first.value first.rest g.0 first.read (same_refused _ _ g.0 (ap (reads T) rest_is) g.1) in
         rw m.read
 
     module _ (o : q ≡ wrong → ⊥) where
@@ -109,7 +109,7 @@ module _ (T t : List ℕ) (b : ℕ) (p : Checked) (i : b ≡ get_or T 17 0) (e :
   as_declared = e ∙ ap (λ n. checked (mask_of 4 n t)) (i ∙ sym (labels_length T))
 
   pub parallel_none : (k : Refusal) → p ≡ Err k → wrong ≡ weighed_running (term_by (declared T) (read_term (declared T)) TermKind.parallel t)
-  parallel_none k h = refused_wrong _ k (giving_refused _ _ k (both_first masks (both (reads T) (reads T)) t k (checked_refused (masks t) k (sym h ∙ as_declared))))
+  parallel_none k h = refused_wrong _ k (giving_refused_as _ _ k (both_first_as masks (both (reads T) (reads T)) t k (checked_refused (masks t) k (sym h ∙ as_declared))))
 
   -- z says whether the mask is zero
   module _ (n : ℕ) (r : List ℕ) (z : Bool) (x : ℕ) (h : p ≡ Ok n) (l : r ≡ last_of n t) (o : z ≡ zero_mask (take 4 t)) where
@@ -151,7 +151,7 @@ module _ (T t : List ℕ) (b : ℕ) (p : Checked) (i : b ≡ get_or T 210 0) (e 
       ∙ ap (λ P. checked (read_cond 1 P t)) (sym (guard_declared T 0)) ∙ ap checked width_one
 
   pub guarded_none : (k : Refusal) → p ≡ Err k → wrong ≡ weighed_running (term_by (declared T) (read_term (declared T)) TermKind.guard t)
-  guarded_none k h = refused_wrong _ k (giving_refused _ _ k (both_first conditions (reads T) t k (checked_refused (conditions t) k (sym h ∙ in_scope))))
+  guarded_none k h = refused_wrong _ k (giving_refused_as _ _ k (both_first_as conditions (reads T) t k (checked_refused (conditions t) k (sym h ∙ in_scope))))
 
   module _ (n q : ℕ) (r : List ℕ) (fits : length t ≤ 8192) (h : p ≡ Ok n) (l : r ≡ last_of n t) (f : q ≡ weighed_running (read_term (declared T) r)) where
     condition : Taken t n (conditions t)
@@ -169,7 +169,7 @@ module _ (T t : List ℕ) (b : ℕ) (p : Checked) (i : b ≡ get_or T 210 0) (e 
     pub guarded_out : q ≡ wrong → wrong ≡ weighed_running (term_by (declared T) (read_term (declared T)) TermKind.guard t)
     guarded_out o =
         let g = none_read T r q few f o in
-        refused_wrong _ g.0 (giving_refused _ _ g.0 (both_second conditions (reads T) t condition.value condition.rest g.0 condition.read (same_refused _ _ g.0 (ap (reads T) behind_is) g.1)))
+        refused_wrong _ g.0 (giving_refused_as _ _ g.0 (both_second_as conditions (reads T) t condition.value condition.rest g.0 condition.read (same_refused _ _ g.0 (ap (reads T) behind_is) g.1)))
 
     module _ (o : q ≡ wrong → ⊥) where
       operand : Got T r q

@@ -18,6 +18,9 @@ mod rows;
 mod values;
 
 use arguments::{entry, row_at, size_of, with};
+use code_numbers::{
+    ACTION, CALL, CHOICE, CHOICE_OVER, GUARD, INTERNAL, PARALLEL, PARALLEL_OVER, SEQUENCE, STAR,
+};
 use rows::{action, condition, put_head};
 use scan::{first, last};
 use values::arguments_of;
@@ -39,9 +42,9 @@ impl Joint {
         ensures { result ≡ code_of self }
     {
         match self {
-            Joint::Sequence => 22,
-            Joint::Choice => 23,
-            Joint::Parallel => 25,
+            Joint::Sequence => SEQUENCE as u16,
+            Joint::Choice => CHOICE as u16,
+            Joint::Parallel => PARALLEL as u16,
         }
     }
 
@@ -123,7 +126,7 @@ fn starred(
     requires { (length t.now ≤ 65535) × (length vars.now ≤ 8) × (i ≤ 32) × (n ≤ 65535) × (at ≤ 65535) × (2 * at ≤ length out.old) }
     ensures { Puts (Stars t.now tb.now n i vars.now) at out.old out.new result }
 {
-    let a = put_head(24, &t[..0], n, out, at);
+    let a = put_head(STAR as u16, &t[..0], n, out, at);
     if NONE <= a {
         return NONE;
     }
@@ -324,17 +327,17 @@ fn unfold(
         return NONE;
     }
     let m = s.len() - 1;
-    match s[0] {
-        20 => put_head(20, &t[..0], m, out, at),
-        21 => action(t, tb, vars, m, out, at),
-        22 => joined(t, tb, vars, m, i, Joint::Sequence, out, at),
-        23 => joined(t, tb, vars, m, i, Joint::Choice, out, at),
-        24 => starred(t, tb, vars, m, i, out, at),
-        25 => joined(t, tb, vars, m, i, Joint::Parallel, out, at),
-        26 => guarded(t, tb, vars, m, i, out, at),
-        27 => over(t, tb, vars, m, i, Joint::Choice, out, at),
-        28 => over(t, tb, vars, m, i, Joint::Parallel, out, at),
-        29 => call(t, tb, vars, m, i, out, at),
+    match s[0] as usize {
+        INTERNAL => put_head(INTERNAL as u16, &t[..0], m, out, at),
+        ACTION => action(t, tb, vars, m, out, at),
+        SEQUENCE => joined(t, tb, vars, m, i, Joint::Sequence, out, at),
+        CHOICE => joined(t, tb, vars, m, i, Joint::Choice, out, at),
+        STAR => starred(t, tb, vars, m, i, out, at),
+        PARALLEL => joined(t, tb, vars, m, i, Joint::Parallel, out, at),
+        GUARD => guarded(t, tb, vars, m, i, out, at),
+        CHOICE_OVER => over(t, tb, vars, m, i, Joint::Choice, out, at),
+        PARALLEL_OVER => over(t, tb, vars, m, i, Joint::Parallel, out, at),
+        CALL => call(t, tb, vars, m, i, out, at),
         _ => NONE,
     }
 }

@@ -9,6 +9,7 @@ ghost use Rattle.unfold.specs.Saying.{Performs, Conditions};
 use super::NONE;
 use super::values::value_of;
 use arguments::row_at;
+use code_numbers::{ACTION, BEFORE, CONSTANT, GUARD, IF, NOT, NOW, TRUE, UNDEFINED, VARIABLE};
 use scan::{behind, first, last};
 
 // One word at a place with room for it.
@@ -50,7 +51,7 @@ fn width_of(c: usize) -> usize
     ensures { (result ≡ front_width c) × (1 ≤ result) × (result ≤ 2) }
 {
     match c {
-        1 | 2 | 6 | 7 => 2,
+        CONSTANT | VARIABLE | NOW | BEFORE => 2,
         _ => 1,
     }
 }
@@ -61,9 +62,9 @@ fn operands_of(c: usize) -> usize
     ensures { (result ≡ operands c) × (result ≤ 3) }
 {
     match c {
-        0..=2 | 13 => 0,
-        6 | 7 | 12 => 1,
-        5 => 3,
+        UNDEFINED..=VARIABLE | TRUE => 0,
+        NOW | BEFORE | NOT => 1,
+        IF => 3,
         _ => 2,
     }
 }
@@ -75,9 +76,9 @@ fn put_front(s: &[u16], vars: &[u16], m: usize, out: &mut [u8], at: usize) -> us
 {
     let c = s[0];
     let n = s.len() - m;
-    if c == 2 {
+    if c as usize == VARIABLE {
         let v = [value_of(vars, first(behind(s)))];
-        return put_head(1, &v, n, out, at);
+        return put_head(CONSTANT as u16, &v, n, out, at);
     }
     put_head(c, &s[1..m], n, out, at)
 }
@@ -119,7 +120,7 @@ pub fn action(t: &[u16], tb: &[u32], vars: &[u16], n: usize, out: &mut [u8], at:
         return NONE;
     }
     let m = s.len() - 1;
-    let a = put_head(21, &s[..1], m, out, at);
+    let a = put_head(ACTION as u16, &s[..1], m, out, at);
     if NONE <= a {
         return NONE;
     }
@@ -133,7 +134,7 @@ pub fn condition(t: &[u16], tb: &[u32], vars: &[u16], n: usize, out: &mut [u8], 
     ensures puts { Puts (Conditions t.now tb.now n vars.now) at out.old out.new result }
     ensures left { result < 4294967296 → result % 65536 ≤ n }
 {
-    let a = put_head(26, &t[..0], n, out, at);
+    let a = put_head(GUARD as u16, &t[..0], n, out, at);
     if NONE <= a {
         return NONE;
     }

@@ -4,6 +4,8 @@ ghost use Rattle.std.specs.Prelude.{◌≡◌, ◌≤◌, length, get_or};
 ghost use Rattle.arguments.specs.Tables.{from};
 ghost use Rattle.unfold.specs.Saying.{argument_at};
 
+use code_numbers::VARIABLE;
+
 // A variable's value, or 0 where there is no such variable.
 pub fn value_of(vars: &[u16], i: usize) -> u16
     ensures { result ≡ get_or vars.now i 0 }
@@ -19,7 +21,7 @@ fn argument(s: &[u16], vars: &[u16], j: usize) -> u16
 {
     let c = value_of(s, 2 * j);
     let v = value_of(s, 2 * j + 1);
-    if c == 2 {
+    if c as usize == VARIABLE {
         return value_of(vars, usize::from(v));
     }
     v

@@ -41,7 +41,7 @@ impl Limits {
     }
 }
 
-// So many words.
+// So many words. Stays: it is public, and what is public keeps its promise; today's form is a cast in place.
 pub fn narrow(x: usize) -> u64
     ensures { result ≡ x }
 {

@@ -11,8 +11,8 @@ loop-due-init c = (omega arith, omega arith, idle_start c.args.shape c.args.s.no
 pub returns-then-s-at : goal.returns-then-s-at
 returns-then-s-at c = idle_end c.args.shape c.args.s.now c.loop-due.at c.loop-due.due 0 c.loop-due-test.true c.loop-due.invariant.2 c.if-s-at.true
 
-pub returns-then-w-gt30 : goal.returns-then-w-gt30
-returns-then-w-gt30 c = idle_unknown c.args.shape c.args.s.now c.loop-due.at c.loop-due.due _ c.loop-due-test.true c.loop-due.invariant.2 refl c.if-w-gt30.true
+pub returns-then-w-gt-DONE : goal.returns-then-w-gt-DONE
+returns-then-w-gt-DONE c = idle_unknown c.args.shape c.args.s.now c.loop-due.at c.loop-due.due _ c.loop-due-test.true c.loop-due.invariant.2 refl c.if-w-gt-DONE.true
 
 pub returns-then-moving : goal.returns-then-moving
 returns-then-moving c = idle_stops c.args.shape c.args.s.now c.loop-due.at c.loop-due.due _ c.loop-due-test.true c.loop-due.invariant.2 refl (sym c.moving.ensures ∙ c.if-moving.true)

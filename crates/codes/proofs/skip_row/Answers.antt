@@ -11,8 +11,8 @@ loop-due-init c = (omega arith, omega arith, skip_start c.args.shape c.args.s.no
 pub returns-then-s-at : goal.returns-then-s-at
 returns-then-s-at c = skip_end c.args.shape c.args.s.now c.loop-due.at c.loop-due.due 0 c.args.n c.loop-due-test.true c.loop-due.invariant.2 c.if-s-at.true
 
-pub returns-then-w-gt30 : goal.returns-then-w-gt30
-returns-then-w-gt30 c = skip_unknown c.args.shape c.args.s.now c.loop-due.at c.loop-due.due _ c.args.n c.loop-due-test.true c.loop-due.invariant.2 refl c.if-w-gt30.true
+pub returns-then-w-gt-DONE : goal.returns-then-w-gt-DONE
+returns-then-w-gt-DONE c = skip_unknown c.args.shape c.args.s.now c.loop-due.at c.loop-due.due _ c.args.n c.loop-due-test.true c.loop-due.invariant.2 refl c.if-w-gt-DONE.true
 
 pub loop-due-preserved : goal.loop-due-preserved
 loop-due-preserved c = (omega arith, omega arith, skip_next c.args.shape c.args.s.now c.loop-due.at c.loop-due.due _ c.args.n c.loop-due-test.true c.loop-due.invariant.2 c.words_after.result c.operands.result _ refl c.words_after.ensures.0 c.operands.ensures.0 (part (c.loop-due.at + 1) c.args.s.now))

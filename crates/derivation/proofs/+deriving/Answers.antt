@@ -101,14 +101,14 @@ arrays::Arrays::derive_right-size_before-requires t c = (c.requires.0, last_len 
 pub arrays::Arrays::derive_right-returns-clause-derived : goal.arrays::Arrays::derive_right-returns-clause-derived
 arrays::Arrays::derive_right-returns-clause-derived t c = right_derived _ _ _ _ _ _ _ _ _ _ _ _ c.skip.ensures c.last-u.ensures c.walk-r.ensures.derived c.walk-r.ensures.kept.path_length (sized c.size_before.ensures c.decide_right.ensures)
 
-pub arrays::Arrays::derive_sequence-returns-then-first-eq30-clause-derived : goal.arrays::Arrays::derive_sequence-returns-then-first-eq30-clause-derived
-arrays::Arrays::derive_sequence-returns-then-first-eq30-clause-derived t c = sequence_right _ _ _ _ _ _ _ _ _ (sym c.first.ensures.0 ∙ c.if-first-eq30.true) c.behind.ensures c.walk.ensures.derived
+pub arrays::Arrays::derive_sequence-returns-then-first-eq-DONE-clause-derived : goal.arrays::Arrays::derive_sequence-returns-then-first-eq-DONE-clause-derived
+arrays::Arrays::derive_sequence-returns-then-first-eq-DONE-clause-derived t c = sequence_right _ _ _ _ _ _ _ _ _ (sym c.first.ensures.0 ∙ c.if-first-eq-DONE.true) c.behind.ensures c.walk.ensures.derived
 
 pub arrays::Arrays::derive_sequence-returns-then-l-lt-PASSED-clause-derived : goal.arrays::Arrays::derive_sequence-returns-then-l-lt-PASSED-clause-derived
-arrays::Arrays::derive_sequence-returns-then-l-lt-PASSED-clause-derived t c = sequence_found _ _ _ _ _ _ _ _ c.walk-l.ensures.derived (λ e. c.if-first-eq30.false (c.first.ensures.0 ∙ e)) c.if-l-lt-PASSED.true
+arrays::Arrays::derive_sequence-returns-then-l-lt-PASSED-clause-derived t c = sequence_found _ _ _ _ _ _ _ _ c.walk-l.ensures.derived (λ e. c.if-first-eq-DONE.false (c.first.ensures.0 ∙ e)) c.if-l-lt-PASSED.true
 
 pub arrays::Arrays::derive_sequence-returns-then-l-ge-FULL-clause-derived : goal.arrays::Arrays::derive_sequence-returns-then-l-ge-FULL-clause-derived
-arrays::Arrays::derive_sequence-returns-then-l-ge-FULL-clause-derived t c = sequence_lost _ _ _ _ _ _ _ _ c.walk-l.ensures.derived (λ e. c.if-first-eq30.false (c.first.ensures.0 ∙ e)) c.if-l-ge-FULL.true
+arrays::Arrays::derive_sequence-returns-then-l-ge-FULL-clause-derived t c = sequence_lost _ _ _ _ _ _ _ _ c.walk-l.ensures.derived (λ e. c.if-first-eq-DONE.false (c.first.ensures.0 ∙ e)) c.if-l-ge-FULL.true
 
 pub arrays::Arrays::derive_sequence-skip-requires : goal.arrays::Arrays::derive_sequence-skip-requires
 arrays::Arrays::derive_sequence-skip-requires t c = omega (arith, last_len _ _ _ c.last.ensures)
@@ -117,7 +117,7 @@ pub arrays::Arrays::derive_sequence-passing-requires : goal.arrays::Arrays::deri
 arrays::Arrays::derive_sequence-passing-requires t c = omega (arith, c.skip.ensures.0, last_len _ _ _ c.last.ensures, c.walk-l.ensures.derived.passed_bounded c.if-l-lt-PASSED.false c.if-l-ge-FULL.false, answer_is (length c.args.t.now) c.args.k)
 
 pub arrays::Arrays::derive_sequence-returns-clause-derived : goal.arrays::Arrays::derive_sequence-returns-clause-derived
-arrays::Arrays::derive_sequence-returns-clause-derived t c = sequence_passed _ _ _ _ _ _ _ _ c.walk-l.ensures.derived (λ e. c.if-first-eq30.false (c.first.ensures.0 ∙ e)) _ _ _ c.if-l-lt-PASSED.false c.if-l-ge-FULL.false c.requires.0 c.requires.1 c.last.ensures c.skip.ensures.0 c.skip.ensures.1 c.passing.ensures.0
+arrays::Arrays::derive_sequence-returns-clause-derived t c = sequence_passed _ _ _ _ _ _ _ _ c.walk-l.ensures.derived (λ e. c.if-first-eq-DONE.false (c.first.ensures.0 ∙ e)) _ _ _ c.if-l-lt-PASSED.false c.if-l-ge-FULL.false c.requires.0 c.requires.1 c.last.ensures c.skip.ensures.0 c.skip.ensures.1 c.passing.ensures.0
 
 pub arrays::Arrays::derive_sides-returns-then-l-ge-PASSED-clause-derived : goal.arrays::Arrays::derive_sides-returns-then-l-ge-PASSED-clause-derived
 arrays::Arrays::derive_sides-returns-then-l-ge-PASSED-clause-derived t c = sides_none_left _ _ _ _ _ _ _ _ c.walk-l.ensures.kept.path_length c.walk-l.ensures.derived c.if-z-lt-RIGHT.true c.if-l-ge-PASSED.true

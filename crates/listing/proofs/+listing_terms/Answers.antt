@@ -43,14 +43,14 @@ list_parallel-returns-then-y-x t c = parallel_hidden _ _ _ _ _ _ c.behind_mask-t
 pub list_parallel-returns : goal.list_parallel-returns
 list_parallel-returns t c = parallel_masked _ _ _ _ _ _ c.behind_mask-t.ensures _ c.both_done.ensures _ c.if-both_done.false _ (c.join-y.ensures ∙ ap (bit_or c.args.x) c.mask_set.ensures) c.if-y-x.false c.list_masked.ensures
 
-pub list_sequence-returns-then-w-eq30 : goal.list_sequence-returns-then-w-eq30
-list_sequence-returns-then-w-eq30 t c = sequence_right _ _ _ _ _ c.first-w.ensures.0 _ _ c.if-w-eq30.true c.behind.ensures c.list_shown.ensures
+pub list_sequence-returns-then-w-eq-DONE : goal.list_sequence-returns-then-w-eq-DONE
+list_sequence-returns-then-w-eq-DONE t c = sequence_right _ _ _ _ _ c.first-w.ensures.0 _ _ c.if-w-eq-DONE.true c.behind.ensures c.list_shown.ensures
 
 pub list_sequence-returns-then-l-ge-FULL : goal.list_sequence-returns-then-l-ge-FULL
-list_sequence-returns-then-l-ge-FULL t c = sequence_lost _ _ _ _ _ c.first-w.ensures.0 _ c.list_shown-l.ensures c.if-w-eq30.false c.if-l-ge-FULL.true
+list_sequence-returns-then-l-ge-FULL t c = sequence_lost _ _ _ _ _ c.first-w.ensures.0 _ c.list_shown-l.ensures c.if-w-eq-DONE.false c.if-l-ge-FULL.true
 
 pub list_sequence-returns : goal.list_sequence-returns
-list_sequence-returns t c = sequence_left _ _ _ _ _ c.first-w.ensures.0 _ c.list_shown-l.ensures c.if-w-eq30.false _ _ c.if-l-ge-FULL.false c.requires.0 c.requires.1 c.last.ensures c.skip.ensures.0 (last_len _ _ _ c.last.ensures) c.skip.ensures.1
+list_sequence-returns t c = sequence_left _ _ _ _ _ c.first-w.ensures.0 _ c.list_shown-l.ensures c.if-w-eq-DONE.false _ _ c.if-l-ge-FULL.false c.requires.0 c.requires.1 c.last.ensures c.skip.ensures.0 (last_len _ _ _ c.last.ensures) c.skip.ensures.1
 
 pub list_shown-returns-in-20 : goal.list_shown-returns-in-20
 list_shown-returns-in-20 t c = at_front _ _ _ _ _ _ 20 _ c.first-w.ensures.0 c.behind-t.ensures c.in-20.is (lit< tt) (internal_listed _ _ _ _ _ c.list_one.ensures)

@@ -11,8 +11,8 @@ loop-due-init c = record { reached = omega arith; few = omega arith; skipping = 
 pub returns-in_default : goal.returns-in_default
 returns-in_default c = skip_none c.args.s.now c.loop-due.at c.loop-due.due 0 c.args.n c.loop-due-test.true c.loop-due.invariant.skipping c.in_default.ensures
 
-pub loop-due-preserved-then-w-eq21 : goal.loop-due-preserved-then-w-eq21
-loop-due-preserved-then-w-eq21 c =
+pub loop-due-preserved-then-w-eq-ACTION : goal.loop-due-preserved-then-w-eq-ACTION
+loop-due-preserved-then-w-eq-ACTION c =
     let s = c.args.s.now in
     let at = c.loop-due.at in
     let w = c.in-Some.ensures in
@@ -20,7 +20,7 @@ loop-due-preserved-then-w-eq21 c =
     record {
       reached = omega arith;
       few = omega (arith, e.0, length-drop (at + 1) s);
-      skipping = skip_action s at c.loop-due.due c.in-Some.w c.args.n c.loop-due-test.true c.loop-due.invariant.skipping c.behind_action.result w.0 c.if-w-eq21.true e.1 (omega (arith, e.0, length-drop (at + 1) s));
+      skipping = skip_action s at c.loop-due.due c.in-Some.w c.args.n c.loop-due-test.true c.loop-due.invariant.skipping c.behind_action.result w.0 c.if-w-eq-ACTION.true e.1 (omega (arith, e.0, length-drop (at + 1) s));
     }
 
 pub loop-due-preserved : goal.loop-due-preserved
@@ -29,7 +29,7 @@ loop-due-preserved c =
     record {
       reached = omega arith;
       few = omega arith;
-      skipping = rw (c.words_behind.ensures.0, c.operands_behind.ensures.0) (skip_code c.args.s.now c.loop-due.at c.loop-due.due c.in-Some.w c.args.n c.loop-due-test.true c.loop-due.invariant.skipping w.0 c.if-w-eq21.false);
+      skipping = rw (c.words_behind.ensures.0, c.operands_behind.ensures.0) (skip_code c.args.s.now c.loop-due.at c.loop-due.due c.in-Some.w c.args.n c.loop-due-test.true c.loop-due.invariant.skipping w.0 c.if-w-eq-ACTION.false);
     }
 
 pub returns : goal.returns

@@ -1,4 +1,5 @@
 -- One word at the start, the run and the last term spelled out, put together (`bare_run`); there is always room for a word (`bare_none`).
+use mathlib.Core.Path.{refl}
 use Rattle.mains.proofs.BareCases.{bare_none, bare_run}
 use Rattle.scan.specs.Laws.{set_first}
 use lib.ListN.{length-set}
@@ -8,4 +9,4 @@ pub returns-then-d-eq0 : goal.returns-then-d-eq0
 returns-then-d-eq0 c = bare_none c.if-d-eq0.true
 
 pub returns : goal.returns
-returns c = bare_run c.part_word.ensures (set_first c.args.d.now c.part_word.result c.if-d-eq0.false) (length-set c.args.d.now 0 c.part_word.result) c.run_shared-r.ensures.3 c.front.ensures c.expand-q.ensures c.run_shared-r.ensures.2.mid_length c.finish.ensures c.low32.ensures
+returns c = bare_run c.part_word.ensures (set_first c.args.d.now c.part_word.result c.if-d-eq0.false) (length-set c.args.d.now 0 c.part_word.result) c.run_shared-r.ensures.3 c.front.ensures c.expand-q.ensures c.run_shared-r.ensures.2.mid_length c.finish.ensures refl

@@ -1,6 +1,7 @@
 -- The run in main's own words and what is written, put together (`masked_run`).
+use mathlib.Core.Path.{refl}
 use Rattle.mains.proofs.MainCases.{masked_run}
 use Rattle.mains.proofs.run_masked.Goals as goal
 
 pub returns : goal.returns
-returns c = (c.run_moves-r.ensures.2, masked_run c.run_moves-r.ensures.0 c.run_moves-r.ensures.4 c.finish.ensures c.low32.ensures)
+returns c = (c.run_moves-r.ensures.2, masked_run c.run_moves-r.ensures.0 c.run_moves-r.ensures.4 c.finish.ensures refl)

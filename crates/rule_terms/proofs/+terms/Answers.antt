@@ -7,47 +7,23 @@ use Rattle.rule_terms.proofs.Codes.{codes, parts, binders}
 use Rattle.rule_terms.proofs.Stars.{around}
 use Rattle.rule_terms.proofs.+terms.Goals as goal
 
-pub in_sequence-returns-in_err-a : goal.in_sequence-returns-in_err-a
-in_sequence-returns-in_err-a t c = let z = c.in_err-a.was in handed_on _ _ _ c.from_residual.ensures (search parts)
+pub two_terms-returns-in_err-a : goal.two_terms-returns-in_err-a
+two_terms-returns-in_err-a t c = let z = c.in_err-a.was in handed_on _ _ _ c.from_residual.ensures (search parts)
 
-pub in_sequence-returns-in_err-b : goal.in_sequence-returns-in_err-b
-in_sequence-returns-in_err-b t c = let x = c.in_ok-a.was in let z = c.in_err-b.was in handed_on _ _ _ c.from_residual-in_err-b.ensures (search parts)
+pub two_terms-returns-in_err-b : goal.two_terms-returns-in_err-b
+two_terms-returns-in_err-b t c = let x = c.in_ok-a.was in let z = c.in_err-b.was in handed_on _ _ _ c.from_residual-in_err-b.ensures (search parts)
 
-pub in_sequence-operand-requires-2 : goal.in_sequence-operand-requires-2
-in_sequence-operand-requires-2 t c = (omega (arith, last_len), (search rules, omega (arith, last_len)))
+pub two_terms-operand-requires-2 : goal.two_terms-operand-requires-2
+two_terms-operand-requires-2 t c = (omega (arith, last_len), (search rules, omega (arith, last_len)))
 
-pub in_sequence-returns : goal.in_sequence-returns
-in_sequence-returns t c = let x = c.in_ok-a.was in let y = c.in_ok-b.was in search parts
-
-pub in_choice-returns-in_err-a : goal.in_choice-returns-in_err-a
-in_choice-returns-in_err-a t c = let z = c.in_err-a.was in handed_on _ _ _ c.from_residual.ensures (search parts)
-
-pub in_choice-returns-in_err-b : goal.in_choice-returns-in_err-b
-in_choice-returns-in_err-b t c = let x = c.in_ok-a.was in let z = c.in_err-b.was in handed_on _ _ _ c.from_residual-in_err-b.ensures (search parts)
-
-pub in_choice-operand-requires-2 : goal.in_choice-operand-requires-2
-in_choice-operand-requires-2 t c = (omega (arith, last_len), (search rules, omega (arith, last_len)))
-
-pub in_choice-returns : goal.in_choice-returns
-in_choice-returns t c = let x = c.in_ok-a.was in let y = c.in_ok-b.was in search parts
-
-pub sides-returns-in_err-a : goal.sides-returns-in_err-a
-sides-returns-in_err-a t c = let z = c.in_err-a.was in handed_on _ _ _ c.from_residual.ensures (search parts)
-
-pub sides-returns-in_err-b : goal.sides-returns-in_err-b
-sides-returns-in_err-b t c = let x = c.in_ok-a.was in let z = c.in_err-b.was in handed_on _ _ _ c.from_residual-in_err-b.ensures (search parts)
-
-pub sides-operand-requires-2 : goal.sides-operand-requires-2
-sides-operand-requires-2 t c = (omega (arith, last_len), (search rules, omega (arith, last_len)))
-
-pub sides-returns : goal.sides-returns
-sides-returns t c = let x = c.in_ok-a.was in let y = c.in_ok-b.was in search parts
+pub two_terms-returns : goal.two_terms-returns
+two_terms-returns t c = let x = c.in_ok-a.was in let y = c.in_ok-b.was in search parts
 
 pub in_parallel-returns-in_err-n : goal.in_parallel-returns-in_err-n
 in_parallel-returns-in_err-n t c = let z = c.in_err-n.was in handed_on _ _ _ c.from_residual.ensures (search parts)
 
-pub in_parallel-sides-requires : goal.in_parallel-sides-requires
-in_parallel-sides-requires t c = (omega (arith, last_len), (search rules, omega (arith, last_len)))
+pub in_parallel-two_terms-requires : goal.in_parallel-two_terms-requires
+in_parallel-two_terms-requires t c = (omega (arith, last_len), (search rules, omega (arith, last_len)))
 
 pub in_parallel-returns : goal.in_parallel-returns
 in_parallel-returns t c = let x = c.in_ok-n.was in search parts

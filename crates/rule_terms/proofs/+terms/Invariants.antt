@@ -14,26 +14,14 @@ decreases-copies l = 6 * length l.t.now + 3
 abbrev pub decreases-guarded : goal.decreases-guarded
 decreases-guarded l = 6 * length l.t.now + 3
 
-abbrev pub decreases-in_choice : goal.decreases-in_choice
-decreases-in_choice l = 6 * length l.t.now + 3
-
 abbrev pub decreases-in_parallel : goal.decreases-in_parallel
 decreases-in_parallel l = 6 * length l.t.now + 4
-
-abbrev pub decreases-in_sequence : goal.decreases-in_sequence
-decreases-in_sequence l = 6 * length l.t.now + 3
-
-abbrev pub decreases-many : goal.decreases-many
-decreases-many l = 6 * length l.t.now + 5
 
 abbrev pub decreases-operand : goal.decreases-operand
 decreases-operand l = 6 * length l.t.now + 2
 
-abbrev pub decreases-over : goal.decreases-over
-decreases-over l = 6 * length l.t.now + 5
-
 abbrev pub decreases-quantified : goal.decreases-quantified
 decreases-quantified l = 6 * length l.t.now + 4
 
-abbrev pub decreases-sides : goal.decreases-sides
-decreases-sides l = 6 * length l.t.now + 3
+abbrev pub decreases-two_terms : goal.decreases-two_terms
+decreases-two_terms l = 6 * length l.t.now + 3

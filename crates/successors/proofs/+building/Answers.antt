@@ -51,11 +51,11 @@ begin_right-returns t c = parallel_both c.args.s.now c.args.path.now _ _ c.requi
 pub begin_round-returns : goal.begin_round-returns
 begin_round-returns t c = round c.args.s.now c.args.path.now c.behind-t.result.now c.behind.result.now _ c.behind-t.ensures c.behind.ensures c.requires.1 _ _ _ _ _ _ _ _ _ _ _ c.requires.2 c.put_one-h.ensures c.begin_behind-x.ensures c.last.ensures c.skip_row-e.ensures c.close-z.ensures c.put_behind.ensures (search rules)
 
-pub begin_sequence-returns-then-first-eq30 : goal.begin_sequence-returns-then-first-eq30
-begin_sequence-returns-then-first-eq30 t c = sequence_done c.args.s.now c.args.path.now c.behind-t.result.now c.behind-t.ensures _ _ _ _ c.requires.1 (sym c.first.ensures.0 ∙ c.if-first-eq30.true) c.behind.ensures c.begin.ensures
+pub begin_sequence-returns-then-first-eq-DONE : goal.begin_sequence-returns-then-first-eq-DONE
+begin_sequence-returns-then-first-eq-DONE t c = sequence_done c.args.s.now c.args.path.now c.behind-t.result.now c.behind-t.ensures _ _ _ _ c.requires.1 (sym c.first.ensures.0 ∙ c.if-first-eq-DONE.true) c.behind.ensures c.begin.ensures
 
 pub begin_sequence-returns : goal.begin_sequence-returns
-begin_sequence-returns t c = sequence_goes c.args.s.now c.args.path.now c.behind-t.result.now c.behind-t.ensures _ _ _ _ c.requires.1 (λ z. c.if-first-eq30.false (c.first.ensures.0 ∙ z)) c.begin_after.ensures c.with_right.ensures
+begin_sequence-returns t c = sequence_goes c.args.s.now c.args.path.now c.behind-t.result.now c.behind-t.ensures _ _ _ _ c.requires.1 (λ z. c.if-first-eq-DONE.false (c.first.ensures.0 ∙ z)) c.begin_after.ensures c.with_right.ensures
 
 pub begin_star-returns-then-first-eq0 : goal.begin_star-returns-then-first-eq0
 begin_star-returns-then-first-eq0 t c = star_ends c.args.s.now c.args.path.now c.behind.result.now c.behind-then-first-eq0.result.now _ c.behind.ensures c.behind-then-first-eq0.ensures c.requires.1 _ _ _ (sym c.first.ensures.0 ∙ c.if-first-eq0.true) c.skip.ensures c.put_one.ensures

@@ -3,4 +3,4 @@ use Rattle.successors.proofs.Begun.{built}
 use Rattle.successors.proofs.build.Goals as goal
 
 pub returns : goal.returns
-returns c = built _ _ _ _ _ _ _ _ c.unchanged-d.ensures c.begin_after-x.ensures c.close.ensures
+returns c = built _ _ _ _ _ _ _ _ _ c.unchanged-stay.ensures c.begin_after-x.ensures c.close.ensures

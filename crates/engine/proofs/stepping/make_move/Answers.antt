@@ -4,4 +4,4 @@ use Rattle.engine.specs.StepLaws.{move_stepped}
 use Rattle.engine.proofs.stepping.make_move.Goals as goal
 
 pub returns : goal.returns
-returns c = subst (λ w. Done w c.step_by.result c.step_by.new.next_term c.step_by.new.next_memory) (sym (move_stepped c.args.rules.now c.args.term.now c.args.memory.now c.args.next_term.now c.args.next_memory.now c.args.k _)) c.step_by.ensures
+returns c = subst (λ w. Done w c.step_by.result c.step_by.new.next_term c.step_by.new.next_memory) (sym (move_stepped c.args.rules.now c.args.term.now c.args.memory.now c.args.next_term.now c.args.next_memory.now c.args.k)) c.step_by.ensures

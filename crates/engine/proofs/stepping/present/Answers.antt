@@ -4,4 +4,4 @@ use Rattle.engine.specs.StepLaws.{present_stepped}
 use Rattle.engine.proofs.stepping.present.Goals as goal
 
 pub returns : goal.returns
-returns c = subst (λ w. Done w c.step_by.result c.step_by.new.next_term c.step_by.new.next_memory) (sym (present_stepped c.args.rules.now c.args.term.now c.args.memory.now c.args.next_term.now c.args.next_memory.now 0 c.args.event.now)) c.step_by.ensures
+returns c = subst (λ w. Done w c.step_by.result c.step_by.new.next_term c.step_by.new.next_memory) (sym (present_stepped c.args.rules.now c.args.term.now c.args.memory.now c.args.next_term.now c.args.next_memory.now c.args.event)) c.step_by.ensures

@@ -1,6 +1,4 @@
 use Rattle.engine.proofs.StepCases.{step_made, step_refused}
-use mathlib.Core.Path.{ap, ◌∙◌}
-use Prim.Native.Nat.{◌+◌}
 use Rattle.engine.proofs.stepping.step_from.Goals as goal
 
 pub returns-in-Some : goal.returns-in-Some

@@ -68,14 +68,14 @@ begin_right-returns-then-first-eq2 t c = parallel_right c.args.s.now c.args.path
 pub begin_right-returns : goal.begin_right-returns
 begin_right-returns t c = parallel_both c.args.s.now c.args.path.now _ _ c.requires.1 _ (part 5 c.args.s.now) _ c.size_word-n.ensures.0 c.requires.3 c.requires.4 _ _ _ c.behind_size-2.ensures (λ z. c.if-first-eq2.false (c.first.ensures.0 ∙ z)) c.requires.6 c.begin_both.ensures
 
-pub begin_sequence-returns-then-first-eq30 : goal.begin_sequence-returns-then-first-eq30
-begin_sequence-returns-then-first-eq30 t c = sequence_done c.args.s.now c.args.path.now c.behind-t.result.now c.behind-t.ensures _ _ _ _ _ c.requires.1 (sym c.first.ensures.0 ∙ c.if-first-eq30.true) c.behind.ensures c.begin.ensures
+pub begin_sequence-returns-then-first-eq-DONE : goal.begin_sequence-returns-then-first-eq-DONE
+begin_sequence-returns-then-first-eq-DONE t c = sequence_done c.args.s.now c.args.path.now c.behind-t.result.now c.behind-t.ensures _ _ _ _ _ c.requires.1 (sym c.first.ensures.0 ∙ c.if-first-eq-DONE.true) c.behind.ensures c.begin.ensures
 
 pub begin_sequence-returns-then-out-at : goal.begin_sequence-returns-then-out-at
-begin_sequence-returns-then-out-at t c = sequence_full c.args.s.now c.args.path.now c.behind-t.result.now c.behind-t.ensures _ _ c.requires.1 (λ z. c.if-first-eq30.false (c.first.ensures.0 ∙ z)) c.if-out-at.true
+begin_sequence-returns-then-out-at t c = sequence_full c.args.s.now c.args.path.now c.behind-t.result.now c.behind-t.ensures _ _ c.requires.1 (λ z. c.if-first-eq-DONE.false (c.first.ensures.0 ∙ z)) c.if-out-at.true
 
 pub begin_sequence-returns : goal.begin_sequence-returns
-begin_sequence-returns t c = sequence_goes c.args.s.now c.args.path.now c.behind-t.result.now c.behind-t.ensures _ _ c.requires.1 (λ z. c.if-first-eq30.false (c.first.ensures.0 ∙ z)) _ _ _ c.if-out-at.false c.skip.ensures c.begin-2.ensures
+begin_sequence-returns t c = sequence_goes c.args.s.now c.args.path.now c.behind-t.result.now c.behind-t.ensures _ _ c.requires.1 (λ z. c.if-first-eq-DONE.false (c.first.ensures.0 ∙ z)) _ _ _ c.if-out-at.false c.skip.ensures c.begin-2.ensures
 
 pub begin_star-returns-then-first-eq0 : goal.begin_star-returns-then-first-eq0
 begin_star-returns-then-first-eq0 t c = star_ends c.args.s.now c.args.path.now _ refl _ _ _ c.behind.ensures c.requires.1 _ _ (sym c.first.ensures.0 ∙ c.if-first-eq0.true) c.put_done.ensures

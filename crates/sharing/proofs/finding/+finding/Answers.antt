@@ -9,13 +9,13 @@ use native.Mathlib.Omega.{arith}
 use Prim.Native.Nat.{ℕ}
 use lib.ListN.{length, drop}
 use Rattle.sharing.proofs.finding.+finding.Goals as goal
-use Rattle.sharing.proofs.finding.+finding.Goals.{find_beside-Joined-else-first-eq30, find_beside-else-first-eq30-via-then-first-eq30+else-first-eq30-2, find_beside-else-first-eq30-via-else-first-eq30}
+use Rattle.sharing.proofs.finding.+finding.Goals.{find_beside-Joined-else-first-eq-DONE, find_beside-else-first-eq-DONE-via-then-first-eq-DONE+else-first-eq-DONE-2, find_beside-else-first-eq-DONE-via-else-first-eq-DONE}
 
 -- Not both operands are done.
-apart : (t : ℕ) (c : find_beside-Joined-else-first-eq30 t) → Apart c.args.t.now
-apart t c = elim c.else-first-eq30.branch [
-  | find_beside-else-first-eq30-via-then-first-eq30+else-first-eq30-2 w ↦ apart_second c.args.t.now _ _ w.behind.ensures w.first-then-first-eq30.ensures.0 w.if-first-eq30-2.false
-  | find_beside-else-first-eq30-via-else-first-eq30 w ↦ apart_first c.args.t.now _ c.first.ensures.0 w.if-first-eq30.false
+apart : (t : ℕ) (c : find_beside-Joined-else-first-eq-DONE t) → Apart c.args.t.now
+apart t c = elim c.else-first-eq-DONE.branch [
+  | find_beside-else-first-eq-DONE-via-then-first-eq-DONE+else-first-eq-DONE-2 w ↦ apart_second c.args.t.now _ _ w.behind.ensures w.first-then-first-eq-DONE.ensures.0 w.if-first-eq-DONE-2.false
+  | find_beside-else-first-eq-DONE-via-else-first-eq-DONE w ↦ apart_first c.args.t.now _ c.first.ensures.0 w.if-first-eq-DONE.false
 ]
 
 pub find-returns-in-30 : goal.find-returns-in-30
@@ -25,25 +25,25 @@ pub find-returns-in_default : goal.find-returns-in_default
 find-returns-in_default t c = part_found _ _ _ _ _ _ _ _ _ _ _ _ c.first-w.ensures.0 c.behind-t.ensures (search rules) (search rules) (search rules) refl refl c.find_part.ensures
 
 pub find_beside-returns-then-k-eq0 : goal.find_beside-returns-then-k-eq0
-find_beside-returns-then-k-eq0 t c = beside_joined _ _ _ _ _ _ _ c.behind.ensures (sym c.first.ensures.0 ∙ c.if-first-eq30.true) (sym c.first-then-first-eq30.ensures.0 ∙ c.if-first-eq30-2.true) _ c.if-k-eq0.true c.requires.1 refl
+find_beside-returns-then-k-eq0 t c = beside_joined _ _ _ _ _ _ _ c.behind.ensures (sym c.first.ensures.0 ∙ c.if-first-eq-DONE.true) (sym c.first-then-first-eq-DONE.ensures.0 ∙ c.if-first-eq-DONE-2.true) _ c.if-k-eq0.true c.requires.1 refl
 
-pub find_beside-returns-then-first-eq30-2 : goal.find_beside-returns-then-first-eq30-2
-find_beside-returns-then-first-eq30-2 t c = beside_past _ _ _ _ _ _ _ c.behind.ensures (sym c.first.ensures.0 ∙ c.if-first-eq30.true) (sym c.first-then-first-eq30.ensures.0 ∙ c.if-first-eq30-2.true) _ _ c.if-k-eq0.false c.requires.1 c.requires.2 (ap length (c.behind-then-first-eq30-2-2.ensures ∙ ap (drop 1) (c.behind-then-first-eq30-2.ensures ∙ sym c.behind.ensures))) c.passing.ensures.0
+pub find_beside-returns-then-first-eq-DONE-2 : goal.find_beside-returns-then-first-eq-DONE-2
+find_beside-returns-then-first-eq-DONE-2 t c = beside_past _ _ _ _ _ _ _ c.behind.ensures (sym c.first.ensures.0 ∙ c.if-first-eq-DONE.true) (sym c.first-then-first-eq-DONE.ensures.0 ∙ c.if-first-eq-DONE-2.true) _ _ c.if-k-eq0.false c.requires.1 c.requires.2 (ap length (c.behind-then-first-eq-DONE-2-2.ensures ∙ ap (drop 1) (c.behind-then-first-eq-DONE-2.ensures ∙ sym c.behind.ensures))) c.passing.ensures.0
 
 pub find_beside-returns-then-l-lt-PASSED : goal.find_beside-returns-then-l-lt-PASSED
-find_beside-returns-then-l-lt-PASSED t c = beside_left _ _ _ _ _ _ _ _ (apart t ((goal.at.find_beside-returns-then-l-lt-PASSED t c).Joined-else-first-eq30)) c.requires.1 c.requires.2 c.find-l.ensures c.if-l-lt-PASSED.true
+find_beside-returns-then-l-lt-PASSED t c = beside_left _ _ _ _ _ _ _ _ (apart t ((goal.at.find_beside-returns-then-l-lt-PASSED t c).Joined-else-first-eq-DONE)) c.requires.1 c.requires.2 c.find-l.ensures c.if-l-lt-PASSED.true
 
 pub find_beside-returns-then-l-ge-FULL : goal.find_beside-returns-then-l-ge-FULL
-find_beside-returns-then-l-ge-FULL t c = beside_lost _ _ _ _ _ _ _ _ (apart t ((goal.at.find_beside-returns-then-l-ge-FULL t c).Joined-else-first-eq30)) c.requires.1 c.requires.2 c.find-l.ensures c.if-l-ge-FULL.true
+find_beside-returns-then-l-ge-FULL t c = beside_lost _ _ _ _ _ _ _ _ (apart t ((goal.at.find_beside-returns-then-l-ge-FULL t c).Joined-else-first-eq-DONE)) c.requires.1 c.requires.2 c.find-l.ensures c.if-l-ge-FULL.true
 
 pub find_beside-find-requires : goal.find_beside-find-requires
-find_beside-find-requires t c = (omega (arith, last_len _ _ _ c.last.ensures), (omega arith, omega (arith, last_len _ _ _ c.last.ensures), omega (arith, rest_count _ _ _ _ _ _ _ _ (apart t ((goal.at.find_beside-find-requires t c).Joined-else-first-eq30)) c.requires.1 c.requires.2 c.find-l.ensures c.if-l-lt-PASSED.false c.if-l-ge-FULL.false), omega (arith, c.find-l.auto.path), omega (arith, c.find-l.auto.acts)))
+find_beside-find-requires t c = (omega (arith, last_len _ _ _ c.last.ensures), (omega arith, omega (arith, last_len _ _ _ c.last.ensures), omega (arith, rest_count _ _ _ _ _ _ _ _ (apart t ((goal.at.find_beside-find-requires t c).Joined-else-first-eq-DONE)) c.requires.1 c.requires.2 c.find-l.ensures c.if-l-lt-PASSED.false c.if-l-ge-FULL.false), omega (arith, c.find-l.auto.path), omega (arith, c.find-l.auto.acts)))
 
 pub find_beside-returns : goal.find_beside-returns
-find_beside-returns t c = beside_right _ _ _ _ _ _ _ _ (apart t ((goal.at.find_beside-returns t c).Joined-else-first-eq30)) c.requires.1 c.requires.2 c.find-l.ensures c.if-l-lt-PASSED.false c.if-l-ge-FULL.false _ _ _ _ c.last.ensures c.find-l.auto.acts c.find.ensures
+find_beside-returns t c = beside_right _ _ _ _ _ _ _ _ (apart t ((goal.at.find_beside-returns t c).Joined-else-first-eq-DONE)) c.requires.1 c.requires.2 c.find-l.ensures c.if-l-lt-PASSED.false c.if-l-ge-FULL.false _ _ _ _ c.last.ensures c.find-l.auto.acts c.find.ensures
 
-pub find_then-returns-then-first-eq30 : goal.find_then-returns-then-first-eq30
-find_then-returns-then-first-eq30 t c = then_resumed _ _ _ c.behind-q.ensures _ _ _ _ _ _ _ _ _ (sym c.first.ensures.0 ∙ c.if-first-eq30.true) c.first-then-first-eq30.ensures.0 refl (ap length c.behind.ensures) c.find_part.ensures
+pub find_then-returns-then-first-eq-DONE : goal.find_then-returns-then-first-eq-DONE
+find_then-returns-then-first-eq-DONE t c = then_resumed _ _ _ c.behind-q.ensures _ _ _ _ _ _ _ _ _ (sym c.first.ensures.0 ∙ c.if-first-eq-DONE.true) c.first-then-first-eq-DONE.ensures.0 refl (ap length c.behind.ensures) c.find_part.ensures
 
 pub find_then-returns : goal.find_then-returns
-find_then-returns t c = then_found _ _ _ c.behind-q.ensures _ _ _ _ _ _ (λ z. c.if-first-eq30.false (c.first.ensures.0 ∙ z)) c.find.ensures
+find_then-returns t c = then_found _ _ _ c.behind-q.ensures _ _ _ _ _ _ (λ z. c.if-first-eq-DONE.false (c.first.ensures.0 ∙ z)) c.find.ensures

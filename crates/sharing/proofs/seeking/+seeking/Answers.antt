@@ -34,11 +34,11 @@ seek_parallel-returns-then-both_done t c = parallel_done _ _ _ _ _ _ _ c.behind_
 pub seek_parallel-returns : goal.seek_parallel-returns
 seek_parallel-returns t c = parallel_beside _ _ _ _ _ _ _ c.behind_mask-t.ensures _ c.both_done.ensures _ _ c.if-both_done.false c.seek_two.ensures (omega arith)
 
-pub seek_sequence-returns-then-first-eq30 : goal.seek_sequence-returns-then-first-eq30
-seek_sequence-returns-then-first-eq30 t c = sequence_right _ _ _ _ _ _ _ _ (sym c.first.ensures.0 ∙ c.if-first-eq30.true) c.behind.ensures c.seek.ensures
+pub seek_sequence-returns-then-first-eq-DONE : goal.seek_sequence-returns-then-first-eq-DONE
+seek_sequence-returns-then-first-eq-DONE t c = sequence_right _ _ _ _ _ _ _ _ (sym c.first.ensures.0 ∙ c.if-first-eq-DONE.true) c.behind.ensures c.seek.ensures
 
 pub seek_sequence-returns : goal.seek_sequence-returns
-seek_sequence-returns t c = sequence_left _ _ _ _ _ _ _ (λ e. c.if-first-eq30.false (c.first.ensures.0 ∙ e)) c.seek-2.ensures
+seek_sequence-returns t c = sequence_left _ _ _ _ _ _ _ (λ e. c.if-first-eq-DONE.false (c.first.ensures.0 ∙ e)) c.seek-2.ensures
 
 pub seek_star-returns-then-k-eq0 : goal.seek_star-returns-then-k-eq0
 seek_star-returns-then-k-eq0 t c = star_end _ _ _ _ _ _ _ c.requires.2 c.if-k-eq0.true c.decide.ensures

@@ -1,0 +1,2 @@
+-- The codes by their names.
+-- Document 01, "Codes stand before their operands".
