@@ -1,4 +1,4 @@
--- The term and the memory of a position between two moves: the bytes of so many words at the start of each buffer.
+-- The term and the memory of a position between two moves: the bytes of its first words and of its first cells (document 01, "Examples").
 use Rattle.std.specs.Prelude.{List, ℕ, ◌*◌, take}
 use Rattle.session.specs.declared.positions.Position.{Position}
 

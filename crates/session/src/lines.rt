@@ -37,7 +37,7 @@ impl Page {
 
 impl Write for Page {
     // As many bytes wait as the page has room for. A full page is written first; where it cannot be, it is lost, and printing goes on: the
-    // end of the line tells whether the output takes anything.
+    // end of the line returns whether the output takes anything.
     fn write(&mut self, text: &[u8]) -> io::Result<usize> {
         if self.used == 4096 {
             let _lost = self.flush();
@@ -58,7 +58,7 @@ impl Write for Page {
     }
 }
 
-// What is printed of a refusal: its number behind its word.
+// What is printed of a refusal: its word and its number.
 #[derive(Clone, Copy)]
 pub struct Refused(pub Refusal);
 

@@ -58,7 +58,7 @@ fn play(
     Ok(())
 }
 
-// The session of an admitted rule set with so many cells.
+// The session of an admitted rule set with this number of cells.
 fn begin(input: &mut Stdin, page: &mut Page, rules: &[u8], cells: u32) -> io::Result<()> {
     let mut here = Position::new(cells);
     let mut next = Position::new(cells);

@@ -1,4 +1,4 @@
-// A term and a memory between two moves of a session, in buffers for the largest sizes that are reported.
+// A term and a memory between two moves of a session, in buffers for the largest sizes that are reported (document 01, "Examples").
 ghost use Rattle.std.specs.Prelude.{◌≡◌, ◌*◌, take, Ok, Err, IfOk, IfErr, OnOk};
 ghost use Rattle.engine.specs.Starting.{StartDone};
 ghost use Rattle.session.specs.Positions.{term_of, memory_of};
@@ -8,7 +8,7 @@ use engine::starting::start;
 use engine::stepping::{Step, make_move};
 use refusals::Refusal;
 
-// The words of the term and the cells of the memory stand at the start of the buffers.
+// The words of the term and the cells of the memory are at the start of the buffers.
 // Stays: two Vecs would keep their lengths, but this program has no heap.
 #[derive(Drop)]
 pub struct Position {
@@ -18,7 +18,7 @@ pub struct Position {
     cells: u32,
 }
 
-// A buffer cut to so many words, or all of it.
+// The first words of a buffer, of this number, or all of it where it has fewer.
 fn cut(buffer: &[u8], words: u32) -> &[u8]
     ensures { result.now ≡ take (2 * words) buffer.now }
 {
@@ -27,7 +27,7 @@ fn cut(buffer: &[u8], words: u32) -> &[u8]
 }
 
 impl Position {
-    // No term yet, and a memory of so many cells.
+    // No term yet, and a memory of this number of cells.
     pub fn new(cells: u32) -> Position
         ensures { result.cells ≡ cells }
     {
@@ -66,7 +66,7 @@ impl Position {
         count(rules, self.term(), self.memory())
     }
 
-    // The move of number k leads from here into the next position. Where it is refused, what stands there is of no use.
+    // The move of number k leads from here into the next position. Where it is refused, the next position is of no use.
     pub fn step(&self, rules: &[u8], k: usize, next: &mut Position) -> Result<Step, Refusal>
         ensures words { IfOk result (λ step. next.new.words ≡ step.size) }
         ensures kept { next.new.cells ≡ next.old.cells }

@@ -6,7 +6,7 @@ use engine::stepping::Step;
 use std::fmt::{self, Display, Formatter};
 use std::io::{self, Write};
 
-// The cells of a memory, each behind a space.
+// The cells of a memory, each after a space.
 #[derive(Clone, Copy, Drop)]
 struct Cells<'a>(&'a [u8]);
 
@@ -23,7 +23,7 @@ impl Display for Cells<'_> {
     }
 }
 
-// The action of a move: behind a space `i` for the internal action; else the label and the arguments, each behind a space.
+// The action of a move: after a space, `i` for the internal action; else the label and the arguments, each after a space.
 #[derive(Clone, Copy)]
 struct Action(Step);
 
@@ -48,7 +48,7 @@ impl Display for Action {
     }
 }
 
-// Prints the state at a position, after so many moves. The other position takes the successors that Move writes on the way. That the
+// Prints the state at a position, after the moves taken. The other position takes the successors that Move writes on the way. That the
 // position, or a move below the count, is refused does not occur.
 pub fn print_state(
     page: &mut Page,
