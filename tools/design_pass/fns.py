@@ -3,26 +3,9 @@
 place (file:line), name, generics, parameters, result type, contract (clauses joined by ' ;; '), body, attributes (pub, #[cycle], extern).
 fns.py DIR -w EXPR: place and name of those for which the Python expression EXPR holds, over place, name, gen, params, ret, con, body, attrs."""
 import glob, re, sys, os
+sys.path.insert(0, os.path.dirname(os.path.abspath(__file__)))
+from parts import close
 root = sys.argv[1] if len(sys.argv) > 1 else '.'
-
-def close(s, i):
-    """Index behind the bracket that closes the one at s[i]; strings and chars are left alone."""
-    pairs = {'(': ')', '[': ']', '{': '}'}
-    stack = []
-    while i < len(s):
-        c = s[i]
-        if c == '"':
-            i += 1
-            while s[i] != '"':
-                i += 2 if s[i] == '\\' else 1
-        elif c in pairs:
-            stack.append(pairs[c])
-        elif stack and c == stack[-1]:
-            stack.pop()
-            if not stack:
-                return i + 1
-        i += 1
-    return i
 
 def flat(s):
     return re.sub(r'\s+', ' ', s).strip()

@@ -18,6 +18,7 @@ def uncomment(s):
     return ''.join(out)
 
 def close(s, i):
+    """Index after the bracket that closes the one at s[i]; strings are left alone."""
     pairs = {'(': ')', '[': ']', '{': '}'}
     stack = []
     while i < len(s):
