@@ -7,27 +7,30 @@ ghost use Rattle.actions.specs.Codes.{arguments_code, action_code, Small, Action
 ghost use Rattle.actions.specs.Sets.{in_set, mask_word, mask_set};
 ghost use Rattle.std.specs.Int.Bits.{bit_or};
 
+use code_numbers::CONSTANT;
+
 // The word at a place, or 0 where there is none.
+// Stays: std's chain is the generic function; this names it, so that four uses are short and its contract says get_or once.
 fn word(t: &[u16], i: usize) -> u16
     ensures { result ≡ get_or t.now i 0 }
 {
     t.get(i).copied().unwrap_or(0)
 }
 
-// How many arguments stand behind a label: none, one or two. Each is a 1 and then its word.
+// How many arguments follow a label: none, one or two. Each is the code of a constant and then its word.
 fn arguments(t: &[u16]) -> usize
     ensures { (result ≤ 2) × ((a : VisibleAction) (rest : List ℕ) → ActionAt t.now a rest → result ≡ length a.arguments) }
 {
-    if t.len() < 3 || t[1] != 1 {
+    if t.len() < 3 || t[1] != CONSTANT as u16 {
         0
-    } else if t.len() < 5 || t[3] != 1 {
+    } else if t.len() < 5 || t[3] != CONSTANT as u16 {
         1
     } else {
         2
     }
 }
 
-// The words left behind the label and the arguments.
+// How many words are left after the label and the arguments.
 // Stays a test: with saturating_sub each level of successors::begin, where this is inlined, took 16 bytes more stack.
 pub fn behind_action(t: &[u16]) -> usize
     ensures { (result ≤ length t.now) × ((a : VisibleAction) (rest : List ℕ) → ActionAt t.now a rest → result ≡ length rest) }
@@ -62,7 +65,7 @@ fn mask_word(d: &[u16], i: usize) -> u64
     u64::from(word(d, i))
 }
 
-// The mask in front as a set.
+// The mask at the front as a set.
 pub fn mask_set(d: &[u16]) -> u64
     ensures { result ≡ mask_set d.now }
 {
@@ -113,6 +116,7 @@ pub fn argument_count(code: u32) -> u32
 }
 
 // The argument at a place, or 0 where there is none. An argument counts one more than it is; 0 says that there is none.
+// Stays: the places 0 and 1 are those of arguments, no codes.
 pub fn argument_at(code: u32, i: u32) -> u32
     ensures { (a : VisibleAction) → Small (visible a) → code ≡ action_code (visible a) → result ≡ get_or a.arguments i 0 }
 {

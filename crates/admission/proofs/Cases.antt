@@ -63,7 +63,7 @@ module _ (x : Bool) (s : List ℕ) (i : ℕ) (e : x ≡ all_zero (drop i s)) whe
   unfolding all_zero
   zeros_end h = sym (e ∙ ap all_zero (drop_of_length-le s h))
 
--- ── the words behind the first two ──
+-- ── the words after the first two ──
 
 module _ (t : List ℕ) (p : Result Rules Refusal) (e : p ≡ rules_weighed (read_rules edition_1 t)) where
   pub words_refused : (k : Refusal) → p ≡ Err k → Err k ≡ read_whole t

@@ -1,15 +1,17 @@
 -- What the engine's answer to Admit says of the admission itself: the refusal, or the rule set, its sizes and how its stream was read.
 -- Document 01, "Operations".
-use Rattle.std.specs.Prelude.{◌≡◌, refl, List, ℕ, leb, drop, Ok, Err}
+use Rattle.std.specs.Prelude.{◌≡◌, refl, List, ℕ, T, leb, drop, Ok, Err}
 use Rattle.std.proofs.Math.Path.{ap}
 use Rattle.std.proofs.Common.{sym, ◌∙◌, arith}
 use Rattle.eb3.specs.Refusal
+use Rattle.eb3.specs.Generic.Lists.{one_of, all_of, one_of_more}
 use Rattle.eb3.specs.Editions.{edition_1}
 use Rattle.eb3.specs.RuleSets.{RuleSet}
 use Rattle.eb3.specs.Reading.{Read, taken}
 use Rattle.eb3.specs.RuleReading.{read_rules}
 use Rattle.eb3.specs.Blocks.{stream, Opened, open_blocks}
 use Rattle.eb3.proofs.Laws.Admission.{opened_is_1}
+use Rattle.eb3.proofs.Laws.Refusals.{admission_within, refused_within}
 use Rattle.eb3.specs.Admission.{ends_right, ended, within_limits, admission}
 use Rattle.eb3.specs.Sizes.{reach, breadth}
 use Rattle.eb3.specs.Unfolding.{unfold_main}
@@ -19,7 +21,7 @@ use Rattle.eb3.proofs.Laws.Answers.{and_then_answered, answered_injective, pick_
 use Rattle.weights.specs.declared.Limits.{Limits}
 use Rattle.admission.specs.Answering.{limits, admitted}
 use Rattle.refusals.specs.declared.Refusal.{Refusal}
-use Rattle.refusals.specs.Numbers.{RefusedBy}
+use Rattle.refusals.specs.Numbers.{number, RefusedBy, refused_by}
 
 refused_from : (a : Answer RuleSet) (k : Refusal) → Err k ≡ admitted (and_then a λ R. answered (sizes_needed R)) → RefusedBy k a
 unfolding admitted and_then
@@ -32,9 +34,14 @@ answered_from (refused j) l e = absurd (let z : ◌≡◌ {A = ℕ} 0 1 = cc in 
 answered_from (answered R) l e = (R, refl, cc)
 
 module _ (rules : List ℕ) where
-  pub admission_refused : (k : Refusal) → Err k ≡ admitted (admit rules) → RefusedBy k (admission rules)
+  -- An admission refuses by a number from 1 to 8.
+  within : (j : ℕ) → admission rules ≡ refused j → T (one_of Refusal.of_present j)
+  unfolding one_of all_of
+  within j e = one_of_more Refusal.of_present Refusal.of_admission tt j (refused_within Refusal.of_admission (admission rules) (admission_within rules) j e)
+
+  pub admission_refused : (k : Refusal) → Err k ≡ admitted (admit rules) → admission rules ≡ refused (number k)
   unfolding admit
-  admission_refused k e = refused_from (admission rules) k e
+  admission_refused k e = refused_by k (admission rules) within (refused_from (admission rules) k e)
 
   pub admission_answered : (l : Limits) → Ok l ≡ admitted (admit rules) → (R : RuleSet) × (admission rules ≡ answered R) × (l ≡ limits (sizes_needed R))
   unfolding admit

@@ -1,5 +1,5 @@
--- What admitting a file leaves for the steps behind it: the stream's words, the tables that declare the rule set, and the directory of where its functions
--- and processes stand, so that nothing is read twice in a call.
+-- What admitting a file leaves for the steps after it: the stream's words, the tables that declare the rule set, and the directory of where its functions
+-- and processes are, so that nothing is read twice in a call.
 -- Document 01, "Operations".
 use Rattle.std.specs.Prelude.{◌≡◌, List, ◌++◌, ℕ, ◌*◌, ◌≤◌, length, drop, Result}
 use Rattle.eb3.specs.Editions.{edition_1}
@@ -16,7 +16,7 @@ use Rattle.weights.specs.declared.Limits.{Limits}
 abbrev pub Described : List ℕ → ℕ → List ℕ → List ℕ → Type 0
 Described t n T D = (R : RuleSet) (u : List ℕ) → read_rules edition_1 t ≡ taken R u → row_width (length R.labels) * length R.functions ≤ n → Directory t T D R
 
--- Of the stream's words behind its first two.
+-- Of the stream's words after its first two.
 pub record WordsAdmitted (t D : List ℕ) (r : Result Limits Refusal) (T' D' : List ℕ) : Type 0 where
   pub answer : r ≡ read_whole t
   pub described : Described t (length D) T' D'

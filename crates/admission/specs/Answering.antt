@@ -16,6 +16,6 @@ unfoldable pub admitted : Answer Sizes → Result Limits Refusal
 admitted (refused k) = Err (refusal k)
 admitted (answered S) = Ok (limits S)
 
--- The stream behind its first two words: read, ended, judged.
+-- The stream after its first two words: read, ended, judged.
 abbrev pub read_whole : List ℕ → Result Limits Refusal
 read_whole t = admitted (whole_of (read_rules edition_1 t))

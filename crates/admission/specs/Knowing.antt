@@ -1,29 +1,24 @@
--- What is known where a file was admitted with a directory: the rule set, its form, its sizes, and where its parts stand (document 01, "Operations": no call
+-- What is known where a file was admitted with a directory: the rule set, its form, its sizes, and where its parts are (document 01, "Operations": no call
 -- trusts an earlier one, so each operation begins so).
 use Rattle.std.specs.Prelude.{◌≡◌, List, ℕ, ◌+◌, ◌*◌, ◌≤◌, length, drop, Ok, Err, Result}
-use Rattle.std.proofs.Math.Path.{ap, sym}
+use Rattle.std.proofs.Math.Path.{sym}
 use Rattle.std.proofs.Common.{◌∙◌, arith, mul-le-mul}
 use Rattle.eb3.specs.RuleSets.{RuleSet}
-use Rattle.eb3.specs.RuleReading.{read_rules}
-use Rattle.eb3.specs.Blocks.{stream, open_blocks}
+use Rattle.eb3.specs.Blocks.{stream}
 use Rattle.eb3.specs.Admission.{admission}
 use Rattle.eb3.specs.WellFormedness.{WellFormed}
-use Rattle.eb3.specs.Answers.{refused, answered, and_then}
+use Rattle.eb3.specs.Answers.{refused, answered}
 use Rattle.eb3.specs.Operations.{admit, sizes_needed}
-use Rattle.eb3.proofs.Laws.Judging.{admit_by_parts}
-use Rattle.eb3.specs.Judging.{whole_of}
-use Rattle.eb3.proofs.Laws.Admission.{admitted as admitted_form, opened_1}
+use Rattle.eb3.proofs.Laws.Admission.{admitted as admitted_form}
 use Rattle.weights.specs.declared.Limits.{Limits}
 use Rattle.declarations.specs.Directory.{Directory}
+pub use Rattle.blocks.specs.Files.{Opens}
 use Rattle.admission.specs.Answering.{limits, admitted}
 use Rattle.admission.specs.Admitting.{FileAdmitted}
 use Rattle.admission.specs.AdmissionLaws.{admission_refused, admission_answered, admission_taken}
+use Rattle.admission.specs.OpeningLaws.{admit_read}
 use Rattle.refusals.specs.declared.Refusal.{Refusal}
-use Rattle.refusals.specs.Numbers.{RefusedBy}
-
--- The file's blocks were opened.
-abbrev pub Opens : List ℕ → Type 0
-Opens rules = open_blocks rules ≡ answered (opened_1 rules)
+use Rattle.refusals.specs.Numbers.{number}
 
 pub record Known (rules T D : List ℕ) (l : Limits) : Type 0 where
   pub rule_set : RuleSet
@@ -38,10 +33,9 @@ rows_few a b h k = let p : 3 + a ≤ 67 = omega arith in omega (arith, mul-le-mu
 
 module _ (rules words D : List ℕ) (n : ℕ) (r : Result Limits Refusal) (words' T D' : List ℕ) (o : Opens rules) (f : FileAdmitted rules words D n r words' T D') where
   answer_is : r ≡ admitted (admit rules)
-  unfolding and_then
-  answer_is = f.answer ∙ sym (ap admitted (admit_by_parts rules ∙ ap (λ a. and_then a (λ o. whole_of (read_rules o.edition o.words))) o))
+  answer_is = admit_read rules o r f.answer
 
-  pub known_refused : (k : Refusal) → r ≡ Err k → RefusedBy k (admission rules)
+  pub known_refused : (k : Refusal) → r ≡ Err k → admission rules ≡ refused (number k)
   known_refused k e = admission_refused rules k (sym e ∙ answer_is)
 
   pub known : (l : Limits) → r ≡ Ok l → length D ≡ 1072 → Known rules T D' l

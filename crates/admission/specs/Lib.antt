@@ -3,5 +3,5 @@
 pub mod Answering
 pub mod Admitting
 pub mod AdmissionLaws
-pub mod Knowing
 pub mod OpeningLaws
+pub mod Knowing

@@ -1,22 +1,26 @@
 -- A rule set whose blocks open: its stream as it is lent, and what opening it says of Admit (document 01, "Blocks and the
 -- rule stream"; refusals 1 to 3).
-use Rattle.std.specs.Prelude.{◌≡◌, refl, true, List, ◌++◌, ℕ, ◌-◌, ◌*◌, ◌/◌, ◌%◌, ◌≤◌, T, eqb, leb, length, take, drop, Ok, Err, Result}
+use Rattle.std.specs.Prelude.{◌≡◌, true, List, ◌++◌, ℕ, ◌-◌, ◌*◌, ◌%◌, ◌≤◌, T, length, take, drop, Err, Result}
 use Rattle.std.proofs.Math.Path.{ap, sym}
-use Rattle.std.proofs.Common.{◌∙◌, subst, arith, eqb→eq, leb→le, length-drop, take_at, eq-eqb, le-leb}
+use Rattle.std.proofs.Common.{◌∙◌, subst, arith, length-drop, take_at, eq-eqb, le-leb}
 use Rattle.std.proofs.lemmas.List.{drop-append-le}
-use Rattle.eb3.specs.Generic.Booleans.{T_fst, T_snd}
-use Rattle.eb3.specs.Blocks.{block_count, stream, whole_blocks, Opened as Blocks_as_Opened, open_blocks}
-use Rattle.eb3.proofs.Laws.Admission.{stream_length, opened as opened_as, opened_1, opened_is_1}
-use Rattle.eb3.specs.Answers.{Answer, refused, answered, and_then}
+use Rattle.eb3.specs.Refusal as Why
+use Rattle.eb3.specs.Generic.Lists.{one_of, all_of, one_of_more}
+use Rattle.eb3.specs.Blocks.{block_count, stream, whole_blocks, open_blocks}
+use Rattle.eb3.specs.Admission.{ended, within_limits, admission}
+use Rattle.eb3.proofs.Laws.Admission.{stream_length}
+use Rattle.eb3.proofs.Laws.Refusals.{admission_within, refused_within}
+use Rattle.eb3.specs.Answers.{refused, and_then}
 use Rattle.eb3.specs.RuleReading.{read_rules}
 use Rattle.eb3.specs.Operations.{admit}
 use Rattle.eb3.proofs.Laws.Judging.{admit_by_parts}
 use Rattle.eb3.specs.Judging.{whole_of}
+use Rattle.blocks.specs.Files.{Opens}
 use Rattle.blocks.specs.Opening.{opening}
+use Rattle.blocks.specs.OpeningLaws.{unopened}
 use Rattle.admission.specs.Answering.{admitted, read_whole}
-use Rattle.admission.specs.Knowing.{Opens}
 use Rattle.refusals.specs.declared.Refusal.{Refusal}
-use Rattle.refusals.specs.Numbers.{RefusedBy}
+use Rattle.refusals.specs.Numbers.{number, refused_by}
 use Rattle.weights.specs.declared.Limits.{Limits}
 
 -- ── the stream ──
@@ -42,19 +46,6 @@ module _ (s : List ℕ) (n : ℕ) (e : length s ≡ 512 * n) (some : 1 ≤ n) (f
 
 -- ── blocks ──
 
-unopened : (s : List ℕ) (a : Answer Blocks_as_Opened) (k : Refusal) → Err k ≡ opening s a → RefusedBy k a
-unfolding opening
-unopened s (refused j) k e = record { code = j; is = refl; named = cc }
-unopened s (answered x) k e = absurd (let z : ◌≡◌ {A = ℕ} 0 1 = cc in omega arith)
-
-opened : (s : List ℕ) (a : Answer Blocks_as_Opened) (n : ℕ) → Ok n ≡ opening s a → (n ≡ block_count s) × (x : Blocks_as_Opened) × (a ≡ answered x)
-unfolding opening
-opened s (refused j) n e = absurd (let z : ◌≡◌ {A = ℕ} 0 1 = cc in omega arith)
-opened s (answered x) n e = (cc, x, refl)
-
-whole_is : (s : List ℕ) (x : Blocks_as_Opened) → open_blocks s ≡ answered x → T (whole_blocks s) × (x ≡ opened_1 s)
-whole_is s x e = ((opened_as s x e).whole, opened_is_1 s x e)
-
 module _ (s : List ℕ) (p : Result ℕ Refusal) (e : p ≡ opening s (open_blocks s)) where
   pub admit_refused : (k : Refusal) → p ≡ Err k → Err k ≡ admitted (admit s)
   unfolding admitted and_then
@@ -62,27 +53,16 @@ module _ (s : List ℕ) (p : Result ℕ Refusal) (e : p ≡ opening s (open_bloc
       let u = unopened s _ k (sym f ∙ e) in
       ap Err u.named ∙ sym (ap admitted (admit_by_parts s ∙ ap (λ a. and_then a (λ o. whole_of (read_rules o.edition o.words))) u.is))
 
-  pub open_refused : (k : Refusal) → p ≡ Err k → RefusedBy k (open_blocks s)
-  open_refused k f = unopened s _ k (sym f ∙ e)
+  -- A refused file is refused by Admit as well, so by a number from 1 to 8.
+  within : (j : ℕ) → open_blocks s ≡ refused j → T (one_of Why.of_present j)
+  unfolding admission and_then one_of all_of
+  within j f =
+      one_of_more Why.of_present Why.of_admission tt j (refused_within Why.of_admission (admission s) (admission_within s) j
+      (ap (λ a. and_then (and_then a λ o. ended (read_rules o.edition o.words)) within_limits) f))
 
-  module _ (n : ℕ) (f : p ≡ Ok n) where
-    pub admit_blocks : (length s ≡ 512 * n) × (1 ≤ n) × (n ≤ 64)
-    admit_blocks =
-        let o = opened s _ n (sym f ∙ e) in
-        let t : T (whole_blocks s) = (whole_is s o.1 o.2).0 in
-        let u = T_snd (eqb (length s % 512) 0) _ t in
-        let c : n ≡ length s / 512 = o.0 in
-        let a : length s % 512 ≡ 0 = eqb→eq (length s % 512) 0 (T_fst (eqb (length s % 512) 0) _ t) in
-        let b : 1 ≤ block_count s = leb→le 1 (block_count s) (T_fst (leb 1 (block_count s)) _ u) in
-        let d : block_count s ≤ 64 = leb→le (block_count s) 64 (T_snd (leb 1 (block_count s)) _ u) in
-        (omega arith, omega arith, omega arith)
+  pub open_refused : (k : Refusal) → p ≡ Err k → open_blocks s ≡ refused (number k)
+  open_refused k f = refused_by k (open_blocks s) within (unopened s _ k (sym f ∙ e))
 
-    pub admit_opens : Opens s
-    admit_opens = let o = opened s _ n (sym f ∙ e) in o.2 ∙ ap answered (whole_is s o.1 o.2).1
-
-    pub admit_read : (r : Result Limits Refusal) → r ≡ read_whole (drop 2 (stream s)) → r ≡ admitted (admit s)
-    unfolding and_then
-    admit_read r g =
-        let o = opened s _ n (sym f ∙ e) in
-        g ∙ sym (ap admitted (admit_by_parts s ∙ (ap (λ a. and_then a (λ o. whole_of (read_rules o.edition o.words))) o.2
-        ∙ ap (λ (x : Blocks_as_Opened). whole_of (read_rules x.edition x.words)) (whole_is s o.1 o.2).1)))
+pub admit_read : (s : List ℕ) → Opens s → (r : Result Limits Refusal) → r ≡ read_whole (drop 2 (stream s)) → r ≡ admitted (admit s)
+unfolding and_then
+admit_read s o r g = g ∙ sym (ap admitted (admit_by_parts s ∙ ap (λ a. and_then a (λ o. whole_of (read_rules o.edition o.words))) o))

@@ -13,6 +13,7 @@ ghost use Rattle.eb3.specs.Judging.{judged};
 ghost use Rattle.admission.specs.Answering.{admitted, read_whole};
 ghost use Rattle.admission.specs.Admitting.{WordsAdmitted, FileAdmitted};
 
+use blocks::opened::Blocks;
 use blocks::{join, open};
 use refusals::Refusal;
 use rules::read;
@@ -43,10 +44,10 @@ fn zeros(t: &[u16]) -> bool
     true
 }
 
-// The stream's words behind its first two: sections 2 to 5, the end, and main's measures; with the tables and the directory that
+// The stream's words after its first two: sections 2 to 5, the end, and main's measures; with the tables and the directory that
 // later steps go by. An empty directory will do where there are none.
-fn admit_words(t: &[u16], tables: &mut [u32], dir: &mut [u32]) -> Result<Limits, Refusal>
-    requires { (length t.now ≤ 16254) × (length tables.old ≡ 500) }
+fn admit_words(t: &[u16], tables: &mut [u32; 500], dir: &mut [u32]) -> Result<Limits, Refusal>
+    requires { length t.now ≤ 16254 }
     ensures { WordsAdmitted t.now dir.old result tables.new dir.new }
 {
     let r = read(t, tables, dir)?;
@@ -59,31 +60,33 @@ fn admit_words(t: &[u16], tables: &mut [u32], dir: &mut [u32]) -> Result<Limits,
     judge(r.cells as u32, r.weight)
 }
 
-// n blocks, decoded into lent words.
+// An opened file, decoded into lent words.
+// Stays: the words, the tables and the directory are three arrays, lent apart: the library has no heap and fixed memory, and a caller that
+// wants no directory lends an empty one.
 pub fn admit_in(
-    rules: &[u8],
+    file: &Blocks,
     words: &mut [u16],
-    tables: &mut [u32],
+    tables: &mut [u32; 500],
     dir: &mut [u32],
-    n: usize,
 ) -> Result<Limits, Refusal>
-    requires { (length rules.now ≡ 512 * n) × (254 * n ≤ length words.old) × (1 ≤ n) × (n ≤ 64) × (length tables.old ≡ 500) }
-    ensures { FileAdmitted rules.now words.old dir.old n result words.new tables.new dir.new }
+    requires { 254 * file.now.count ≤ length words.old }
+    ensures { FileAdmitted file.now.bytes.now words.old dir.old file.now.count result words.new tables.new dir.new }
 {
-    join(rules, words, n);
-    let end = 254 * n;
+    join(file, words);
+    let end = 254 * file.count;
     admit_words(&words[2..end], tables, dir)
 }
 
-// Local words for one block, eight, or as many as there may be: a small rule set does not pay for clearing a large array.
-fn admit_sized<const WORDS: usize>(rules: &[u8], n: usize) -> Result<Limits, Refusal>
-    requires { (length rules.now ≡ 512 * n) × (254 * n ≤ WORDS) × (1 ≤ n) × (n ≤ 64) × (WORDS ≤ 16256) }
-    ensures { result ≡ read_whole (drop 2 (stream rules.now)) }
+// Local words for one block, eight, or 64, the most that there may be: a small rule set does not pay for clearing a large array.
+// Stays: one function for all sizes of a local array, since memory is fixed and there is no heap.
+fn admit_sized<const WORDS: usize>(file: &Blocks) -> Result<Limits, Refusal>
+    requires { (254 * file.now.count ≤ WORDS) × (WORDS ≤ 16256) }
+    ensures { result ≡ read_whole (drop 2 (stream file.now.bytes.now)) }
 {
     let mut words = [0u16; WORDS];
     let mut tables = [0u32; 500];
     let mut none = [0u32; 0];
-    let r = admit_in(rules, &mut words, &mut tables, &mut none, n);
+    let r = admit_in(file, &mut words, &mut tables, &mut none);
     r
 }
 
@@ -91,12 +94,12 @@ fn admit_sized<const WORDS: usize>(rules: &[u8], n: usize) -> Result<Limits, Ref
 pub fn admit(rules: &[u8]) -> Result<Limits, Refusal>
     ensures { result ≡ admitted (admit rules.now) }
 {
-    let n = open(rules)?;
-    if n <= 1 {
-        return admit_sized::<254>(rules, n);
+    let file = open(rules)?;
+    if file.count <= 1 {
+        return admit_sized::<254>(&file);
     }
-    if n <= 8 {
-        return admit_sized::<2032>(rules, n);
+    if file.count <= 8 {
+        return admit_sized::<2032>(&file);
     }
-    admit_sized::<16256>(rules, n)
+    admit_sized::<16256>(&file)
 }

@@ -1,4 +1,4 @@
--- A case for each way that these functions return; the premises have the form of what the code tells there, so that `search` finds them.
+-- A case for each way that these functions return; the premises have the form of what the code has there, so that `search` finds them.
 use Prim.Native.Nat.{ℕ, ◌+◌, ◌-◌, ◌≤◌, ◌<◌}
 use native.Mathlib.Omega.{arith}
 use mathlib.Core.Path.{◌≡◌, refl, sym, ap, ◌∙◌}
@@ -13,7 +13,7 @@ use Rattle.eb3.specs.RuleSets.{domain_size}
 use Rattle.eb3.specs.Reading.{refused, pick, then, number_of, by_number, number_in}
 use Rattle.eb3.specs.RuleReading.{argument_of}
 use Rattle.arguments.specs.Tables.{row, declared, constant_of_domain, variable_of_domain}
-use Rattle.arguments.specs.TableLaws.{domain_at, domain_beyond, argument_is, entry_beyond}
+use Rattle.arguments.specs.TableLaws.{domain_at, domain_beyond, argument_is}
 use Rattle.std.specs.Prelude.{Ok, Err}
 use Rattle.refusals.specs.declared.Refusal.TheVariants.{Form, Reference, Kind}
 use Rattle.refusals.specs.Numbers.{refusal}
@@ -44,7 +44,7 @@ size_in T d a e i h k = k ∙ sym (domain_at T d (omega (arith, i)))
 pub size_out : (T : List ℕ) (d a : ℕ) → a ≡ get_or T 0 0 → a ≤ d → ◌≡◌ {A = ℕ} 0 (domain_size (declared T) d)
 size_out T d a i h = sym (domain_beyond T d (omega (arith, i)))
 
-pub ruleset tables = (entry_beyond, row_all, row_cut, row_none)
+pub ruleset tables = (row_all, row_cut, row_none)
 
 -- ── arguments ──
 
@@ -93,7 +93,7 @@ pub argument_none : (T Γ : List ℕ) (d : ℕ) (t : List ℕ) → length t ≡ 
 unfolding argument_of checked refusal
 argument_none T Γ d t h = rw (nil_form t h)
 
--- s is the words, t those behind the first
+-- s is the words, t those after the first
 module _ (T Γ : List ℕ) (d : ℕ) where
   by_code : (s t : List ℕ) (p : Checked) → (length s ≡ 0 → ⊥) → t ≡ drop 1 s
       → p ≡ checked (pick (eqb (get_or s 0 0) 1) (constant_of_domain (declared T) d t) (pick (eqb (get_or s 0 0) 2) (variable_of_domain Γ d t) (refused 4)))

@@ -22,7 +22,7 @@ use Rattle.refusals.specs.Numbers.{refusal}
 
 -- ── masks ──
 
--- Of k words behind which n labels are named, i are below their limits; behind them l labels are left.
+-- Of the k words of a mask of n labels i are below their limits, and l labels are left for the others.
 pub record Masked (k n : ℕ) (t : List ℕ) (i l : ℕ) : Type 0 where
   pub within : i ≤ k
   pub some : i ≤ length t
@@ -41,11 +41,6 @@ word_over k n w v h = checked_giving _ _
 word_none : (k n : ℕ) → checked (mask_of (suc k) n []) ≡ Err Form
 unfolding mask_of both then number_of giving checked refusal
 word_none k n = refl
-
-pub mask_start : (k n : ℕ) (t : List ℕ) → Masked k n t 0 n
-mask_start k n t =
-    let e : k ≡ k - 0 = omega arith in
-    record { within = omega arith; some = omega arith; same = ap (λ j. checked (mask_of j n t)) e }
 
 module _ (k n : ℕ) (t : List ℕ) (i l : ℕ) (c : Masked k n t i l) where
   pub mask_end : k ≤ i → Ok (length t - k) ≡ checked (mask_of k n t)
@@ -79,7 +74,7 @@ module _ (k n : ℕ) (t : List ℕ) (i l : ℕ) (c : Masked k n t i l) where
 
 -- ── arguments ──
 
--- Arguments of the first i domains are there, and n words are left behind them.
+-- Arguments of the first i domains are there, and n words are left after them.
 pub record Passed (T Γ ds t : List ℕ) (i n : ℕ) : Type 0 where
   pub within : i ≤ length ds
   pub short : n ≤ length t
@@ -125,3 +120,7 @@ module _ (T Γ ds t : List ℕ) (i n : ℕ) (c : Passed T Γ ds t i n) where
           same = one_first ∙ sym (both_in (argument_of (declared T) Γ x) (arguments_of (declared T) Γ (drop (suc i) ds)) u (last_of m u) p _ m (argument_ends (declared T) Γ x) e f refl refl)
               ∙ (λ j. checked (arguments_of (declared T) Γ (drop (sym (add-one i) j) ds) ((ap (last_of m) l ∙ last_last m n t s o) j)));
         }
+
+pub ruleset a_mask = (mask_short, mask_over, mask_end)
+
+pub ruleset all_arguments = (arguments_start, arguments_all)

@@ -14,9 +14,24 @@ use code_numbers::{CONSTANT, VARIABLE};
 use refusals::Refusal;
 use scan::{behind, front, last};
 
+pub mod layout;
+
+use layout::{DOMAINS, FUNCTIONS, LABELS, PROCESSES, SIZES};
+
+/// How many words a mask has.
+pub const MASK_WORDS: usize = 4;
+
+/// What a process term is read with: the rule set's tables, and what is known of each variable in scope, its domain or its value.
+#[derive(Clone, Copy)]
+pub struct Context<'a> {
+    pub tables: &'a [u32],
+    pub variables: &'a [u16],
+    pub ghost few: { length variables.now ≤ 8 },
+}
+
 // ── the tables ──
 
-// These three stay: they are public, and what is public keeps its promise; today's form is a cast in place.
+// Stays: these three are public, and what is public keeps its promise; today's form is a cast in place.
 // A number of 32 bits as a number.
 pub fn wide32(x: u32) -> usize
     ensures { (result ≡ x) × (result < 4294967296) }
@@ -53,28 +68,29 @@ pub fn entry(tb: &[u32], at: usize) -> u32
 pub fn domains(tb: &[u32]) -> usize
     ensures { result ≡ get_or tb.now 0 0 }
 {
-    entry(tb, 0) as usize
+    entry(tb, DOMAINS) as usize
 }
 
 pub fn labels(tb: &[u32]) -> usize
     ensures { result ≡ get_or tb.now 17 0 }
 {
-    entry(tb, 17) as usize
+    entry(tb, LABELS) as usize
 }
 
 pub fn functions(tb: &[u32]) -> usize
     ensures { result ≡ get_or tb.now 210 0 }
 {
-    entry(tb, 210) as usize
+    entry(tb, FUNCTIONS) as usize
 }
 
 pub fn processes(tb: &[u32]) -> usize
     ensures { (result ≡ get_or tb.now 211 0) × (result < 4294967296) }
 {
-    entry(tb, 211) as usize
+    entry(tb, PROCESSES) as usize
 }
 
-// A count at a place, and that many words behind it.
+// The row at a place: its first number says how many follow, and these are given, as many as are there.
+#[tactic(auto, using(crate::proofs::Cases::tables))]
 pub fn row_at(tb: &[u32], at: usize) -> &[u32]
     ensures { result.now ≡ row tb.now at }
 {
@@ -95,9 +111,8 @@ pub fn row_at(tb: &[u32], at: usize) -> &[u32]
 pub fn size_of(tb: &[u32], d: usize) -> usize
     ensures { (result ≡ domain_size (declared tb.now) d) × (result < 4294967296) }
 {
-    if d < entry(tb, 0) as usize {
-        let at = 1 + d;
-        return entry(tb, at) as usize;
+    if d < domains(tb) {
+        return entry(tb, SIZES + d) as usize;
     }
     0
 }
@@ -111,7 +126,8 @@ fn mask_limit(n: usize) -> usize
     1 << n.min(16)
 }
 
-// k words of a mask, where n labels are left.
+// The k words of a mask, where n labels are left.
+#[tactic(auto, using(crate::proofs::Rounds::a_mask))]
 pub fn check_mask(t: &[u16], k: usize, n: usize) -> Result<usize, Refusal>
     ensures { result ≡ checked (mask_of k n t.now) }
 {
@@ -128,11 +144,11 @@ pub fn check_mask(t: &[u16], k: usize, n: usize) -> Result<usize, Refusal>
     Ok(t.len() - k)
 }
 
-// The four words in front are zero.
+// The four words at the front are zero.
 pub fn mask_zero(t: &[u16]) -> bool
     ensures { result ≡ zero_mask (take 4 t.now) }
 {
-    front(t, 4).iter().all(|&w| w == 0)
+    front(t, MASK_WORDS).iter().all(|&w| w == 0)
 }
 
 // ── variables ──
@@ -149,7 +165,8 @@ pub fn with(vars: &[u16], x: u16) -> [u16; 8]
 
 // ── arguments ──
 
-// An argument of the domain d, where the domain of each variable in scope is given.
+// An argument of the domain d; `vars` are the domains of the variables in scope.
+#[tactic(auto, using(crate::proofs::Cases::an_argument))]
 fn check_argument(t: &[u16], tb: &[u32], vars: &[u16], d: usize) -> Result<usize, Refusal>
     ensures { result ≡ checked (argument_of (declared tb.now) vars.now d t.now) }
 {
@@ -164,6 +181,7 @@ fn check_argument(t: &[u16], tb: &[u32], vars: &[u16], d: usize) -> Result<usize
 }
 
 // A constant below the domain's size: 4 before 6 at one word.
+#[tactic(auto, using(crate::proofs::Cases::an_argument))]
 fn constant_argument(t: &[u16], tb: &[u32], d: usize) -> Result<usize, Refusal>
     ensures { result ≡ checked (constant_of_domain (declared tb.now) d t.now) }
 {
@@ -181,6 +199,7 @@ fn constant_argument(t: &[u16], tb: &[u32], d: usize) -> Result<usize, Refusal>
 }
 
 // A variable in scope, of the same domain: 5 before 6 at one word.
+#[tactic(auto, using(crate::proofs::Cases::an_argument))]
 fn variable_argument(t: &[u16], vars: &[u16], d: usize) -> Result<usize, Refusal>
     ensures { result ≡ checked (variable_of_domain vars.now d t.now) }
 {
@@ -197,7 +216,10 @@ fn variable_argument(t: &[u16], vars: &[u16], d: usize) -> Result<usize, Refusal
     Err(Refusal::Reference)
 }
 
-// An argument for each of some domains.
+// An argument for each of some domains. Always inlined: as a call, a term of actions takes a fifth more instructions.
+// Stays: the tables and the variables come apart, since it asks nothing of how many variables there are, and a `Context` has at most eight.
+#[inline(always)]
+#[tactic(auto, using(crate::proofs::Rounds::all_arguments))]
 pub fn check_arguments(t: &[u16], tb: &[u32], vars: &[u16], ds: &[u32]) -> Result<usize, Refusal>
     ensures { result ≡ checked (arguments_of (declared tb.now) vars.now ds.now t.now) }
 {

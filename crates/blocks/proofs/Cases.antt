@@ -1,4 +1,4 @@
--- `open` by its ways of returning.
+-- `open` by its ways of returning (document 01, "Blocks and the rule stream"; refusals 1 to 3).
 use mathlib.Core.Path.{◌≡◌, refl, ap, sym, ◌∙◌}
 use mathlib.Core.Bool.{Bool, true, false, ◌&&◌}
 use mathlib.Core.List.{List, [], ◌∷◌}

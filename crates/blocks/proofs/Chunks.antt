@@ -1,4 +1,4 @@
--- A slice cut into arrays of n elements.
+-- A slice cut into arrays of n elements, as a file into its blocks (document 01, "Blocks and the rule stream").
 use mathlib.Core.Path.{◌≡◌, ap, ◌∙◌}
 use mathlib.Core.List.{List}
 use Prim.Native.Nat.{ℕ, zero, suc, ◌+◌, ◌*◌, ◌<◌}

@@ -1,4 +1,4 @@
--- The contents of blocks as words, word by word and block by block.
+-- The contents of blocks as words, word by word and block by block (document 01, "Blocks and the rule stream"; refusals 1 to 3).
 use mathlib.Core.Path.{◌≡◌, refl, ap, sym, ◌∙◌}
 use mathlib.Core.List.{List, [], ◌∷◌, ◌++◌, append_assoc, append-nil}
 use Prim.Native.Nat.{ℕ, zero, suc, ◌+◌, ◌-◌, ◌*◌, ◌/◌, ◌≤◌, ◌<◌}
@@ -47,7 +47,7 @@ drop_take s h =
     let l : 4 ≤ length s = omega arith in
     ap (drop 4) (take-add 4 508 s) ∙ drop_at (take 4 s) (take 508 (drop 4 s)) 4 (length-take-le 4 s l)
 
--- Block i's words, and those of the blocks behind it.
+-- Block i's words, and those of the blocks after it.
 next_content : (s : List ℕ) (n i : ℕ) → i < n → length s ≡ 512 * n
     → words_in (contents (n - i) (drop (512 * i) s)) ≡ words_in (take 508 (drop (512 * i + 4) s)) ++ words_in (contents (n - (i + 1)) (drop (512 * (i + 1)) s))
 next_content s n i h e =
@@ -57,7 +57,7 @@ next_content s n i h e =
     ap words_in (one_content (n - i) (drop (512 * i) s) l)
     ∙ (rw (drop_take (drop (512 * i) s) k, drop-drop 4 (512 * i) s, drop-drop 512 (512 * i) s, f, g) (words_append 254 (take 508 (drop (512 * i + 4) s)) (contents (n - (i + 1)) (drop (512 * (i + 1)) s)) m))
 
--- A loop that stores a block's words at each i, with `x` for what it is to find in front of what `ws₀` has.
+-- A loop that stores a block's words at each i, with `x` for what it is to find before what `ws₀` has.
 module _ (x s ws₀ ws : List ℕ) (n i : ℕ) (whole : length s ≡ 512 * n) (room : 254 * n ≤ length ws₀) (same : length ws ≡ length ws₀)
     (found : take (254 * i) ws ++ words_in (contents (n - i) (drop (512 * i) s)) ≡ x) (behind : drop (254 * i) ws ≡ drop (254 * i) ws₀) where
   module _ (h : i < n) (ys : List ℕ) (got : ys ≡ words_in (take (512 * i + 512 - (512 * i + 4)) (drop (512 * i + 4) s))) where

@@ -1,4 +1,4 @@
--- One block after the other has its number and sums.
+-- One block after the other has its number and sums (document 01, "Blocks and the rule stream"; refusals 1 to 3).
 use mathlib.Core.Path.{◌≡◌, ap, sym, ◌∙◌}
 use mathlib.Core.Bool.{Bool, true, false, ◌&&◌}
 use mathlib.Core.List.{List}

@@ -1,4 +1,4 @@
--- Sums whose remainders are left for the end, byte by byte and in two parts.
+-- Sums whose remainders are left for the end, byte by byte and in two parts (document 01, "Blocks and the rule stream").
 use mathlib.Core.Path.{◌≡◌, refl, ap, sym, ◌∙◌}
 use mathlib.Core.List.{List, [], ◌∷◌, ◌++◌}
 use Prim.Native.Nat.{ℕ, ◌+◌, ◌*◌, ◌%◌, ◌≤◌, ◌<◌}

@@ -6,6 +6,7 @@ use Rattle.eb3.specs.Blocks.{Sums, block_count, Opened}
 use Rattle.refusals.specs.declared.Refusal.{Refusal}
 use Rattle.refusals.specs.Numbers.{refusal}
 use Rattle.blocks.specs.declared.Pair.{Pair}
+use Rattle.blocks.specs.declared.opened.Blocks.{Blocks}
 
 abbrev pub as_sums : Pair → Sums
 as_sums p = record { a = p.a; b = p.b }
@@ -17,7 +18,7 @@ pub record Eight (x : List ℕ) (p : Pair) : Type 0 where
   pub low : p.a ≤ 2040
   pub high : p.b ≤ 9180
 
--- The two words in front of the first block's content, read where they stand.
+-- The first two words of the first block's content, read where they are.
 abbrev pub edition_test : List ℕ → ℕ → Bool
 edition_test s n = eqb (get_or s 4 0 + 256 * get_or s 5 0) 1 && eqb (get_or s 6 0 + 256 * get_or s 7 0) n
 
@@ -25,3 +26,8 @@ edition_test s n = eqb (get_or s 4 0 + 256 * get_or s 5 0) 1 && eqb (get_or s 6 
 unfoldable pub opening : List ℕ → Answer Opened → Result ℕ Refusal
 opening rules (refused k) = Err (refusal k)
 opening rules (answered o) = Ok (block_count rules)
+
+-- How many blocks the opened file has, or the refusal.
+abbrev pub counted : Result Blocks Refusal → Result ℕ Refusal
+counted (Ok file) = Ok file.count
+counted (Err k) = Err k

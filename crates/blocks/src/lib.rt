@@ -2,12 +2,16 @@
 // stream"; refusals 1 to 3).
 #![tactic(auto)]
 
-ghost use Rattle.std.specs.Prelude.{◌≡◌, ◌++◌, ◌+◌, ◌*◌, ◌/◌, ◌%◌, ◌≤◌, ◌<◌, length, drop, get_or};
+ghost use Rattle.std.specs.Prelude.{◌≡◌, Ok, ◌++◌, ◌+◌, ◌*◌, ◌/◌, ◌%◌, ◌≤◌, ◌<◌, length, drop, get_or};
 ghost use Rattle.eb3.specs.Bytes.{words_in};
 ghost use Rattle.eb3.specs.Blocks.{sums, plain_sums, block_right, blocks_right, stream, open_blocks, block_count};
-ghost use Rattle.blocks.specs.Opening.{as_sums, edition_test, opening, Eight};
+ghost use Rattle.blocks.specs.Opening.{as_sums, edition_test, opening, counted, Eight};
+ghost use Rattle.blocks.specs.declared.opened.Blocks.{Blocks};
 
+use opened::Blocks;
 use refusals::Refusal;
+
+pub mod opened;
 
 // Both sums of a block, before or after their remainders are taken.
 #[derive(Clone, Copy)]
@@ -137,9 +141,10 @@ fn check_edition(rules: &[u8], n: usize) -> bool
     word(rules, 4) == 1 && word(rules, 6) as usize == n
 }
 
-// How many blocks a file has: 1 to 64 whole blocks, each with its number and sums, of this edition.
-pub fn open(rules: &[u8]) -> Result<usize, Refusal>
-    ensures { result ≡ opening rules.now (open_blocks rules.now) }
+// Opens a file: 1 to 64 whole blocks, each with its number and sums, of this edition.
+pub fn open(rules: &[u8]) -> Result<Blocks, Refusal>
+    ensures answer { counted result ≡ opening rules.now (open_blocks rules.now) }
+    ensures same_bytes { (file : Blocks) → result ≡ Ok file → file.bytes.now ≡ rules.now }
 {
     let n = rules.len() / 512;
     if rules.len() % 512 != 0 || !(1..=64).contains(&n) {
@@ -151,7 +156,10 @@ pub fn open(rules: &[u8]) -> Result<usize, Refusal>
     if !check_edition(rules, n) {
         return Err(Refusal::Edition);
     }
-    Ok(n)
+    Ok(Blocks {
+        bytes: rules,
+        count: n,
+    })
 }
 
 // The words of a content, little-endian.
@@ -164,14 +172,15 @@ fn decode(content: &[u8], words: &mut [u16])
     }
 }
 
-// The contents of n blocks, joined: the stream's words, in front of what the array held.
-pub fn join(rules: &[u8], words: &mut [u16], n: usize)
-    requires { (length rules.now ≡ 512 * n) × (254 * n ≤ length words.old) × (n ≤ 64) }
-    ensures { words.new ≡ stream rules.now ++ drop (254 * n) words.old }
+// The contents of the blocks, joined: the stream's words, before what the array held there.
+pub fn join(file: &Blocks, words: &mut [u16])
+    requires { 254 * file.now.count ≤ length words.old }
+    ensures { words.new ≡ stream file.now.bytes.now ++ drop (254 * file.now.count) words.old }
 {
-    for i in 0..n {
+    let bytes = file.bytes;
+    for i in 0..file.count {
         decode(
-            &rules[512 * i + 4..512 * i + 512],
+            &bytes[512 * i + 4..512 * i + 512],
             &mut words[254 * i..254 * i + 254],
         );
     }

@@ -1,4 +1,4 @@
--- From the engine's answer to the numbers that C gets.
+-- From the engine's answer to the numbers that C gets (document 01, "Operations"; host/eb3.h).
 use mathlib.Core.Path.{◌≡◌, refl, ap, sym, ◌∙◌}
 use Prim.Native.Nat.{ℕ}
 use mathlib.Core.List.{List, []}
@@ -24,7 +24,7 @@ use Rattle.mains.specs.declared.Totals.{Totals}
 use Rattle.engine.specs.Running.{ran_as, RunDone}
 use Rattle.eb3.specs.Operations.{admit, start, count, move, present, run, ScratchAfter}
 use Rattle.cabinet.specs.declared.Ran.{Ran as CRan}
-use Rattle.cabinet.specs.Exported.{sizes, started, counted, moved_by, moved, exported_step, ran}
+use Rattle.cabinet.specs.Exported.{sizes, started, counted, moved_by, moved, exported_action, exported_step, ran}
 
 -- An answer refuses by numbers of refusals only.
 abbrev Numbered : {A : Type 0} → Answer A → Type 0
@@ -153,8 +153,7 @@ module _ (rules term memory next_term next_memory : List ℕ) (r : Result Step W
   present_told event d = step_told _ (refusals rules [] term memory event next_term next_memory [] [] 0).present_refused.number r term' memory' m d e
 
 -- What an answer gives, by its case.
-pub step_gives : (r : Result Step Why) (s : Step) → r ≡ Ok s
-    → record { refusal = 0; size = s.size; visible = s.visible; label = s.label; arguments = s.arguments; first = s.first; second = s.second } ≡ exported_step r
+pub step_gives : (r : Result Step Why) (s : Step) → r ≡ Ok s → exported_action s.size s.action ≡ exported_step r
 unfolding exported_step
 step_gives r s f = sym (ap exported_step f)
 

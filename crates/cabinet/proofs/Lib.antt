@@ -1,2 +1,2 @@
--- What the proof of the exported function uses.
+-- What the proofs of the exported functions use (document 01, "Operations"; host/eb3.h).
 mod Cases

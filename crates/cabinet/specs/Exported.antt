@@ -1,8 +1,9 @@
 -- What each exported function gives to C: `refusal` is 0 where the operation was done, else document 01's number, and then every other field is 0.
-use Rattle.std.specs.Prelude.{Result, Ok, Err, ℕ, length, get_or}
+use Rattle.std.specs.Prelude.{Result, Ok, Err, Option, Some, None, ℕ, length, get_or}
 use Rattle.refusals.specs.declared.Refusal.{Refusal}
 use Rattle.refusals.specs.Numbers.{number}
 use Rattle.engine.specs.declared.stepping.Step.{Step}
+use Rattle.engine.specs.declared.stepping.Visible.{Visible}
 use Rattle.eb3.specs.Terms.{Action, internal, visible}
 use Rattle.eb3.specs.Answers.{Answer, refused, answered, Sizes, Moved, Ran}
 use Rattle.cabinet.specs.declared.Sizes.{Sizes as CSizes}
@@ -32,9 +33,13 @@ unfoldable pub moved : Answer Moved → CMoved
 moved (refused k) = record { refusal = k; size = 0; visible = 0; label = 0; arguments = 0; first = 0; second = 0 }
 moved (answered m) = moved_by m.action m.size
 
--- What the engine's answer gives.
+-- What the engine's answer gives: with a visible action, and with the internal one.
+abbrev pub exported_action : ℕ → Option Visible → CMoved
+exported_action n (Some a) = record { refusal = 0; size = n; visible = 1; label = a.label; arguments = a.arguments; first = a.first; second = a.second }
+exported_action n None = record { refusal = 0; size = n; visible = 0; label = 0; arguments = 0; first = 0; second = 0 }
+
 unfoldable pub exported_step : Result Step Refusal → CMoved
-exported_step (Ok s) = record { refusal = 0; size = s.size; visible = s.visible; label = s.label; arguments = s.arguments; first = s.first; second = s.second }
+exported_step (Ok s) = exported_action s.size s.action
 exported_step (Err k) = record { refusal = number k; size = 0; visible = 0; label = 0; arguments = 0; first = 0; second = 0 }
 
 unfoldable pub ran : Answer Ran → CRan

@@ -3,18 +3,21 @@
 
 ghost use Rattle.std.specs.Prelude.{◌≡◌};
 ghost use Rattle.eb3.specs.Operations.{admit, start, count, move, present, run, ScratchAfter};
-ghost use Rattle.cabinet.specs.Exported.{sizes, started, counted, exported_step, moved, ran};
+ghost use Rattle.cabinet.specs.Exported.{sizes, started, counted, exported_action, exported_step, moved, ran};
 
 use admission::admit;
 use engine::counting::count;
 use engine::running::run;
 use engine::starting::start;
-use engine::stepping::{Step, make_move, present};
+use engine::stepping::{Step, Visible, make_move, present};
 use refusals::Refusal;
 
 // In place of a refusal's number, where the operation was done.
+// Stays: C hosts get a number, and EB3_DONE of eb3.h is 0.
 const DONE: u32 = 0;
 
+// Stays, here and in the structs after it: they are the C interface, as eb3.h declares it. C has no Option and no enum with values, so `refusal`
+// is 0 or a refusal's number, `visible` is 0 or 1, and what an answer does not have is 0.
 #[repr(C)]
 #[derive(Clone, Copy)]
 pub struct Sizes {
@@ -115,20 +118,38 @@ pub extern "C" fn eb3_count(rules: &[u8], term: &[u8], memory: &[u8]) -> Counted
     }
 }
 
+// What a step gives: with a visible action, and with the internal one.
+fn taken(size: u32, action: Option<Visible>) -> Moved
+    ensures { result ≡ exported_action size action }
+{
+    match action {
+        Some(a) => Moved {
+            refusal: DONE,
+            size,
+            visible: 1,
+            label: a.label,
+            arguments: a.arguments,
+            first: a.first,
+            second: a.second,
+        },
+        None => Moved {
+            refusal: DONE,
+            size,
+            visible: 0,
+            label: 0,
+            arguments: 0,
+            first: 0,
+            second: 0,
+        },
+    }
+}
+
 // What Move and Present give.
 fn told(r: Result<Step, Refusal>) -> Moved
     ensures { result ≡ exported_step r }
 {
     match r {
-        Ok(s) => Moved {
-            refusal: DONE,
-            size: s.size,
-            visible: s.visible,
-            label: s.label,
-            arguments: s.arguments,
-            first: s.first,
-            second: s.second,
-        },
+        Ok(step) => taken(step.size, step.action),
         Err(refusal) => Moved {
             refusal: u32::from(refusal),
             size: 0,

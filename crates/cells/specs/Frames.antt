@@ -15,7 +15,7 @@ use Rattle.cells.specs.Turns.{FunctionFilled}
 abbrev pub kept_value : ℕ → Data
 kept_value f = Before f (Cons (Variable 0) Nil)
 
--- What names an element with no help of x0: a variable behind it, or function g's value of one, now or before.
+-- What names an element with no help of x0: a variable after it, or function g's value of one, now or before.
 pub data Naming : Type 0 where
   argument : ℕ → Naming
   value_now : ℕ → ℕ → Naming
@@ -33,16 +33,17 @@ pub record AsksOne (d : Data) : Type 0 where
   pub no_value : Data
   pub asked : d ≡ If (Equal (Variable 0) (naming named)) yes_value no_value
 
--- r tells whether it is so of the expression at the front of s.
+-- r says whether it is so of the expression at the front of s.
 abbrev pub Tells : Bool → List ℕ → (Data → Type 0) → Type 0
 Tells r s Q = (P : Scope) (d : Data) (rest : List ℕ) → DataAt s P d rest → (r ≡ true) ↔ Q d
 
 -- ── cells ──
 
--- The k words from one place on are as those of m from another, where these are read no earlier than written; all other words are kept.
+-- The k words from one place on are as those of m from another, where these are read no earlier than written, or all lie before it; all other words are kept.
 pub record Copied (m m' : List ℕ) (from at k : ℕ) : Type 0 where
   pub same_length : length m' ≡ length m
   pub copies : at ≤ from → (x : ℕ) → x < k → stored m' (at + x) ≡ stored m (from + x)
+  pub copies_up : from + k ≤ at → (x : ℕ) → x < k → stored m' (at + x) ≡ stored m (from + x)
   pub kept_below : (i : ℕ) → i < at → stored m' i ≡ stored m i
   pub kept_above : (i : ℕ) → at + k ≤ i → stored m' i ≡ stored m i
 

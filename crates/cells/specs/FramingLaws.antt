@@ -25,15 +25,22 @@ module _ (m : List ℕ) (from at : ℕ) where
   copy_start = record {
     same_length = refl;
     copies = λ l x h. absurd (let z : ⊥ = omega arith in z);
+    copies_up = λ l x h. absurd (let z : ⊥ = omega arith in z);
     kept_below = λ i h. refl;
     kept_above = λ i h. refl;
   }
 
   -- w is the word read
   module _ (M' : List ℕ) (x w : ℕ) (read : from + x < length m) (room : at + x < length m) (is_w : w ≡ get_or M' (from + x) 0) (copied : Copied m M' from at x) where
-    word_read : at ≤ from → w ≡ stored m (from + x)
+    here : w ≡ stored M' (from + x)
     unfolding stored
-    word_read l = is_w ∙ any_default M' (from + x) 0 65535 (omega (arith, copied.same_length)) ∙ copied.kept_above (from + x) (omega arith)
+    here = is_w ∙ any_default M' (from + x) 0 65535 (omega (arith, copied.same_length))
+
+    word_read : at ≤ from → w ≡ stored m (from + x)
+    word_read l = here ∙ copied.kept_above (from + x) (omega arith)
+
+    word_below : from + (x + 1) ≤ at → w ≡ stored m (from + x)
+    word_below l = here ∙ copied.kept_below (from + x) (omega arith)
 
     written_there : stored (set M' (at + x) w) (at + x) ≡ w
     written_there = stored_there M' (at + x) w (omega (arith, copied.same_length))
@@ -41,14 +48,15 @@ module _ (m : List ℕ) (from at : ℕ) where
     pub copy_next : Copied m (set M' (at + x) w) from at (x + 1)
     copy_next = record {
       same_length = length-set M' (at + x) w ∙ copied.same_length;
-      copies = λ l y h. copies l y h (ℕ_discrete y x);
+      copies = λ l y h. copies (word_read l) y h (λ k. copied.copies l y k) (ℕ_discrete y x);
+      copies_up = λ l y h. copies (word_below l) y h (λ k. copied.copies_up (omega arith) y k) (ℕ_discrete y x);
       kept_below = λ i h. stored_else M' (at + x) i w (λ e. let z : ⊥ = omega arith in z) ∙ copied.kept_below i h;
       kept_above = λ i h. stored_else M' (at + x) i w (λ e. let z : ⊥ = omega arith in z) ∙ copied.kept_above i (omega arith);
     }
       where
-        copies : at ≤ from → (y : ℕ) → y < x + 1 → Dec (y ≡ x) → stored (set M' (at + x) w) (at + y) ≡ stored m (from + y)
-        copies l y h (yes e) = ap (λ i. stored (set M' (at + x) w) (at + i)) e ∙ written_there ∙ word_read l ∙ ap (λ i. stored m (from + i)) (sym e)
-        copies l y h (no n) = stored_else M' (at + x) (at + y) w (λ e. n (omega arith)) ∙ copied.copies l y (omega arith)
+        copies : w ≡ stored m (from + x) → (y : ℕ) → y < x + 1 → (y < x → stored M' (at + y) ≡ stored m (from + y)) → Dec (y ≡ x) → stored (set M' (at + x) w) (at + y) ≡ stored m (from + y)
+        copies r y h earlier (yes e) = ap (λ i. stored (set M' (at + x) w) (at + i)) e ∙ written_there ∙ r ∙ ap (λ i. stored m (from + i)) (sym e)
+        copies r y h earlier (no n) = stored_else M' (at + x) (at + y) w (λ e. n (omega arith)) ∙ earlier (omega arith)
 
   pub copy_end : (M' : List ℕ) (x k : ℕ) → x ≤ k → k ≤ x → Copied m M' from at x → Copied m M' from at k
   copy_end M' x k h l r = let e : x ≡ k = omega arith in subst (Copied m M' from at) e r
@@ -112,7 +120,7 @@ module _ (f : ℕ) (s m : List ℕ) (from at k : ℕ) (is_from : from ≡ before
   pub all_kept : (M' : List ℕ) → Tells true s (λ d. d ≡ kept_value f) → Copied m M' from at k → NewCells f s at k m M'
   all_kept M' tells copied t left placed T entered = kept_cells T m entered s at k placed from is_from (store_words m words) tells M' copied
 
-  -- d is what the element's name answers, a what its value does, u and v the words behind them
+  -- d is what the element's name answers, a what its value does, u and v the words after them
   module _ (asks : Tells true s AsksOne) (d : Valued) (named : Evaluated (drop 4 s) m d) (u : List ℕ) (is_u : u ≡ last_of d.left s)
       (a : Valued) (valued : Evaluated u (set m 0 d.value) a) (v : List ℕ) (is_v : v ≡ last_of a.left u) (keeps : Tells true v (λ b. b ≡ kept_value f)) (M' : List ℕ) (copied : Copied (set m 0 d.value) M' from at k) where
     pub named_past : k ≤ d.value → NewCells f s at k m M'

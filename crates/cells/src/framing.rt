@@ -1,12 +1,14 @@
 // The cells of one function computed anew (document 01, "Memory and the history machine"). An event names few entities, and the cells of all
 // others keep their values: rules say so by an expression before f(x0), or by one that asks first whether x0 is the entity named. Such
 // cells are copied and not computed one by one; any other expression is evaluated for every element.
+// Stays: that words are at most 65,535 is a clause of each function here, for the reason in successors (docs/DESIGN-PASS.md, "A struct for words").
 ghost use Rattle.std.specs.Prelude.{◌≡◌, true, ℕ, ◌+◌, ◌≤◌, ◌<◌, length};
 ghost use Rattle.expressions.specs.Stores.{stored, row_place, before_place};
-ghost use Rattle.cells.specs.Frames.{kept_value, AsksOne, Tells, Copied, NewCells};
+ghost use Rattle.cells.specs.Frames.{kept_value, AsksOne, Tells, NewCells};
 ghost use Rattle.cells.specs.Turns.{FunctionFilled};
 
-use expressions::{eval_data, word};
+use super::copy_cells;
+use expressions::{eval_data, store, word};
 use scan::last;
 
 // The codes as words of the stream.
@@ -20,7 +22,7 @@ const BEFORE: u16 = code_numbers::BEFORE as u16;
 
 const EQUAL: u16 = code_numbers::EQUAL as u16;
 
-// Whether before f(x0) stands at the front: the element keeps its value.
+// Whether before f(x0) is at the front: the element keeps its value.
 fn keeps(s: &[u16], f: usize) -> bool
     ensures { Tells result s.now (λ d. d ≡ kept_value f) }
 {
@@ -42,24 +44,13 @@ fn names_one(s: &[u16]) -> bool
     }
 }
 
-// The k cells from one place on as those from another.
-// Stays word by word: copy_within calls memmove, and the library promises C hosts to call memcpy and memset only (host/eb3.h, Linking).
-fn copy_cells(m: &mut [u16], from: usize, at: usize, k: usize)
-    requires { (from + k ≤ length m.old) × (at + k ≤ length m.old) }
-    ensures { Copied m.old m.new from at k }
-{
-    for i in 0..k {
-        m[at + i] = m[from + i];
-    }
-}
-
 // Every cell by the expression, element by element.
 fn fill_each(s: &[u16], m: &mut [u16], at: usize, k: usize)
     requires { (length s.now ≤ 65535) × (36 ≤ at) × (at + k ≤ length m.old) × (k < 65536) }
     ensures { (length m.new ≡ length m.old) × ((f : ℕ) → NewCells f s.now at k m.old m.new) }
 {
     for x in 0..k {
-        m[0] = x as u16;
+        m[store::PARAMETER] = x as u16;
         let v = eval_data(s, m).value;
         m[at + x] = v as u16;
     }
@@ -71,7 +62,7 @@ fn fill_named(s: &[u16], m: &mut [u16], f: usize, from: usize, at: usize, k: usi
     ensures { (length m.new ≡ length m.old) × NewCells f s.now at k m.old m.new }
 {
     let named = eval_data(&s[4..], m);
-    m[0] = named.value as u16;
+    m[store::PARAMETER] = named.value as u16;
     let t = last(s, named.left);
     let valued = eval_data(t, m);
     if keeps(last(t, valued.left), f) {
@@ -84,20 +75,21 @@ fn fill_named(s: &[u16], m: &mut [u16], f: usize, from: usize, at: usize, k: usi
     fill_each(s, m, at, k);
 }
 
-// The cells of function f, by the expression where so many words of the stream are left.
+// The cells of function f, by the expression where `left` words of the stream are left.
 pub fn fill_function(t: &[u16], m: &mut [u16], f: usize, left: usize)
     requires { (length t.now ≤ 65535) × (f < 16) }
     ensures { (length m.new ≡ length m.old) × FunctionFilled t.now f left m.old m.new }
 {
     let s = last(t, left);
-    let k = word(m, 4 + 2 * f);
-    let o = word(m, 4 + 2 * f + 1);
-    let at = 36 + o;
+    let row = store::ROWS + store::ROW_WORDS * f;
+    let k = word(m, row);
+    let o = word(m, row + 1);
+    let at = store::CELLS + o;
     // never in a store that has room for all cells
     if m.len() < at + k {
         return;
     }
-    let from = word(m, 3) + o;
+    let from = word(m, store::OLD_CELLS) + o;
     // never in a store with room for old cells too
     if m.len() < from + k {
         fill_each(s, m, at, k);

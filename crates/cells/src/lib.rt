@@ -8,22 +8,24 @@ ghost use Rattle.eb3.specs.Expressions.{Reading};
 ghost use Rattle.eb3.specs.Terms.{VisibleAction};
 ghost use Rattle.eb3.specs.Attributes.{Attributes};
 ghost use Rattle.cells.specs.Filling.{Filling, Filled};
+ghost use Rattle.cells.specs.Frames.{Copied};
 ghost use Rattle.cells.specs.Preparing.{Prepared, ready_word, Loaded, Saved};
 ghost use Rattle.cells.specs.PreparingLaws.{Loading};
 
 use arguments::{entry, functions, labels};
+use expressions::store;
 use framing::fill_function;
 use writing::put_words;
 
 mod framing;
 
-/// The attribute functions of a rule set: where their expressions stand, and how many cells they have.
+/// The attribute functions of a rule set: where their expressions are, and how many cells they have.
 #[derive(Clone, Copy)]
 pub struct Functions<'a> {
     /// The stream that the functions' expressions are in.
     pub words: &'a [u16],
     /// The directory, with a row of `width` words for each function: how many cells it has, where they begin among all cells, and
-    /// where each of its expressions stands.
+    /// where each of its expressions is.
     pub directory: &'a [u32],
     /// How many words a row of the directory has.
     pub width: usize,
@@ -65,21 +67,37 @@ pub fn fill(functions: &Functions, m: &mut [u16], j: usize)
     }
 }
 
+// ── cells copied ──
+
+// The k cells from one place on as those from another.
+// Stays word by word: copy_within calls memmove, and the library promises C hosts to call memcpy and memset only (host/eb3.h, Linking).
+pub fn copy_cells(m: &mut [u16], from: usize, at: usize, k: usize)
+    requires { (from + k ≤ length m.old) × (at + k ≤ length m.old) }
+    ensures { Copied m.old m.new from at k }
+{
+    for i in 0..k {
+        m[at + i] = m[from + i];
+    }
+}
+
 // ── a store made ready ──
 
 // Word i of a store made ready, below the cells.
 fn ready_word(functions: &Functions, i: usize) -> u16
     ensures { result ≡ ready_word functions.now.directory.now functions.now.width functions.now.count functions.now.cells i }
 {
-    if i < 3 {
-        return 65535;
+    if i < store::OLD_CELLS {
+        return u16::MAX;
     }
-    if i < 4 {
-        return (36 + functions.cells) as u16;
+    if i < store::ROWS {
+        return (store::CELLS + functions.cells) as u16;
     }
-    let f = (i - 4) / 2;
+    let f = (i - store::ROWS) / store::ROW_WORDS;
     if f < functions.count {
-        return (entry(functions.directory, functions.width * f + i % 2) % 65536) as u16;
+        return (entry(
+            functions.directory,
+            functions.width * f + i % store::ROW_WORDS,
+        ) % 65536) as u16;
     }
     0
 }
@@ -88,10 +106,10 @@ fn ready_word(functions: &Functions, i: usize) -> u16
 pub fn lay(functions: &Functions, m: &mut [u16])
     ensures { (length m.new ≡ length m.old) × (36 ≤ length m.old → Prepared functions.now.directory.now m.old m.new functions.now.width functions.now.count functions.now.cells) }
 {
-    if m.len() < 36 {
+    if m.len() < store::CELLS {
         return;
     }
-    for i in 0..36 {
+    for i in 0..store::CELLS {
         m[i] = ready_word(functions, i);
     }
 }
@@ -104,7 +122,7 @@ fn load_words(memory: &[u8], m: &mut [u16], at: usize, k: usize)
     ensures { Loading memory.now m.old m.new at k }
 {
     for i in 0..k {
-        m[at + i] = memory[2 * i] as u16 + 256 * memory[2 * i + 1] as u16;
+        m[at + i] = u16::from_le_bytes([memory[2 * i], memory[2 * i + 1]]);
     }
 }
 
@@ -125,9 +143,9 @@ pub fn load(memory: &[u8], m: &mut [u16], at: usize, c: usize)
 pub fn save(m: &[u16], memory: &mut [u8], c: usize)
     ensures { Saved m.now memory.old memory.new c }
 {
-    if m.len() < 36 || m.len() - 36 < c {
+    if m.len() < store::CELLS || m.len() - store::CELLS < c {
         return;
     }
-    let end = 36 + c;
-    put_words(&m[36..end], memory);
+    let end = store::CELLS + c;
+    put_words(&m[store::CELLS..end], memory);
 }

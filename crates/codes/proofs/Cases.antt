@@ -1,4 +1,4 @@
--- The words after a code, as the bits of numbers say them.
+-- The words after a code, as the bits of numbers say them (document 01, "Codes stand before their operands").
 use mathlib.Core.Path.{◌≡◌, ap, ◌∙◌}
 use Prim.Native.Nat.{ℕ, ◌+◌, ◌*◌, ◌/◌, ◌%◌, ◌^◌, ◌≤◌, ◌<◌}
 use native.Mathlib.Omega.{arith}

@@ -2,9 +2,10 @@
 // or a term is due, how many words and how many operands follow a code, and so where an expression or a term ends.
 // What an edition and the functions' parameter counts change is one number, `shape`: bit f says that function f has two parameters, bit 16 that a
 // constant has two words. Edition 1's is 0.
+// Stays: that words are at most 65,535 is a clause of each function here, for the reason in successors (docs/DESIGN-PASS.md, "A struct for words").
 #![tactic(auto)]
 
-ghost use Rattle.std.specs.Prelude.{◌≡◌, ℕ, ◌+◌, ◌*◌, ◌-◌, ◌≤◌, ◌<◌, List, [], ◌∷◌, eqb, length, get_or};
+ghost use Rattle.std.specs.Prelude.{◌≡◌, ℕ, ◌+◌, ◌*◌, ◌-◌, ◌≤◌, ◌<◌, List, [], ◌∷◌, eqb, length, drop, get_or, MatchOption};
 ghost use Rattle.eb3.specs.Scopes.{Scope};
 ghost use Rattle.eb3.specs.Sizes.{breadth};
 ghost use Rattle.eb3.specs.Terms.{Term};
@@ -70,7 +71,8 @@ pub fn arity(shape: usize, f: usize) -> usize
 // ── what follows a code ──
 
 // The table in three numbers: two bits for each code's operands, a bit for each code that one word follows, and a bit for the code that a mask's four
-// words follow. Stays: shifts are faster than a match by cases, which would be a jump that no machine foresees.
+// words follow.
+// Stays: shifts are faster than a match by cases, which would be a jump that no machine foresees.
 const OPERANDS: usize = 11716395933523584;
 
 const ONE_WORD: usize = 2097350;
@@ -89,19 +91,30 @@ pub fn words_after(w: usize, shape: usize) -> usize
 fn word(t: &[u16], i: usize) -> usize
     ensures { (result ≡ get_or t.now i 0) × (result < 65536) }
 {
-    if i < t.len() { t[i] as usize } else { 0 }
+    usize::from(t.get(i).copied().unwrap_or(0))
 }
 
-// How many arguments follow a label: they are constants, and no term begins with a constant's code.
-fn arguments(t: &[u16], shape: usize) -> usize
-    ensures { (result ≡ argument_count shape t.now) × (result ≤ 2) }
+// How many arguments follow the label at a place: they are constants, and no term begins with a constant's code.
+fn arguments(s: &[u16], at: usize, shape: usize) -> usize
+    requires { at ≤ 65536 }
+    ensures { (result ≡ argument_count shape (drop at s.now)) × (result ≤ 2) }
 {
-    if word(t, 1) != CONSTANT {
+    if word(s, at + 1) != CONSTANT {
         0
-    } else if word(t, 2 + width(shape)) != CONSTANT {
+    } else if word(s, at + 2 + width(shape)) != CONSTANT {
         1
     } else {
         2
+    }
+}
+
+// The second argument of now and before, where the function at a place has two parameters.
+fn second_arguments(w: usize, s: &[u16], at: usize, shape: usize) -> usize
+    ensures { ((w ≡ 21 → ⊥) → result ≡ more_operands shape w (drop at s.now)) × (result ≤ 1) }
+{
+    match w {
+        NOW | BEFORE => second_parameter(shape, word(s, at)),
+        _ => 0,
     }
 }
 
@@ -109,10 +122,10 @@ fn arguments(t: &[u16], shape: usize) -> usize
 fn more_operands(w: usize, t: &[u16], shape: usize) -> usize
     ensures { (result ≡ more_operands shape w t.now) × (result ≤ 2) }
 {
-    match w {
-        NOW | BEFORE => second_parameter(shape, word(t, 0)),
-        ACTION => arguments(t, shape),
-        _ => 0,
+    if w == ACTION {
+        arguments(t, 0, shape)
+    } else {
+        second_arguments(w, t, 0, shape)
     }
 }
 
@@ -134,7 +147,18 @@ pub fn operands(w: usize, t: &[u16], shape: usize) -> usize
 
 // ── skipping ──
 
-// The words left after n expressions and terms in a row. One loop over codes: `due` counts those that are still to come, of whatever sort.
+// The code at a place; None where there is no word, or one that is no code.
+fn code_at(s: &[u16], at: usize) -> Option<usize>
+    ensures { MatchOption result (at < length s.now → 30 < get_or s.now at 0) (λ w. (w ≡ get_or s.now at 0) × (at < length s.now) × (w ≤ 30)) }
+{
+    s.get(at).map(|w| usize::from(*w)).filter(|w| *w <= DONE)
+}
+
+// The words left after n expressions and terms in a row, n being how many they are. One loop over codes: `due` counts those that are still to come, of
+// whatever sort.
+// Stays: `while`, since no index is counted: a code says how far after it the next one is.
+// Stays: an action's arguments are skipped with it, in a case of their own. Measured, with each of them due a Run takes up to 1.15 times the instructions
+// (attended cabinet, 16 keys), a Present up to 1.10.
 pub fn skip_row(s: &[u16], n: usize, shape: usize) -> usize
     requires { (length s.now ≤ 65535) × (n ≤ 65535) }
     ensures { (result ≤ length s.now) × ((P : Scope) (xs : List Piece) (rest : List ℕ) → RowAt shape s.now P xs rest → n ≡ length xs → result ≡ length rest) }
@@ -142,14 +166,15 @@ pub fn skip_row(s: &[u16], n: usize, shape: usize) -> usize
     let mut at: usize = 0;
     let mut due = n;
     while 0 < due {
-        if s.len() <= at {
+        let Some(w) = code_at(s, at) else {
             return 0;
+        };
+        if w == ACTION {
+            at = at + 2 + arguments(s, at + 1, shape) * (1 + width(shape));
+            due -= 1;
+            continue;
         }
-        let w = s[at] as usize;
-        if DONE < w {
-            return 0;
-        }
-        due = due - 1 + operands(w, &s[at + 1..], shape);
+        due = due - 1 + (operands_after(w) + second_arguments(w, s, at + 1, shape));
         at = at + 1 + words_after(w, shape);
     }
     s.len().saturating_sub(at)
@@ -165,7 +190,8 @@ pub fn skip(s: &[u16], shape: usize) -> usize
 
 // ── terms that can never move ──
 
-// A bit for each code with which a term begins that has a move whatever its operands are. Stays: a shift, as above.
+// A bit for each code with which a term begins that has a move whatever its operands are.
+// Stays: a shift, as above.
 const MOVING: usize = 53477376;
 
 fn moving(w: usize) -> bool
@@ -176,8 +202,9 @@ fn moving(w: usize) -> bool
 }
 
 // Whether a term can never move: no such code is in it. Where one is, the loop ends at the first.
-// Stays beside skip_row: the loops share what follows a code (operands and words_after), and one function of both would have to promise what
-// is left and what was seen at once.
+// Stays: `while`, as in skip_row.
+// Stays beside skip_row: the loops share what follows a code (operands_after, second_arguments and words_after), and one function of both would have to
+// promise what is left and what was seen at once.
 pub fn idle(s: &[u16], shape: usize) -> bool
     requires { length s.now ≤ 65535 }
     ensures { (P : Scope) (E : Term) (rest : List ℕ) → RowAt shape s.now P (of_term E ∷ []) rest → result ≡ eqb (breadth E) 0 }
@@ -185,17 +212,13 @@ pub fn idle(s: &[u16], shape: usize) -> bool
     let mut at: usize = 0;
     let mut due: usize = 1;
     while 0 < due {
-        if s.len() <= at {
+        let Some(w) = code_at(s, at) else {
             return false;
-        }
-        let w = s[at] as usize;
-        if DONE < w {
-            return false;
-        }
+        };
         if moving(w) {
             return false;
         }
-        due = due - 1 + operands(w, &s[at + 1..], shape);
+        due = due - 1 + (operands_after(w) + second_arguments(w, s, at + 1, shape));
         at = at + 1 + words_after(w, shape);
     }
     true

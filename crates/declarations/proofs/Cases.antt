@@ -1,32 +1,27 @@
 -- Copies, and labels entered: a case for each way that these functions return.
+-- Document 01, "Blocks and the rule stream", items 2 to 4; refusals 4 and 5.
 use Prim.Native.Nat.{ℕ, zero, suc, ◌+◌, ◌-◌, ◌*◌, ◌≤◌, ◌<◌}
 use native.Mathlib.Numerals.{add-one, sub-one}
 use native.Mathlib.Omega.{arith}
-use mathlib.Core.Path.{◌≡◌, refl, ap, ◌∙◌}
+use native.Mathlib.Nat.{le_refl}
+use mathlib.Core.Path.{◌≡◌, refl, sym, ap, ◌∙◌, subst}
 use mathlib.Core.List.{List, [], ◌∷◌}
 use lib.ListN.{length, get_or, set}
 use lib.Seq.{paste, paste-suc, length-paste}
 use Rattle.eb3.specs.Reading.{Read, refused, taken, Reader, giving, then, both, number_of, repeat, counted}
 use Rattle.scan.specs.Checking.{checked, last_of, Checked}
-use Rattle.scan.specs.Laws.{Ends, number_ends}
-use Rattle.scan.specs.RowLaws.{count_ends, counted_ends, counted_in, counted_out, repeat_none, repeat_out, repeat_in, loop_start, loop_fail, loop_next, loop_end}
+use Rattle.scan.specs.Laws.{Ends, Tail, number_ends, last_all, last_length, last_tail, tail_at, tail_on, tail_short}
+use Rattle.scan.specs.RowLaws.{counted_ends, passed, repeat_out, repeat_in}
 use Rattle.arguments.specs.Tables.{row}
 use Rattle.declarations.specs.Entering.{put_row, put_rows, Entered}
 use Rattle.declarations.specs.Rows.{numbers_row}
 use Rattle.std.specs.Prelude.{Ok, Err}
 use Rattle.refusals.specs.declared.Refusal.{Refusal}
 
-pub ruleset rows = (counted_out, counted_in, count_ends, number_ends, repeat_none, repeat_out, repeat_in, loop_start, loop_fail, loop_next, loop_end)
-
 -- ── a copy ──
 
 pub copy_more : (T T₀ s : List ℕ) (at n i w : ℕ) → i < n → at + n ≤ length T₀ → n ≤ length s → w ≡ get_or s i 0 → T ≡ paste T₀ at s i → set T (at + i) w ≡ paste T₀ at s (i + 1)
 copy_more T T₀ s at n i w h a b f e = rw (e, f) (rw (add-one i) (paste-suc T₀ at s i 0 (omega arith) (omega arith)))
-
-pub copy_last : (T T₀ s : List ℕ) (at n i : ℕ) → n ≤ i → i ≤ n → T ≡ paste T₀ at s i → T ≡ paste T₀ at s n
-copy_last T T₀ s at n i h a e =
-    let k : i ≡ n = omega arith in
-    e ∙ ap (paste T₀ at s) k
 
 -- ── labels entered ──
 
@@ -37,17 +32,17 @@ label_ends : (d : ℕ) → Ends (label_of d)
 label_ends d = counted_ends 0 2 (number_of 5 d) (number_ends 5 d)
 
 -- what the copy of a label's row asks
-pub label_fits : (n at d m x : ℕ) (t T : List ℕ) (p : Checked) → (n ≡ 0 → ⊥) → at + 3 * n ≤ length T → x ≡ get_or t 0 0 → p ≡ checked (label_of d t) → p ≡ Ok m → (at + (x + 1) ≤ length T) × (x + 1 ≤ length t)
+label_fits : (n at d m x : ℕ) (t T : List ℕ) (p : Checked) → (n ≡ 0 → ⊥) → at + 3 * n ≤ length T → x ≡ get_or t 0 0 → p ≡ checked (label_of d t) → p ≡ Ok m → (at + (x + 1) ≤ length T) × (x + 1 ≤ length t)
 label_fits n at d m x t T p z l i e h =
     let row = numbers_row 0 2 5 d m t p e h in
     (omega (arith, row.small), omega (arith, row.room))
 
-pub entered_none : (t T : List ℕ) (n at d : ℕ) → n ≡ 0 → Entered t T n at d (Ok (length t)) T
+entered_none : (t T : List ℕ) (n at d : ℕ) → n ≡ 0 → Entered t T n at d (Ok (length t)) T
 unfolding repeat checked put_rows
 entered_none t T zero at d z = record { answer = refl; rows = λ ls u e. (let f : ls ≡ [] = cc in rw f); same_length = refl }
 entered_none t T (suc n) at d z = absurd (omega arith)
 
-pub entered_out : (t T : List ℕ) (n at d : ℕ) (j : Refusal) (p : Checked) → (n ≡ 0 → ⊥) → p ≡ checked (label_of d t) → p ≡ Err j → Entered t T n at d (Err j) T
+entered_out : (t T : List ℕ) (n at d : ℕ) (j : Refusal) (p : Checked) → (n ≡ 0 → ⊥) → p ≡ checked (label_of d t) → p ≡ Err j → Entered t T n at d (Err j) T
 unfolding checked
 entered_out t T n at d j p z e h =
     let a : Err j ≡ checked (repeat n (label_of d) t) = repeat_out n (label_of d) t p j z e h in
@@ -65,7 +60,7 @@ rows_more f n at m t l T T₁ T₂ e g ih ls u h = go (repeat n f (last_of m t))
         let s : ls ≡ l ∷ ls' = cc in
         rw s (ih ls' v i ∙ ap (put_rows (at + 3) ls') g)
 
-pub entered_in : (t r T T₁ T₂ : List ℕ) (n at d m x : ℕ) (p q : Checked) → (n ≡ 0 → ⊥) → at + 3 * n ≤ length T → x ≡ get_or t 0 0 → p ≡ checked (label_of d t) → p ≡ Ok m → T₁ ≡ paste T at t (x + 1) → r ≡ last_of m t
+entered_in : (t r T T₁ T₂ : List ℕ) (n at d m x : ℕ) (p q : Checked) → (n ≡ 0 → ⊥) → at + 3 * n ≤ length T → x ≡ get_or t 0 0 → p ≡ checked (label_of d t) → p ≡ Ok m → T₁ ≡ paste T at t (x + 1) → r ≡ last_of m t
     → Entered r T₁ (n - 1) (at + 3) d q T₂ → Entered t T n at d q T₂
 entered_in t r T T₁ T₂ zero at d m x p q z f i e h g l k = absurd (z refl)
 entered_in t r T T₁ T₂ (suc n) at d m x p q z f i e h g l k =
@@ -79,4 +74,54 @@ entered_in t r T T₁ T₂ (suc n) at d m x p q z f i e h g l k =
       same_length = k.same_length ∙ ap length g ∙ length-paste T at t (x + 1) fits.0 fits.1;
     }
 
-pub ruleset entering = (entered_none, entered_out, entered_in)
+-- ── labels entered by a loop ──
+
+-- i of n labels are entered, and `left` words are left of t: what is then entered of the others makes what is entered of all.
+pub record Entering (t T₀ : List ℕ) (n at d : ℕ) (T : List ℕ) (left i : ℕ) : Type 0 where
+  pub few : i ≤ n
+  pub short : left ≤ length t
+  pub same_length : length T ≡ length T₀
+  pub rest : (r : Checked) (T' : List ℕ) → Entered (last_of left t) T (n - i) (at + 3 * i) d r T' → Entered t T₀ n at d r T'
+
+same_entered : (t u T T' : List ℕ) (n m at b d : ℕ) (r : Checked) → t ≡ u → n ≡ m → at ≡ b → Entered t T n at d r T' → Entered u T m b d r T'
+same_entered t u T T' n m at b d r e f g h = rw (← e, ← f, ← g) h
+
+pub entering_start : (t T : List ℕ) (n at d : ℕ) → Entering t T n at d T (length t) 0
+entering_start t T n at d = record {
+  few = omega arith;
+  short = le_refl (length t);
+  same_length = refl;
+  rest = λ r T' h. same_entered _ t T T' (n - 0) n (at + 3 * 0) at d r (last_all (length t) t (le_refl (length t))) (omega arith) (omega arith) h;
+}
+
+module _ (t T₀ T u : List ℕ) (n at d left i x : ℕ) (p : Checked) (s : Entering t T₀ n at d T left i) (lt : i < n) (room : at + 3 * n ≤ length T₀) (is_u : u ≡ last_of left t) (e : p ≡ checked (label_of d u)) where
+  some : n - i ≡ 0 → ⊥
+  some z = omega (arith, z, lt)
+
+  place_left : at + 3 * i + 3 * (n - i) ≤ length T
+  place_left = omega (arith, room, lt, s.same_length)
+
+  pub entering_fail : (j : Refusal) → p ≡ Err j → Entered t T₀ n at d (Err j) T
+  entering_fail j h = s.rest (Err j) T (same_entered u _ T T (n - i) (n - i) (at + 3 * i) (at + 3 * i) d (Err j) is_u refl refl (entered_out u T (n - i) (at + 3 * i) d j p some e h))
+
+  module _ (m : ℕ) (h : p ≡ Ok m) (first : x ≡ get_or u 0 0) where
+    pub entering_fits : (at + 3 * i + (x + 1) ≤ length T) × (x + 1 ≤ length u)
+    entering_fits = label_fits (n - i) (at + 3 * i) d m x u T p some place_left first e h
+
+    pub entering_next : (T₁ : List ℕ) → T₁ ≡ paste T (at + 3 * i) u (x + 1) → Entering t T₀ n at d T₁ m (i + 1)
+    entering_next T₁ g =
+        let w = passed u m (label_of d u) (label_ends d u) (sym h ∙ e) in
+        let tail : Tail (last_of m u) t = tail_on (last_of m u) u t (rw is_u (last_tail left t)) w.0 in
+        let same : last_of m t ≡ last_of m u = ap (λ k. last_of k t) (sym w.1) ∙ tail_at (last_of m u) t tail in
+        let fits = entering_fits in
+        record {
+          few = omega (arith, lt);
+          short = omega (arith, w.1, tail_short (last_of m u) t tail);
+          same_length = ap length g ∙ length-paste T (at + 3 * i) u (x + 1) fits.0 fits.1 ∙ s.same_length;
+          rest = λ r T' k. s.rest r T' (same_entered u _ T T' (n - i) (n - i) (at + 3 * i) (at + 3 * i) d r is_u refl refl
+              (entered_in u (last_of m u) T T₁ T' (n - i) (at + 3 * i) d m x p r some place_left first e h g refl
+              (same_entered (last_of m t) (last_of m u) T₁ T' (n - (i + 1)) (n - i - 1) (at + 3 * (i + 1)) (at + 3 * i + 3) d r same (omega arith) (omega arith) k)));
+        }
+
+pub entering_end : (t T₀ T : List ℕ) (n at d left i : ℕ) → Entering t T₀ n at d T left i → n ≤ i → Entered t T₀ n at d (Ok left) T
+entering_end t T₀ T n at d left i s h = s.rest (Ok left) T (subst (λ y. Entered (last_of left t) T (n - i) (at + 3 * i) d (Ok y) T) (last_length left t s.short) (entered_none (last_of left t) T (n - i) (at + 3 * i) d (omega arith)))

@@ -60,9 +60,9 @@ left_is f ends t p m a v e h g =
     let l : length v ≡ m = cc in
     sym (tail_at v t (subst (Fine t) g (ends t))) ∙ ap (λ n. last_of n t) l
 
--- ── where words stand ──
+-- ── where words are ──
 
--- What a sound reader took of an end of words stands there.
+-- What a sound reader took of an end of words is there.
 pub stands_read : {A : Type 0} (spell : A → List ℕ) (P : A → Type 0) (f : Reader A) → Sounds spell P f → (whole t : List ℕ) (a : A) (u : List ℕ) → Tail t whole → f t ≡ taken a u → Stands whole (length t) (spell a)
 stands_read spell P f s whole t a u l e =
     let h : (t ≡ spell a ++ u) × P a = subst (Sound spell P t) e (s t) in
@@ -84,7 +84,7 @@ standing_kept t D D' at (d ∷ ds) h s = (
   standing_kept t D D' (suc at) ds (λ j b. h j (omega arith)) s.1,
 )
 
--- One more behind others.
+-- One more after others.
 pub standing_more : (t D : List ℕ) (at : ℕ) (ds : List Data) (d : Data) → Standing t D at ds → Stands t (get_or D (at + length ds) 0) (data_words 1 d) → Standing t D at (ds ++ (d ∷ []))
 standing_more t D at [] d s h =
     let e : at + 0 ≡ at = omega arith in
@@ -117,7 +117,7 @@ rows_more t T p (Q ∷ Ps) P r h =
     let e : p + suc (length Ps) ≡ suc p + length Ps = omega arith in
     (r.0, rows_more t T (suc p) Ps P r.1 (subst (λ n. Stands t (get_or T (process_place n + 8) 0) (rule_words 1 P.term)) e h))
 
--- Where a process was read, its term stands behind its parameters.
+-- Where a process was read, its term is after its parameters.
 pub term_stands : (R : RuleSet) (hi : ℕ) (whole t : List ℕ) (P : Process) (u : List ℕ) → R.edition.width ≡ 1 → Tail t whole → read_process R hi t ≡ taken P u
     → Stands whole (length t - (get_or t 0 0 + 1)) (rule_words 1 P.term)
 unfolding read_process

@@ -1,6 +1,6 @@
 -- Functions: their expressions, and their cells. A case for each way that these functions return.
-use Prim.Native.Nat.{ℕ, zero, suc, ◌+◌, ◌-◌, ◌*◌, ◌≤◌, ◌<◌}
-use native.Mathlib.Nat.{mul-le-mul}
+-- Document 01, "Blocks and the rule stream", item 4; refusals 4 and 5.
+use Prim.Native.Nat.{ℕ, zero, suc, ◌+◌, ◌-◌, ◌*◌, ◌≤◌}
 use native.Mathlib.Numerals.{sub-one}
 use native.Mathlib.Omega.{arith}
 use mathlib.Core.Path.{◌≡◌, refl, sym, ap, ◌∙◌, subst}
@@ -10,7 +10,7 @@ use Rattle.eb3.specs.Editions.{edition_1}
 use Rattle.eb3.specs.Cells.{cell_count}
 use Rattle.eb3.specs.Expressions.{Data}
 use Rattle.eb3.specs.RuleSets.{Function, domain_size}
-use Rattle.eb3.specs.Reading.{Read, refused, taken, Reader, giving, then, both, number_of, repeat, for_each, series}
+use Rattle.eb3.specs.Reading.{Read, refused, taken, Reader, giving, then, both, number_of, repeat, series}
 use Rattle.eb3.specs.ExpressionReading.{read_data}
 use Rattle.eb3.specs.RuleReading.{function_from, read_function}
 use Rattle.scan.specs.Checking.{checked, last_of, Checked}
@@ -21,7 +21,7 @@ use Rattle.declarations.specs.declared.Counted.{Counted}
 use Rattle.declarations.specs.Entering.{labels_of, cells_of, all_cells, function_cells, functions_cells, CellsBound, found_cells}
 use Rattle.declarations.specs.ScopeFacts.{one_each, at_start, start_scope}
 use Rattle.declarations.specs.FunctionLaws.{function_ends}
-use Rattle.declarations.specs.Noting.{start_of, for_label, label_expressions, function_of}
+use Rattle.declarations.specs.Noting.{start_of, label_expressions, function_of}
 use Rattle.std.specs.Prelude.{Ok, Err, Result}
 use Rattle.refusals.specs.declared.Refusal.{Refusal}
 use Rattle.scan.specs.ReadingLaws.{RefusedAs, checked_refused}
@@ -39,9 +39,8 @@ module _ (T t : List ℕ) (n i : ℕ) (p : Checked) (e : p ≡ checked (read_dat
   pub expressions_out : (j : Refusal) → p ≡ Err j → Err j ≡ checked (both (start_of n i) (labels_for T n i) t)
   expressions_out j h = both_out (start_of n i) (labels_for T n i) t p j start h
 
-  -- a is the word read, x the number that it is
-  pub expressions_in : (r : List ℕ) (q : Checked) (m a x : ℕ) → a ≡ get_or T 17 0 → x ≡ a → p ≡ Ok m → r ≡ last_of m t → q ≡ checked (for_each (labels_of T 0 x) (for_label n i) r) → q ≡ checked (both (start_of n i) (labels_for T n i) t)
-  expressions_in r q m a x g w h s f = both_in (start_of n i) (labels_for T n i) t r p q m (data_ends 1 _) start h s (f ∙ ap (λ y. checked (for_each (labels_of T 0 y) (for_label n i) r)) (w ∙ g))
+  pub expressions_in : (r : List ℕ) (q : Checked) (m : ℕ) → p ≡ Ok m → r ≡ last_of m t → q ≡ checked (labels_for T n i r) → q ≡ checked (both (start_of n i) (labels_for T n i) t)
+  expressions_in r q m h s f = both_in (start_of n i) (labels_for T n i) t r p q m (data_ends 1 _) start h s f
 
 -- ── a function ──
 
@@ -76,10 +75,10 @@ none_given D w j (refused k) e =
     ap Err f
 none_given D w j (taken b u) e = absurd (let y : ◌≡◌ {A = ℕ} 0 1 = cc in omega arith)
 
--- a is the word read, d the number of domains that it is
-module _ (T t : List ℕ) (n i a d : ℕ) (p : Checked) (g : a ≡ get_or T 0 0) (w : d ≡ a) (e : p ≡ checked (number_of 5 d t)) where
+-- d is how many domains there are
+module _ (T t : List ℕ) (n i d : ℕ) (p : Checked) (w : d ≡ get_or T 0 0) (e : p ≡ checked (number_of 5 d t)) where
   there : p ≡ checked (number_of 5 (get_or T 0 0) t)
-  there = e ∙ ap (λ y. checked (number_of 5 y t)) (w ∙ g)
+  there = e ∙ ap (λ y. checked (number_of 5 y t)) w
 
   pub function_out : (j : Refusal) → p ≡ Err j → Err j ≡ function_cells (sizes_in T) (function_of T n i t)
   unfolding giving both then repeat function_cells
@@ -97,13 +96,6 @@ module _ (T t : List ℕ) (n i a d : ℕ) (p : Checked) (g : a ≡ get_or T 0 0)
 
 -- ── functions ──
 
--- where a row begins
-pub place_small : (x i : ℕ) → x ≤ 64 → i < 65536 → (3 + x) * i ≤ 4390912
-place_small x i h k =
-    let a : 3 + x ≤ 67 = omega arith in
-    let b : i ≤ 65536 = omega arith in
-    mul-le-mul a b
-
 pub functions_none : (T t : List ℕ) (n k i : ℕ) → k ≡ 0 → found_cells (length t) 0 ≡ functions_cells (sizes_in T) (series k i (function_of T n) t)
 unfolding series functions_cells all_cells
 functions_none T t n k i z = rw z
@@ -113,7 +105,7 @@ unfolding series
 functions_next T t n zero i z = absurd (z refl)
 functions_next T t n (suc k) i z = rw (sub-one (suc k))
 
--- what was read, where so many words are left
+-- what was read, where m words are left
 left_of : (D t : List ℕ) (m c : ℕ) (r : Read Function) → Fine t r → found_cells m c ≡ function_cells D r → (F : Function) × ((r ≡ taken F (last_of m t)) × (c ≡ cells_of D F))
 unfolding function_cells
 left_of D t m c (refused j) f e = absurd (let y : ◌≡◌ {A = ℕ} 0 1 = cc in omega arith)
@@ -168,9 +160,3 @@ module _ (T t : List ℕ) (n k i : ℕ) (p : Result Counted Refusal) (z : k ≡ 
 -- no sum overflows
 pub one_bound : (p : Result Counted Refusal) (one : Counted) → p ≡ Ok one → CellsBound p 1 → one.cells ≤ 1 * 4294967296
 one_bound p one h e = subst (λ x. CellsBound x 1) h e
-
-pub functions_bound : (p q : Result Counted Refusal) (one two : Counted) (k : ℕ) → (k ≡ 0 → ⊥) → p ≡ Ok one → CellsBound p 1 → q ≡ Ok two → CellsBound q (k - 1) → one.cells + two.cells ≤ k * 4294967296
-functions_bound p q one two k z h e b f =
-    let x : one.cells ≤ 1 * 4294967296 = one_bound p one h e in
-    let y : two.cells ≤ (k - 1) * 4294967296 = subst (λ x. CellsBound x (k - 1)) b f in
-    omega (arith, x, y)

@@ -1,4 +1,5 @@
 -- The expressions for labels, read by a loop: what holds before each turn (`Sofar`), and a case for each way out.
+-- Document 01, "Blocks and the rule stream", item 4; refusals 4 and 5.
 use Prim.Native.Nat.{ℕ, suc, ◌+◌, ◌-◌, ◌*◌, ◌%◌, ◌≤◌, ◌<◌}
 use native.Mathlib.Nat.{le_refl}
 use native.Mathlib.Numerals.{add-one}
@@ -29,7 +30,7 @@ use Rattle.refusals.specs.declared.Refusal.{Refusal}
 abbrev rest_of : List ℕ → ℕ → ℕ → ℕ → ℕ → Reader (List Data)
 rest_of T n i l k = for_each (labels_of T l k) (for_label n i)
 
--- Expressions ds of the first l labels are read, `left` words are left of t, and the places of ds stand in D.
+-- Expressions ds of the first l labels are read, `left` words are left of t, and the places of ds are in D.
 pub record Sofar (t T D₀ : List ℕ) (n i k at : ℕ) (D : List ℕ) (left l : ℕ) : Type 0 where
   pub few : l ≤ k
   pub short : left ≤ length t

@@ -17,7 +17,7 @@ pub record Tables (T : List ℕ) (domains : List ℕ) (labels : List (List ℕ))
   pub same_functions : get_or T 210 0 ≡ length functions
   pub one_parameter : (f : ℕ) → get_or (map (λ (F : Function). length F.parameters) functions) f 1 ≡ 1
 
--- All that a process behind those of R is read by, and its processes' measures.
+-- All that a process after those of R is read by, and its processes' measures.
 pub record Declares (T : List ℕ) (R : RuleSet) : Type 0 where
   pub same_top : R.edition.top ≡ 65534
   pub same_width : R.edition.width ≡ 1

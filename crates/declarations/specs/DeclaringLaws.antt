@@ -31,7 +31,7 @@ use Rattle.declarations.specs.Regions.{paste_before, paste_inside, row_is, row_k
 
 -- ── domains ──
 
--- What was read stands in front: their count, and they.
+-- What was read is at the front: their count, and they.
 domains_in_front : (t ds u : List ℕ) → read_domains t ≡ taken ds u → t ≡ length ds ∷ (ds ++ u)
 domains_in_front t ds u e = sound.0 ∙ ap (λ l. length ds ∷ (l ++ u)) (words ds)
   where
@@ -112,7 +112,7 @@ rows_at at (l ∷ ls) T f (suc j) h =
     ap (row (put_rows (at + 3) ls (put_row at l T))) (let z : at + 3 * suc j ≡ at + 3 + 3 * j = omega arith in z)
     ∙ rows_at (at + 3) ls (put_row at l T) (next_fits at l ls T f) j (omega arith)
 
--- Sixty-four of them end where the functions' count stands.
+-- Sixty-four of them end where the functions' count is.
 labels_fit : (T : List ℕ) (ls : List (List ℕ)) → 210 ≤ length T → length ls ≤ 64 → All (λ l. length l ≤ 2) ls → Fitting 18 ls (set T 17 (length ls))
 labels_fit T ls room few short = (omega (arith, length-set T 17 (length ls)), short)
 
@@ -159,7 +159,7 @@ processes_start T ds ls fs room domains labels short k = record {
 
 -- ── one process more ──
 
--- Four words stored behind a row, and a count before it.
+-- Four words stored after a row, and a count before it.
 module _ (B : List ℕ) (at a b c d n : ℕ) where
   abbrev B₁ : List ℕ
   B₁ = set B (at + 5) a

@@ -1,6 +1,6 @@
--- The directory: where each function's cells begin and its expressions stand, and where each process's term does, so that later steps read no part
+-- The directory: where each function's cells begin and its expressions are, and where each process's term is, so that later steps read no part
 -- of a stream twice (document 01, "Blocks and the rule stream", items 4 and 5; "Memory and the history machine": one cell for each function and
--- element of its domain, in that order). A place is told by how many words are left there.
+-- element of its domain, in that order). A place is said by how many words are left there.
 -- Row i, of as many words as there are labels and three more: how many cells function i has, where they begin, and the words left at its expression
 -- for the empty trace and at each label's.
 use Rattle.std.specs.Prelude.{◌≡◌, List, [], ◌∷◌, ◌++◌, ℕ, suc, ◌+◌, ◌*◌, ◌%◌, length, get_or}
@@ -13,7 +13,7 @@ use Rattle.arguments.specs.Tables.{process_place}
 use Rattle.declarations.specs.Declaring.{Declares}
 use Rattle.declarations.specs.Entering.{cells_of}
 
--- Where n words of t are left, these stand first.
+-- Where n words of t are left, these are first.
 abbrev pub Stands : List ℕ → ℕ → List ℕ → Type 0
 Stands t n spelled = (rest : List ℕ) × (last_of n t ≡ spelled ++ rest)
 
@@ -22,7 +22,7 @@ abbrev pub Standing : List ℕ → List ℕ → ℕ → List Data → Type 0
 Standing t D at [] = Unit
 Standing t D at (d ∷ ds) = Stands t (get_or D at 0) (data_words 1 d) × Standing t D (suc at) ds
 
--- A function's row, where `first` cells stand before its own. Numbers in the directory have 32 bits.
+-- A function's row, where `first` cells are before its own. Numbers in the directory have 32 bits.
 pub record FunctionRow (domains t D : List ℕ) (at first : ℕ) (F : Function) : Type 0 where
   pub cells : get_or D at 0 ≡ cells_of domains F
   pub begins : get_or D (at + 1) 0 ≡ first % 4294967296
@@ -41,7 +41,7 @@ ProcessRows t T p (P ∷ Ps) = Stands t (get_or T (process_place p + 8) 0) (rule
 abbrev pub row_width : ℕ → ℕ
 row_width labels = 3 + labels
 
--- What the tables T and the directory D say of a rule set that stands at the front of t.
+-- What the tables T and the directory D say of a rule set that is at the front of t.
 pub record Directory (t T D : List ℕ) (R : RuleSet) : Type 0 where
   pub declares : Declares T R
   pub functions : FunctionRows R.domains t D (row_width (length R.labels)) 0 0 R.functions

@@ -38,7 +38,7 @@ unfoldable pub all_cells : List ℕ → List Function → ℕ
 all_cells domains [] = 0
 all_cells domains (F ∷ Fs) = cells_of domains F + all_cells domains Fs
 
--- So many words are left, and so many cells counted.
+-- n words are left, and c cells are counted.
 abbrev pub found_cells : ℕ → ℕ → Result Counted Refusal
 found_cells n c = Ok (record { left = n; cells = c })
 
@@ -50,7 +50,7 @@ unfoldable pub functions_cells : List ℕ → Read (List Function) → Result Co
 functions_cells domains (refused k) = Err (refusal k)
 functions_cells domains (taken Fs t) = found_cells (length t) (all_cells domains Fs)
 
--- So many functions have fewer than 2 to the 32nd cells each: no sum of them overflows.
+-- k functions have fewer than 2 to the 32nd cells each: no sum of them overflows.
 abbrev pub CellsBound : Result Counted Refusal → ℕ → Type 0
 CellsBound (Ok a) k = a.cells ≤ k * 4294967296
 CellsBound (Err j) k = Unit

@@ -35,8 +35,8 @@ function_of T n = read_function edition_1 (get_or T 0 0) (labels_of T 0 (get_or 
 
 -- ── what is noted ──
 
--- A check of t by the reader f, answered by r, with D the directory before it and D' behind it, where f has the places from `at` up to `end`: what stands
--- before them is kept, and what was read is found by them, whatever words t is the end of. Places are told in 32 bits.
+-- A check of t by the reader f, answered by r, with D the directory before it and D' after it, where f has the places from `at` up to `end`: what is
+-- before them is kept, and what was read is found by them, whatever words t is the end of. Places have 32 bits.
 pub record Noted {A B : Type 0} (summed : Read A → B) (f : Reader A) (t D : List ℕ) (at end : ℕ) (Found : List ℕ → List ℕ → A → Type 0) (r : B) (D' : List ℕ) : Type 0 where
   pub answer : r ≡ summed (f t)
   pub same_length : length D' ≡ length D
@@ -50,7 +50,7 @@ LabelsNoted T n i k t D at r D' = Noted checked (label_expressions T n i k) t D 
 abbrev pub ExpressionsNoted : List ℕ → ℕ → ℕ → List ℕ → List ℕ → ℕ → Checked → List ℕ → Type 0
 ExpressionsNoted T n i t D at r D' = Noted checked (expressions_of T n i) t D at (at + (1 + get_or T 17 0)) (λ whole E p. Standing whole E at (p.0 ∷ p.1)) r D'
 
--- Of function i, a row, where `begin` cells stand before its own; and of k functions from i on.
+-- Of function i, a row, where `begin` cells are before its own; and of k functions from i on.
 abbrev pub FunctionNoted : List ℕ → ℕ → ℕ → List ℕ → List ℕ → ℕ → ℕ → Result Counted Refusal → List ℕ → Type 0
 FunctionNoted T n i t D at begin r D' = Noted (function_cells (declared T).domains) (function_of T n i) t D at (at + row_width (get_or T 17 0)) (λ whole E F. FunctionRow (declared T).domains whole E at begin F) r D'
 

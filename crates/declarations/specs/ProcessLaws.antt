@@ -21,7 +21,7 @@ module _ (T : List ℕ) (R : RuleSet) (d : Declares T R) where
   alike : Alike (declared T) R
   alike = declared_alike T R d
 
-  -- A process is read by the tables as behind R,
+  -- A process is read by the tables as after R,
   pub process_alike : (hi : ℕ) (t : List ℕ) → read_process (declared T) hi t ≡ read_process R hi t
   unfolding read_process
   process_alike hi t = λ i. then (counted 0 hi (number_of Refusal.reference (length (alike.same_domains i))) t)
@@ -31,7 +31,7 @@ module _ (T : List ℕ) (R : RuleSet) (d : Declares T R) where
   pub term_alike : (E : RuleTerm) → measure_term (sat 65536) (declared T) (callee T) E ≡ measure_term (sat 65536) R (row_of (sat 65536) R (length R.processes)) E
   term_alike E = measure_alike (sat 65536) (declared T) R alike.same_width alike.same_domains (callee T) E ∙ (λ i. measure_term (sat 65536) R (d.same_measures i) E)
 
--- What stands in front of a process that was read: how many parameters, and they.
+-- What is at the front of a process that was read: how many parameters, and they.
 pub record Front (hi : ℕ) (t : List ℕ) (P : Process) : Type 0 where
   pub few : length P.parameters ≤ hi
   pub count : get_or t 0 0 ≡ length P.parameters

@@ -26,7 +26,7 @@ labels_read n D t u ls e =
     let p = subst (Sound (concat_map (counted_words one_word)) (λ xs. (length xs ≡ n) × All (λ xs. ((0 ≤ length xs) × (length xs ≤ 2)) × All (λ d. d < D) xs) xs) t) e s in
     (p.1.0, all_map (λ xs. ((0 ≤ length xs) × (length xs ≤ 2)) × All (λ d. d < D) xs) (λ l. length l ≤ 2) (λ l h. h.0.1) ls p.1.1)
 
--- Domains: at most 16, behind their count.
+-- Domains: at most 16, after their count.
 pub domains_read : (t ds u : List ℕ) → read_domains t ≡ taken ds u → (length ds ≤ 16) × (get_or t 0 0 ≡ length ds) × (get_or t 0 0 + 1 ≤ length t)
 domains_read t ds u e =
     let s = counted_sound one_word (λ n. (1 ≤ n) × (n ≤ 64)) (count_of 1 64) (count_sound 1 64) 1 16 t in

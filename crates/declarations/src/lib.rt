@@ -1,18 +1,21 @@
 // A rule stream's domains, labels and functions, checked, with the tables that later sections are read by and the
-// directory of where each function's expressions stand (document 01, "Blocks and the rule stream", items 2 to 4; refusals
+// directory of where each function's expressions are (document 01, "Blocks and the rule stream", items 2 to 4; refusals
 // 4 and 5).
 #![tactic(auto)]
 
 ghost use Rattle.std.specs.Prelude.{◌≡◌, List, [], ◌∷◌, ◌++◌, ℕ, ◌+◌, ◌-◌, ◌*◌, ◌%◌, ◌≤◌, ◌<◌, drop, take, get_or, set, length};
 ghost use Rattle.std.proofs.Math.Seq.{paste};
-ghost use Rattle.eb3.specs.Reading.{number_of, count_of, repeat, counted};
+ghost use Rattle.std.specs.Fn.{FnReturnsAt};
+ghost use Rattle.eb3.specs.Reading.{Reader, number_of, counted};
 ghost use Rattle.eb3.specs.RuleReading.{read_domains};
-ghost use Rattle.scan.specs.Checking.{checked, last_of};
+ghost use Rattle.scan.specs.Checking.{Checked, checked};
+ghost use Rattle.scan.specs.Laws.{Ends};
 ghost use Rattle.declarations.specs.Entering.{Entered, CellsBound};
 ghost use Rattle.declarations.specs.Directory.{row_width};
 ghost use Rattle.declarations.specs.Noting.{LabelsNoted, ExpressionsNoted, FunctionNoted, FunctionsNoted};
 
-use arguments::{entry, row_at, size_of};
+use arguments::layout::{LABEL_ROWS, LABEL_WORDS};
+use arguments::{domains, labels, row_at, size_of};
 use grammar::{Scope, check_data};
 use refusals::Refusal;
 use scan::{count, first, last, number};
@@ -24,7 +27,9 @@ pub struct Counted {
     pub cells: usize,
 }
 
-// The first n words of s, from the place at on.
+// The first n words of s, from the place at on. Stays: a place, and not a part of the table lent: what its callers ensure is of the whole table, which
+// they would first have to join of its parts.
+#[tactic(auto, using(crate::proofs::Cases::copy_more, scan::specs::Laws::copy_len))]
 pub fn copy(tb: &mut [u32], at: usize, s: &[u16], n: usize)
     requires { (at + n ≤ length tb.old) × (n ≤ length s.now) }
     ensures { tb.new ≡ paste tb.old at s.now n }
@@ -34,15 +39,24 @@ pub fn copy(tb: &mut [u32], at: usize, s: &[u16], n: usize)
     }
 }
 
-// ── domains ──
+// ── domains, and the parameters of labels and processes ──
 
-// n sizes of domains.
-fn sizes(t: &[u16], n: usize) -> Result<usize, Refusal>
-    ensures { result ≡ checked (repeat n (count_of 1 64) t.now) }
+// A count from lo to hi, and that many of a kind, each checked by `one`.
+fn counted_row<F: Fn(&[u16]) -> Result<usize, Refusal>>(
+    t: &[u16],
+    lo: usize,
+    hi: usize,
+    one: F,
+) -> Result<usize, Refusal>
+    requires { F.IsAlwaysCallable one }
+    ensures { (f : Reader ℕ) → Ends f → ((s : List ℕ) (r : Checked) → FnReturnsAt F.Fn one s r → r ≡ checked (f s)) → result ≡ checked (counted lo hi f t.now) }
 {
-    let mut left = t.len();
+    let m = count(t, lo, hi)?;
+    let n = first(t);
+    let row = last(t, m);
+    let mut left = row.len();
     for _ in 0..n {
-        left = count(last(t, left), 1, 64)?;
+        left = one(last(row, left))?;
     }
     Ok(left)
 }
@@ -50,30 +64,17 @@ fn sizes(t: &[u16], n: usize) -> Result<usize, Refusal>
 pub fn check_domains(t: &[u16]) -> Result<usize, Refusal>
     ensures { result ≡ checked (read_domains t.now) }
 {
-    let m = count(t, 1, 16)?;
-    sizes(last(t, m), first(t))
+    counted_row(t, 1, 16, |u| count(u, 1, 64))
 }
 
-// ── labels ──
-
-// n numbers of domains, each below d.
-fn numbers(t: &[u16], n: usize, d: usize) -> Result<usize, Refusal>
-    ensures { result ≡ checked (repeat n (number_of 5 d) t.now) }
-{
-    if n == 0 {
-        return Ok(t.len());
-    }
-    let m = number(t, Refusal::Reference, d)?;
-    numbers(last(t, m), n - 1, d)
-}
-
-// The parameters of a label or a process: a count up to hi, and that many numbers of domains.
+// The parameters of a label or a process: a count up to hi, and that many numbers of domains, each below d.
 pub fn parameters(t: &[u16], hi: usize, d: usize) -> Result<usize, Refusal>
     ensures { result ≡ checked (counted 0 hi (number_of 5 d) t.now) }
 {
-    let m = count(t, 0, hi)?;
-    numbers(last(t, m), first(t), d)
+    counted_row(t, 0, hi, |u| number(u, Refusal::Reference, d))
 }
+
+// ── labels ──
 
 // n labels, entered from the place at on.
 pub fn enter_labels(
@@ -86,13 +87,13 @@ pub fn enter_labels(
     requires { at + 3 * n ≤ length tb.old }
     ensures { Entered t.now tb.old n at d result tb.new }
 {
-    if n == 0 {
-        return Ok(t.len());
+    let mut left = t.len();
+    for i in 0..n {
+        let u = last(t, left);
+        left = parameters(u, 2, d)?;
+        copy(tb, at + LABEL_WORDS * i, u, first(u) + 1);
     }
-    let m = parameters(t, 2, d)?;
-    let k = first(t) + 1;
-    copy(tb, at, t, k);
-    enter_labels(last(t, m), tb, n - 1, at + 3, d)
+    Ok(left)
 }
 
 // ── functions ──
@@ -108,83 +109,79 @@ fn note(dir: &mut [u32], at: usize, x: usize)
     }
 }
 
-// The expressions of function i of n for the first k labels, noted from the place at on.
-fn later(
-    t: &[u16],
-    tb: &[u32],
-    dir: &mut [u32],
-    n: usize,
-    i: usize,
-    k: usize,
-    at: usize,
-) -> Result<usize, Refusal>
-    requires { (k < 65536) × (at < 4294967296) }
-    ensures { LabelsNoted tb.now n i k t.now dir.old at result dir.new }
-{
-    let mut left = t.len();
-    for l in 0..k {
-        note(dir, at + l, left);
-        let c = Scope {
-            variables: 1 + row_at(tb, 18 + 3 * l).len(),
-            now: i,
-            before: n,
-        };
-        left = check_data(last(t, left), c)?;
+// What functions are read with: the tables, which have at most 64 labels, and how many functions there are.
+#[derive(Clone, Copy)]
+struct Context<'a> {
+    tables: &'a [u32],
+    functions: usize,
+    ghost few: { get_or tables.now 17 0 ≤ 64 },
+}
+
+impl Context<'_> {
+    // The expressions of function i for the labels, noted from the place at on.
+    #[tactic(auto, using(crate::proofs::LaterCases::sofar_start, crate::proofs::LaterCases::sofar_next))]
+    fn later(&self, t: &[u16], dir: &mut [u32], i: usize, at: usize) -> Result<usize, Refusal>
+        requires { at < 4294967296 }
+        ensures { LabelsNoted self.now.tables.now self.now.functions i (get_or self.now.tables.now 17 0) t.now dir.old at result dir.new }
+    {
+        let k = labels(self.tables);
+        let mut left = t.len();
+        for l in 0..k {
+            note(dir, at + l, left);
+            let c = Scope {
+                variables: 1 + row_at(self.tables, LABEL_ROWS + LABEL_WORDS * l).len(),
+                now: i,
+                before: self.functions,
+            };
+            left = check_data(last(t, left), c)?;
+        }
+        Ok(left)
     }
-    Ok(left)
-}
 
-// The expression of function i of n for the empty trace, and those for the labels, noted from the place at on.
-fn expressions(
-    t: &[u16],
-    tb: &[u32],
-    dir: &mut [u32],
-    n: usize,
-    i: usize,
-    at: usize,
-) -> Result<usize, Refusal>
-    requires { (get_or tb.now 17 0 ≤ 64) × (at < 4294967000) }
-    ensures { ExpressionsNoted tb.now n i t.now dir.old at result dir.new }
-{
-    note(dir, at, t.len());
-    let c = Scope {
-        variables: 1,
-        now: i,
-        before: 0,
-    };
-    let m = check_data(t, c)?;
-    later(last(t, m), tb, dir, n, i, entry(tb, 17) as usize, at + 1)
-}
+    // The expression of function i for the empty trace, and those for the labels, noted from the place at on.
+    fn expressions(&self, t: &[u16], dir: &mut [u32], i: usize, at: usize) -> Result<usize, Refusal>
+        requires { at < 4294967000 }
+        ensures { ExpressionsNoted self.now.tables.now self.now.functions i t.now dir.old at result dir.new }
+    {
+        note(dir, at, t.len());
+        let c = Scope {
+            variables: 1,
+            now: i,
+            before: 0,
+        };
+        let m = check_data(t, c)?;
+        self.later(last(t, m), dir, i, at + 1)
+    }
 
-// One function, and its row of the directory from the place at on: its parameter's domain, whose elements are its cells,
-// which begin where those of the functions before it end, and its expressions.
-fn function(
-    t: &[u16],
-    tb: &[u32],
-    dir: &mut [u32],
-    n: usize,
-    i: usize,
-    at: usize,
-    begin: usize,
-) -> Result<Counted, Refusal>
-    requires { (get_or tb.now 17 0 ≤ 64) × (at < 4294966000) }
-    ensures { FunctionNoted tb.now n i t.now dir.old at begin result dir.new × CellsBound result 1 }
-{
-    let m = number(t, Refusal::Reference, entry(tb, 0) as usize)?;
-    let d = first(t);
-    let c = size_of(tb, d);
-    note(dir, at, c);
-    note(dir, at + 1, begin);
-    let left = expressions(last(t, m), tb, dir, n, i, at + 2)?;
-    Ok(Counted { left, cells: c })
-}
+    // Where function i's row begins in the directory.
+    fn row_place(&self, i: usize) -> usize
+        requires { i < 65536 }
+        ensures { (result ≡ row_width (get_or self.now.tables.now 17 0) * i) × (result ≤ 4390912) }
+    {
+        (3 + labels(self.tables)) * i
+    }
 
-// Where function i's row begins in the directory.
-fn row_place(tb: &[u32], i: usize) -> usize
-    requires { (i < 65536) × (get_or tb.now 17 0 ≤ 64) }
-    ensures { (result ≡ row_width (get_or tb.now 17 0) * i) × (result ≤ 4390912) }
-{
-    (3 + entry(tb, 17) as usize) * i
+    // Function i, and its row of the directory: its parameter's domain, whose elements are its cells, which begin where
+    // those of the functions before it end, and its expressions.
+    fn function(
+        &self,
+        t: &[u16],
+        dir: &mut [u32],
+        i: usize,
+        begin: usize,
+    ) -> Result<Counted, Refusal>
+        requires { i < 65536 }
+        ensures { FunctionNoted self.now.tables.now self.now.functions i t.now dir.old (row_width (get_or self.now.tables.now 17 0) * i) begin result dir.new × CellsBound result 1 }
+    {
+        let at = self.row_place(i);
+        let m = number(t, Refusal::Reference, domains(self.tables))?;
+        let d = first(t);
+        let cells = size_of(self.tables, d);
+        note(dir, at, cells);
+        note(dir, at + 1, begin);
+        let left = self.expressions(last(t, m), dir, i, at + 2)?;
+        Ok(Counted { left, cells })
+    }
 }
 
 // k functions of n, from function i on, whose cells begin at begin.
@@ -200,17 +197,16 @@ pub fn functions(
     requires { (k + i < 65536) × (get_or tb.now 17 0 ≤ 64) × (begin ≤ i * 4294967296) }
     ensures { FunctionsNoted tb.now n k i t.now dir.old begin result dir.new × CellsBound result k }
 {
-    if k == 0 {
-        return Ok(Counted {
-            left: t.len(),
-            cells: 0,
-        });
+    let context = Context {
+        tables: tb,
+        functions: n,
+    };
+    let mut left = t.len();
+    let mut cells = 0;
+    for j in i..i + k {
+        let one = context.function(last(t, left), dir, j, begin + cells)?;
+        left = one.left;
+        cells += one.cells;
     }
-    let one = function(t, tb, dir, n, i, row_place(tb, i), begin)?;
-    let u = last(t, one.left);
-    let others = functions(u, tb, dir, n, k - 1, i + 1, begin + one.cells)?;
-    Ok(Counted {
-        left: others.left,
-        cells: one.cells + others.cells,
-    })
+    Ok(Counted { left, cells })
 }

@@ -1,4 +1,4 @@
--- What a walk over a term is lent: it leaves the arrays in their places, as long as they were, and the store as it was; and what it answers.
+-- What a walk over a term is lent on its way to move k (document 01, "Moves, in order"): it leaves the arrays in their places, as long as they were, and the store as it was; and what it answers.
 use Rattle.std.specs.Prelude.{◌≡◌, List, ℕ, length}
 use Rattle.derivation.specs.declared.arrays.Arrays.{Arrays}
 

@@ -1,4 +1,5 @@
-// The arrays that a walk over a term reads and writes. They stand in a file of their own, since the clauses of lib.rt name them.
+// The arrays that a walk over a term reads and writes on its way to move k (document 01, "Moves, in order"). They are in a file of their own, since the
+// clauses of lib.rt name them.
 ghost use Rattle.std.specs.Prelude.{◌≤◌, length};
 
 #[derive(Drop)]
@@ -9,5 +10,5 @@ pub struct Arrays<'a> {
     pub path: &'a mut [u16],
     // Room for listing moves at parallels with a mask.
     pub acts: &'a mut [u32],
-    ghost few: { (length path.now ≤ 65535) × (length acts.now ≤ 131072) },
+    pub ghost few: { (length path.now ≤ 65535) × (length acts.now ≤ 131072) },
 }

@@ -1,4 +1,5 @@
 // The path of move k of a running term, found in one walk over the term (document 01, "Moves, in order").
+// Stays: that words are at most 65,535 is a clause of each function here, for the reason in successors (docs/DESIGN-PASS.md, "A struct for words").
 #![tactic(auto)]
 
 ghost use Rattle.std.specs.Prelude.{◌≡◌, ◌+◌, ◌-◌, ◌≤◌, ◌<◌, [], ◌∷◌, length};
@@ -9,24 +10,27 @@ ghost use Rattle.derivation.specs.Searching.{sides_end};
 ghost use Rattle.derivation.specs.Arms.{Decided, ActionDerived, TwoDerived, RightDerived, LeftDerived, ListedDerived, MaskedDerived, SidesDerived, BothDerived};
 
 use actions::{behind_action, code_at, in_set, join, mask_set};
-use arrays::Arrays;
 use code_numbers::{ACTION, CHOICE, DONE, GUARD, INTERNAL, PARALLEL, SEQUENCE, STAR};
 use expressions::eval_cond;
 use listing::{behind_mask, both_done, idle, list, skip};
+use paths::{BOTH_DONE, BOTH_MOVE, CHOOSE_LEFT, END, LEFT_MOVES, RIGHT_MOVES, ROUND};
 use scan::{behind, first, last};
-use searching::{BOTH, PASSED, RIGHT, locate};
+use searching::{BOTH, RIGHT, locate};
 
 mod arrays;
 mod searching;
+
+pub use arrays::Arrays;
+pub use searching::PASSED;
 
 // ── answers ──
 
 // An answer that says that there was no room. One below PASSED is the place in the path array where the path begins.
 // Stays: measured, an enum of the three takes 1.03 to 1.22 times the instructions, and frames of 304 bytes a level for 144
 // (docs/DESIGN-PASS.md, "Answers in one number").
-const FULL: usize = 2199023255552;
+pub const FULL: usize = 2199023255552;
 
-// What is left of k, and the words left behind a term without move k.
+// What is left of k, and the words left after a term without move k.
 pub fn passing(k: usize, left: usize) -> usize
     requires { (k < 131072) × (left ≤ 65535) }
     ensures { (result ≡ passed + answer left k) × (result < full) }
@@ -45,7 +49,8 @@ pub fn single(k: usize, left: usize, end: usize) -> usize
     passing(k - 1, left)
 }
 
-// Writes a decision in front of the path that begins at r.
+// Writes a decision before the path that begins at r.
+// Stays, here and in decide_right: c is the word that is written, so that an enum of the decisions would only be turned back into it.
 pub fn decide(c: u16, r: usize, path: &mut [u16]) -> usize
     requires { (r ≤ full) × (r < passed → r ≤ length path.old) }
     ensures { Decided (c ∷ []) r path.old path.new result }
@@ -61,7 +66,7 @@ pub fn decide(c: u16, r: usize, path: &mut [u16]) -> usize
     at
 }
 
-// Writes a decision that goes on on the right, and the left operand's size behind it.
+// Writes a decision that goes on on the right, and the left operand's size after it.
 pub fn decide_right(c: u16, n: u16, r: usize, path: &mut [u16]) -> usize
     requires { (r ≤ full) × (r < passed → r ≤ length path.old) }
     ensures { Decided (c ∷ n ∷ []) r path.old path.new result }
@@ -70,7 +75,7 @@ pub fn decide_right(c: u16, n: u16, r: usize, path: &mut [u16]) -> usize
     decide(c, q, path)
 }
 
-// The words of t that stand before its last words u.
+// How many words of t are before its last words u.
 pub fn size_before(t: &[u16], u: &[u16]) -> u16
     requires { (length t.now ≤ 65535) × (length u.now ≤ length t.now) }
     ensures { result ≡ length t.now - length u.now }
@@ -100,7 +105,7 @@ pub fn derive(s: &[u16], m: &[u16], k: usize, path: &mut [u16], acts: &mut [u32]
 }
 
 // The same over arrays that are lent one by one, as the part of a path array that is left free; and for every k that is a place in acts, since a side
-// of a parallel may have so many moves.
+// of a parallel may have as many moves as acts has places.
 #[cycle(deriving)]
 fn derive_lent(s: &[u16], store: &[u16], k: usize, path: &mut [u16], acts: &mut [u32]) -> usize
     requires { (length s.now ≤ 65535) × (k < 131072) × (length path.old ≤ 65535) × (length acts.old ≤ 131072) }
@@ -110,6 +115,8 @@ fn derive_lent(s: &[u16], store: &[u16], k: usize, path: &mut [u16], acts: &mut 
     arrays.walk(s, 0, k)
 }
 
+// Stays: t, x and k are three parameters of each walk, with the bound of k as a fact. Every call is handed another t, so that a struct of them would be
+// made anew at every level.
 impl Arrays<'_> {
     // The path of move k, of those that show below masks that hide the labels of x: so nothing need be listed where masks within one another leave one
     // side's moves only.
@@ -125,7 +132,7 @@ impl Arrays<'_> {
             INTERNAL => single(k, t.len(), self.path.len()),
             ACTION => derive_action(t, x, k, self.path.len()),
             SEQUENCE => self.derive_sequence(t, x, k),
-            CHOICE => self.derive_two(t, x, k, 0),
+            CHOICE => self.derive_two(t, x, k, CHOOSE_LEFT as u16),
             STAR => self.derive_star(t, x, k),
             PARALLEL => self.derive_parallel(t, x, k),
             GUARD => self.derive_guard(t, x, k),
@@ -154,8 +161,8 @@ impl Arrays<'_> {
         passing(a / 65536, skip(last(t, a % 65536)))
     }
 
-    // The path in the first of two terms, or in the second for what the first's moves leave of k. In front stands c for the first, c + 1 for the
-    // second: of a choice these are 0 and 1, of a parallel 1 and 2.
+    // The path in the first of two terms, or in the second for what the first's moves leave of k. Before it is written c for the first, c + 1 for
+    // the second: of a choice these are 0 and 1, of a parallel 1 and 2.
     // Stays: c is the word that is written, so that an enum of the two forms would only be turned back into it.
     #[cycle(deriving)]
     fn derive_two(&mut self, t: &[u16], x: u64, k: usize, c: u16) -> usize
@@ -184,10 +191,10 @@ impl Arrays<'_> {
         ensures derived { Over (DerivedShown x (24 ∷ t.now)) k self.old self.new result }
     {
         if k == 0 {
-            return decide(0, self.path.len(), self.path);
+            return decide(END as u16, self.path.len(), self.path);
         }
         let r = self.walk(t, x, k - 1);
-        decide(1, r, self.path)
+        decide(ROUND as u16, r, self.path)
     }
 
     // Where the mask hides no more than those above, the moves of both sides that show are those of a choice: none is made by both together.
@@ -200,11 +207,15 @@ impl Arrays<'_> {
         let t = behind_mask(d);
         if both_done(t) {
             let v = behind(behind(t));
-            return decide(0, single(k, v.len(), self.path.len()), self.path);
+            return decide(
+                BOTH_DONE as u16,
+                single(k, v.len(), self.path.len()),
+                self.path,
+            );
         }
         let mask = mask_set(d);
         if join(x, mask) == x {
-            return self.derive_two(t, x, k, 1);
+            return self.derive_two(t, x, k, LEFT_MOVES as u16);
         }
         self.derive_masked(t, x, mask, k)
     }
@@ -234,7 +245,7 @@ impl Arrays<'_> {
     {
         let u = last(t, skip(t));
         let r = self.walk(u, y, k);
-        decide_right(2, size_before(t, u), r, self.path)
+        decide_right(RIGHT_MOVES as u16, size_before(t, u), r, self.path)
     }
 
     // The path of the left side, which moves alone.
@@ -247,7 +258,7 @@ impl Arrays<'_> {
     {
         let l = self.walk(t, y, k);
         if l < PASSED {
-            return decide(1, l, self.path);
+            return decide(LEFT_MOVES as u16, l, self.path);
         }
         if FULL <= l {
             return FULL;
@@ -264,13 +275,13 @@ impl Arrays<'_> {
         ensures derived { Over (ListedDerived x mask t.now) k self.old self.new result }
     {
         let l = list(t, self.store, self.acts);
-        if PASSED <= l {
+        if listing::FULL <= l {
             return FULL;
         }
         let n = l / 65536;
         let u = last(t, l % 65536);
         let r = list(u, self.store, &mut self.acts[n..]);
-        if PASSED <= r {
+        if listing::FULL <= r {
             return FULL;
         }
         let (left, rest) = self.acts.split_at(n);
@@ -294,20 +305,20 @@ impl Arrays<'_> {
             if PASSED <= l {
                 return FULL;
             }
-            return decide(1, l, self.path);
+            return decide(LEFT_MOVES as u16, l, self.path);
         }
         if z < BOTH {
             let r = self.walk(u, 0, z - RIGHT);
             if PASSED <= r {
                 return FULL;
             }
-            return decide_right(2, size_before(t, u), r, self.path);
+            return decide_right(RIGHT_MOVES as u16, size_before(t, u), r, self.path);
         }
         let p = z - BOTH;
         self.derive_both(t, u, p / 131072, p % 131072)
     }
 
-    // The right side's path at the end, the left's in front of it.
+    // The right side's path at the end, the left's before it.
     #[cycle(deriving)]
     fn derive_both(&mut self, t: &[u16], u: &[u16], i: usize, j: usize) -> usize
         requires { (length t.now ≤ 65535) × (length u.now ≤ length t.now) × (i < 131072) × (j < 131072) }
@@ -322,7 +333,7 @@ impl Arrays<'_> {
         if PASSED <= p {
             return FULL;
         }
-        decide_right(3, size_before(t, u), p, self.path)
+        decide_right(BOTH_MOVE as u16, size_before(t, u), p, self.path)
     }
 
     // The term's path where the condition holds, else none.

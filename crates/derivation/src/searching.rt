@@ -5,7 +5,7 @@ ghost use Rattle.derivation.specs.Searching.{nth_place, nth_pair, LocatedBy};
 
 use actions::{in_set, join};
 
-// From here on an answer says how much of k is left. Listing answers with it that there was no room.
+// From here on an answer says how much of k is left.
 // Stays: measured with an enum for the sides, together with the answers of the walk (FULL in lib.rt).
 pub const PASSED: usize = 1099511627776;
 
@@ -52,10 +52,11 @@ fn seek_pair(x: u64, mask: u64, left: &[u32], right: &[u32], k: usize) -> usize
     PASSED + due
 }
 
-// The first number that tells a place on the right.
+// The first number that stands for a place on the right.
+// Stays, as does BOTH: measured with an enum for the sides, as PASSED.
 pub const RIGHT: usize = 131072;
 
-// The first number that tells a pair of places.
+// The first number that stands for a pair of places.
 pub const BOTH: usize = 262144;
 
 // The sides of move k, of those that show below masks with the labels of x, of a parallel with these numbers of moves on either side.

@@ -1,28 +1,39 @@
--- What is told of functions' row, by what the row was made of.
-use mathlib.Core.Path.{◌≡◌, sym, subst}
+-- What was admitted and given, said of the struct that it was put into (document 01, "Operations": each call admits and checks everything itself).
+use mathlib.Core.Path.{◌≡◌, sym, ◌∙◌, subst}
 use mathlib.Core.List.{List}
-use mathlib.Core.Option.{Option as Maybe}
-use Prim.Native.Nat.{ℕ}
-use Rattle.eb3.specs.Terms.{Term, VisibleAction}
-use Rattle.eb3.specs.Expressions.{Reading}
-use Rattle.eb3.specs.Attributes.{Attributes}
-use Rattle.eb3.specs.RuleSets.{RuleSet}
-use Rattle.cells.specs.Filling.{Filling}
-use Rattle.cells.specs.Preparing.{Prepared}
-use Rattle.steps.specs.Storing.{Ruled}
-use Rattle.given.specs.Giving.{Described}
+use Prim.Native.Nat.{ℕ, ◌/◌, ◌≤◌}
+use lib.ListN.{length, take, drop, get_or}
+use Rattle.std.specs.Prelude.{Result}
+use Rattle.eb3.specs.Blocks.{stream}
+use Rattle.weights.specs.declared.Limits.{Limits}
+use Rattle.admission.specs.Knowing.{Known}
+use Rattle.mains.specs.declared.admitted.Admitted.{Admitted}
+use Rattle.given.specs.declared.giving.Given.{Given}
+use Rattle.given.specs.Giving.{Described, GivenDone, given_in, found_term}
+use Rattle.given.specs.GivingLaws.{Found, told_found, described_few}
+use Rattle.engine.specs.Describing.{DescribedBy}
+use Rattle.refusals.specs.declared.Refusal.{Refusal}
 
-module _ (D' D : List ℕ) (e : D' ≡ D) where
-  module _ (c' c : ℕ) (ec : c' ≡ c) where
-    pub ruled_made : (R : RuleSet) (t T : List ℕ) (w n : ℕ) → Ruled R t T D w n c → Ruled R t T D' w n c'
-    ruled_made R t T w n h = subst (λ x. Ruled R t T D' w n x) (sym ec) (subst (λ x. Ruled R t T x w n c) (sym e) h)
+pub known_made : {rules T T' D D' : List ℕ} {l : Limits} → T' ≡ T → D' ≡ D → Known rules T D l → Known rules T' D' l
+known_made {rules} {T} {T'} {D} {D'} {l} eT eD k = subst (λ x. Known rules x D' l) (sym eT) (subst (λ x. Known rules T x l) (sym eD) k)
 
-    pub prepared_made : (M M' : List ℕ) (w n : ℕ) → Prepared D' M M' w n c' → Prepared D M M' w n c
-    prepared_made M M' w n h = subst (λ x. Prepared D M M' w n x) ec (subst (λ x. Prepared x M M' w n c') e h)
+module _ {rules term words₀ : List ℕ} {n : ℕ} {a : Result Given Refusal} {words' T D ws : List ℕ} (d : GivenDone rules term words₀ n a words' T D ws) {c g : ℕ} (e : a ≡ found_term c g) where
+  pub found : Found (given_in rules term) c g
+  found = told_found rules term words₀ n a words' T D ws d c g e
 
-  module _ (t' t : List ℕ) (et : t' ≡ t) where
-    pub filling_made : (A : Attributes) (o : Maybe VisibleAction) (b : Reading) (M : List ℕ) (w j n : ℕ) → Filling A o b t D M w j n → Filling A o b t' D' M w j n
-    filling_made A o b M w j n h = subst (λ x. Filling A o b t' x M w j n) (sym e) (subst (λ x. Filling A o b x D M w j n) (sym et) h)
+  module _ {s : List ℕ} (es : s ≡ take (length term / 2) ws) where
+    described : Described found.rule_set found.running_term (drop 2 (stream rules)) T D s
+    described = subst (λ u. Described found.rule_set found.running_term (drop 2 (stream rules)) T D u) (sym es) (d.described found.rule_set found.running_term found.given_so)
 
-    pub described_made : (R : RuleSet) (E : Term) (T s : List ℕ) → Described R E t T D s → Described R E t' T D' s
-    described_made R E T s h = subst (λ x. Described R E t' T x s) (sym e) (subst (λ x. Described R E x T D s) (sym et) h)
+    pub given_few : (length s ≤ 65535) × (c ≤ 1024) × (get_or T 17 0 ≤ 64) × (get_or T 210 0 ≤ 16)
+    given_few = described_few found.rule_set found.running_term _ T D s described c found.cells_are
+
+    pub given_made : {made : Admitted} → made.functions.words.now ≡ drop 2 (stream rules) → made.tables.now ≡ T → made.functions.directory.now ≡ D → made.functions.cells ≡ c
+        → DescribedBy made found.rule_set found.running_term s
+    given_made {made} et eT eD ec = record {
+      described =
+          subst (λ u. Described found.rule_set found.running_term u made.tables.now made.functions.directory.now s) (sym et)
+          (subst (λ x. Described found.rule_set found.running_term (drop 2 (stream rules)) x made.functions.directory.now s) (sym eT)
+          (subst (λ x. Described found.rule_set found.running_term (drop 2 (stream rules)) T x s) (sym eD) described));
+      cells_are = ec ∙ found.cells_are;
+    }

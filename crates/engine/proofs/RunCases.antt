@@ -1,4 +1,4 @@
--- A case for each way that Run returns.
+-- A case for each way that Run returns (document 01, "Operations": Run).
 use mathlib.Core.Path.{◌≡◌, ap, sym, ◌∙◌, subst}
 use mathlib.Core.List.{List}
 use Prim.Native.Nat.{ℕ, ◌≤◌, ◌<◌}
@@ -9,7 +9,7 @@ use Rattle.eb3.specs.Blocks.{stream, open_blocks}
 use Rattle.eb3.specs.Bytes.{word_count}
 use Rattle.eb3.specs.Memory.{cell_room}
 use Rattle.eb3.specs.Admission.{ended, within_limits, admission}
-use Rattle.eb3.specs.Answers.{and_then}
+use Rattle.eb3.specs.Answers.{refused, and_then}
 use Rattle.eb3.specs.Operations.{main_reach, cells_needed}
 use Rattle.declarations.specs.Directory.{Directory}
 use Rattle.mains.specs.Mains.{RunsMain}
@@ -21,12 +21,12 @@ use Rattle.engine.specs.RunLaws.{run_refused, run_short_term, run_short_memory, 
 use Rattle.std.specs.Prelude.{Ok, Err}
 use Rattle.refusals.specs.declared.Refusal.{Refusal}
 use Rattle.refusals.specs.declared.Refusal.TheVariants.{Space}
-use Rattle.refusals.specs.Numbers.{RefusedBy}
+use Rattle.refusals.specs.Numbers.{number}
 
 module _ (rules numbers term memory spare cells : List ℕ) where
-  pub unopened_run : (k : Refusal) → RefusedBy k (open_blocks rules) → RunDone rules numbers term memory spare cells (Err k) term memory spare
+  pub unopened_run : (k : Refusal) → open_blocks rules ≡ refused (number k) → RunDone rules numbers term memory spare cells (Err k) term memory spare
   unfolding admission and_then
-  unopened_run k h = run_refused rules numbers term memory spare cells k (record { code = h.code; named = h.named; is = ap (λ a. and_then (and_then a λ o. ended (read_rules o.edition o.words)) within_limits) h.is })
+  unopened_run k e = run_refused rules numbers term memory spare cells k (ap (λ a. and_then (and_then a λ o. ended (read_rules o.edition o.words)) within_limits) e)
 
   module _ (T D : List ℕ) (l : Limits) (k : Known rules T D l) (g c : ℕ) (eg : g ≡ l.reach) (ec : c ≡ l.cells) where
     reach_is : g ≡ main_reach k.rule_set

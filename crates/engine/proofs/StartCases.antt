@@ -1,4 +1,4 @@
--- A case for each way that Start returns.
+-- A case for each way that Start returns (document 01, "Operations": Start).
 use mathlib.Core.Path.{◌≡◌, ap, sym, ◌∙◌, subst}
 use mathlib.Core.List.{List}
 use Prim.Native.Nat.{ℕ, ◌≤◌, ◌<◌}
@@ -13,7 +13,7 @@ use Rattle.eb3.specs.Spelling.{words}
 use Rattle.eb3.specs.Bytes.{written}
 use Rattle.eb3.specs.Unfolding.{unfold_main}
 use Rattle.eb3.specs.Admission.{ended, within_limits, admission}
-use Rattle.eb3.specs.Answers.{and_then}
+use Rattle.eb3.specs.Answers.{refused, and_then}
 use Rattle.eb3.proofs.Laws.Sizes.{size_below_reach}
 use Rattle.eb3.proofs.Laws.Spelling.{words_length}
 use Rattle.eb3.proofs.Laws.MainRunning.{main_running}
@@ -30,11 +30,11 @@ use Rattle.engine.specs.StartLaws.{start_refused, start_short_term, start_short_
 use Rattle.std.specs.Prelude.{Ok, Err}
 use Rattle.refusals.specs.declared.Refusal.{Refusal}
 use Rattle.refusals.specs.declared.Refusal.TheVariants.{Space}
-use Rattle.refusals.specs.Numbers.{RefusedBy}
+use Rattle.refusals.specs.Numbers.{number}
 
-pub unopened_start : (rules term memory : List ℕ) (k : Refusal) → RefusedBy k (open_blocks rules) → StartDone rules term memory (Err k) term memory
+pub unopened_start : (rules term memory : List ℕ) (k : Refusal) → open_blocks rules ≡ refused (number k) → StartDone rules term memory (Err k) term memory
 unfolding admission and_then
-unopened_start rules term memory k h = start_refused rules term memory k (record { code = h.code; named = h.named; is = ap (λ a. and_then (and_then a λ o. ended (read_rules o.edition o.words)) within_limits) h.is })
+unopened_start rules term memory k e = start_refused rules term memory k (ap (λ a. and_then (and_then a λ o. ended (read_rules o.edition o.words)) within_limits) e)
 
 module _ (rules T D : List ℕ) (l : Limits) (k : Known rules T D l) where
   reach_is : l.reach ≡ main_reach k.rule_set

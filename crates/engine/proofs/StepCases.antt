@@ -37,12 +37,13 @@ use Rattle.steps.specs.Storing.{Ruled, Stored, StoreRenewed}
 use Rattle.steps.specs.Judging.{fits, whole, moves_judged}
 use Rattle.steps.specs.Taking.{taken_as, built_over, SuccessorFits, Took}
 use Rattle.engine.specs.declared.stepping.Step.{Step}
+use Rattle.mains.specs.declared.admitted.Admitted.{Admitted}
 use Rattle.given.specs.Giving.{Described}
-use Rattle.given.specs.GivingLaws.{described_ruled}
+use Rattle.engine.specs.Describing.{DescribedBy, described_by_ruled}
 use Rattle.given.specs.declared.asking.Wanted.{Wanted}
-use Rattle.given.specs.declared.asking.Wanted.TheVariants.{Number as Number_of, Action as Action_of}
+use Rattle.given.specs.declared.asking.Wanted.TheVariants.{Action as Action_of}
 use Rattle.given.specs.Asking.{Chooses}
-use Rattle.engine.specs.Stepping.{move_at, told, moved_as, Done, moved_from}
+use Rattle.engine.specs.Stepping.{move_at, told, moved_as, Done, moved_from, SteppedFrom, SteppedAt}
 use Rattle.std.specs.Prelude.{Ok, Err, Result, Some, None, Option}
 use Rattle.refusals.specs.declared.Refusal.{Refusal}
 use Rattle.refusals.specs.declared.Refusal.TheVariants.{NotOffered}
@@ -51,23 +52,23 @@ use Rattle.refusals.specs.Numbers.{refusal}
 -- ── the answer ──
 
 pub told_internal : (code y n : ℕ) → code ≡ 0 → y ≡ n → (ρ : Action) → Small ρ → code ≡ action_code ρ
-    → ◌≡◌ {A = Step} (record { size = y; visible = 0; label = 0; arguments = 0; first = 0; second = 0 }) (told ρ n)
+    → ◌≡◌ {A = Step} (record { size = y; action = None }) (told ρ n)
 unfolding told
-told_internal code y n z e internal h f = λ i. record { size = e i; visible = 0; label = 0; arguments = 0; first = 0; second = 0 }
+told_internal code y n z e internal h f = λ i. record { size = e i; action = None }
 told_internal code y n z e (visible a) h f = absurd (visible_positive a (sym f ∙ z))
 
--- By what a number other than 0 tells of an action.
+-- By what a number other than 0 says of an action.
 pub told_visible : (code y n l k x₀ x₁ : ℕ) → (code ≡ 0 → ⊥) → y ≡ n
     → ((a : VisibleAction) → Small (visible a) → code ≡ action_code (visible a) → l ≡ a.label)
     → ((a : VisibleAction) → Small (visible a) → code ≡ action_code (visible a) → k ≡ length a.arguments)
     → ((a : VisibleAction) → Small (visible a) → code ≡ action_code (visible a) → x₀ ≡ get_or a.arguments 0 0)
     → ((a : VisibleAction) → Small (visible a) → code ≡ action_code (visible a) → x₁ ≡ get_or a.arguments 1 0)
     → (ρ : Action) → Small ρ → code ≡ action_code ρ
-    → ◌≡◌ {A = Step} (record { size = y; visible = 1; label = l; arguments = k; first = x₀; second = x₁ }) (told ρ n)
+    → ◌≡◌ {A = Step} (record { size = y; action = Some (record { label = l; arguments = k; first = x₀; second = x₁ }) }) (told ρ n)
 unfolding told action_code
 told_visible code y n l k x₀ x₁ z e el ek e₀ e₁ internal h f = absurd (z f)
 told_visible code y n l k x₀ x₁ z e el ek e₀ e₁ (visible a) h f =
-    λ i. record { size = e i; visible = 1; label = el a h f i; arguments = ek a h f i; first = e₀ a h f i; second = e₁ a h f i }
+    λ i. record { size = e i; action = Some (record { label = el a h f i; arguments = ek a h f i; first = e₀ a h f i; second = e₁ a h f i }) }
 
 -- ── the wanted move ──
 
@@ -90,11 +91,6 @@ module _ (s M : List ℕ) (wanted : Wanted) where
       go (ρ, small, ex, ec) =
           let xs : List Move = moves (holding M) E in
           at_found xs (first_with ρ xs) r (first P E w ρ small ex) ∙ ap (λ f. f xs) (sym ec)
-
-  pub number_found : (k : ℕ) → wanted ≡ Number_of k → Finds (Some k)
-  number_found k ew P E choose w h =
-      let e : choose ≡ (λ xs. get_elem? xs k) = subst (λ x. Chooses x choose) ew h in
-      ap (λ f. f (moves (holding M) E)) (sym e)
 
 -- ── the step ──
 
@@ -131,11 +127,6 @@ made a z = Some (record { action = a; size = z })
 
 abbrev pub MoveTaken : List ℕ → List ℕ → ℕ → List ℕ → List ℕ → Option Taken → Type 0
 MoveTaken s M k B B' r = (P : Scope) (E : Term) → Whole s P E → size 1 E ≤ 8192 → SuccessorFits (get_elem? (moves (holding M) E) k) B → Took (get_elem? (moves (holding M) E) k) B B' r
-
--- What a step from a store answers and leaves: of the memory semantics' move k at the cells that the store holds.
-abbrev pub SteppedFrom : List ℕ → List ℕ → List ℕ → List ℕ → List ℕ → ℕ → ℕ → List ℕ → List ℕ → Result Step Refusal → List ℕ → List ℕ → Type 0
-SteppedFrom t T D s M c k B C r B' C' = (R : RuleSet) (E : Term) (cells : List Value) → Described R E t T D s → c ≡ cells_needed R → Stored R cells M → reach 1 E ≤ word_count B → c ≤ cell_room C
-    → Done (writing B C (or_refused Refusal.not_offered (get_elem? (moves ((Sem_M (attributes R)).satisfies cells) E) k)) (moved_from R cells B C)) r B' C'
 
 module _ (R : RuleSet) (E : Term) (cells : List Value) (t T D s M : List ℕ) (d : Described R E t T D s) (stored : Stored R cells M) (k : ℕ) (B B' C : List ℕ) (r : Option Taken) where
   -- What was taken, at the move that there is or is not.
@@ -179,17 +170,20 @@ module _ (R : RuleSet) (E : Term) (cells : List Value) (t T D s M : List ℕ) (d
         memory_after = saved.right room (omega arith) ∙ ap (λ u. written u C) (held_words M' after c (st.counted ∙ sym ec) room st.holds);
       }
 
-pub step_refused : (t T D s M : List ℕ) (c k : ℕ) (B B' C : List ℕ) (r : Option Taken) → MoveTaken s M k B B' r → r ≡ None → SteppedFrom t T D s M c k B C (Err NotOffered) B' C
-step_refused t T D s M c k B B' C r taken e R E cells d ec stored h g =
-    by_store R E cells t T D s M d stored k B B' C r (Err NotOffered) C
-    (refused_so R E cells t T D s M d stored k B B' C r (get_elem? (moves (holding M) E) k) (taken_so R E cells t T D s M d stored k B B' C r taken h) e)
+pub step_refused : (rules : Admitted) (s M : List ℕ) (k : ℕ) (B B' C : List ℕ) (r : Option Taken) → MoveTaken s M k B B' r → r ≡ None → SteppedFrom rules s M k B C (Err NotOffered) B' C
+step_refused rules s M k B B' C r taken e R E cells by stored h g =
+    let d = by.described in
+    by_store R E cells _ _ _ s M d stored k B B' C r (Err NotOffered) C
+    (refused_so R E cells _ _ _ s M d stored k B B' C r (get_elem? (moves (holding M) E) k) (taken_so R E cells _ _ _ s M d stored k B B' C r taken h) e)
 
-pub step_made : (t T D s M M' : List ℕ) (c k : ℕ) (B B' C C' : List ℕ) (r : Option Taken) (w n a z : ℕ) (y : Step) → MoveTaken s M k B B' r → r ≡ made a z → w ≡ 3 + get_or T 17 0 → n ≡ get_or T 210 0
-    → length M' ≡ length M → StoreRenewed t D M M' w n c a → Saved M' C C' c → ((ρ : Action) → Small ρ → a ≡ action_code ρ → y ≡ told ρ (z % 4294967296)) → SteppedFrom t T D s M c k B C (Ok y) B' C'
-step_made t T D s M M' c k B B' C C' r w n a z y taken e ew en l renewed saved tells R E cells d ec stored h g =
-    by_store R E cells t T D s M d stored k B B' C r (Ok y) C'
-    (made_so R E cells t T D s M d stored k B B' C r M' C' w n c a z y (described_ruled R E t T D s d w n c ew en ec) g e l renewed saved tells (get_elem? (moves (holding M) E) k) refl
-    (taken_so R E cells t T D s M d stored k B B' C r taken h))
+pub step_made : (rules : Admitted) (s M M' : List ℕ) (k : ℕ) (B B' C C' : List ℕ) (r : Option Taken) (a z : ℕ) (y : Step) → MoveTaken s M k B B' r → r ≡ made a z
+    → length M' ≡ length M → StoreRenewed rules.functions.words.now rules.functions.directory.now M M' rules.functions.width rules.functions.count rules.functions.cells a → Saved M' C C' rules.functions.cells
+    → ((ρ : Action) → Small ρ → a ≡ action_code ρ → y ≡ told ρ (z % 4294967296)) → SteppedFrom rules s M k B C (Ok y) B' C'
+step_made rules s M M' k B B' C C' r a z y taken e l renewed saved tells R E cells by stored h g =
+    let d = by.described in
+    by_store R E cells _ _ _ s M d stored k B B' C r (Ok y) C'
+    (made_so R E cells _ _ _ s M d stored k B B' C r M' C' _ _ _ a z y (described_by_ruled rules R E s by) g e l renewed saved tells (get_elem? (moves (holding M) E) k) refl
+    (taken_so R E cells _ _ _ s M d stored k B B' C r taken h))
 
 -- ── from a memory ──
 
@@ -203,35 +197,31 @@ module _ (R : RuleSet) (memory B C : List ℕ) where
   }
 
 -- From the store that was loaded: by the move that was wanted there, or where none is.
-module _ (t T D s M memory : List ℕ) (w n c : ℕ) (x : Wanted) (q : Option ℕ) (ew : w ≡ 3 + get_or T 17 0) (en : n ≡ get_or T 210 0)
-    (loaded : (R : RuleSet) (t T : List ℕ) → Ruled R t T D w n c → c ≤ cell_room memory → Stored R (cells_given R memory) M)
+module _ (rules : Admitted) (s M memory : List ℕ) (x : Wanted) (q : Option ℕ)
+    (loaded : (R : RuleSet) (t T : List ℕ) → Ruled R t T rules.functions.directory.now rules.functions.width rules.functions.count rules.functions.cells → rules.functions.cells ≤ cell_room memory → Stored R (cells_given R memory) M)
     (wanted : (P : Scope) (E : Term) (choose : List Move → Maybe Move) → Whole s P E → Chooses x choose → move_at (moves (holding M) E) q ≡ choose (moves (holding M) E))
   where
-    -- What a step answers and leaves, at the listed moves of the cells of the memory.
-    abbrev pub SteppedAt : List ℕ → List ℕ → Result Step Refusal → List ℕ → List ℕ → Type 0
-    SteppedAt B C r B' C' = (R : RuleSet) (E : Term) (choose : List Move → Maybe Move) → Described R E t T D s → c ≡ cells_needed R → c ≤ cell_room memory → reach 1 E ≤ word_count B → c ≤ cell_room C → Chooses x choose
-        → Done (writing B C (or_refused Refusal.not_offered (choose (listed R E memory))) (moved R memory B C)) r B' C'
-
-    chosen_move : (R : RuleSet) (E : Term) (choose : List Move → Maybe Move) → Described R E t T D s → c ≡ cells_needed R → c ≤ cell_room memory → Chooses x choose
+    chosen_move : (R : RuleSet) (E : Term) (choose : List Move → Maybe Move) → DescribedBy rules R E s → rules.functions.cells ≤ cell_room memory → Chooses x choose
         → Stored R (cells_given R memory) M × (move_at (listed R E memory) q ≡ choose (listed R E memory))
-    chosen_move R E choose d ec enough asks =
+    chosen_move R E choose by enough asks =
+        let d = by.described in
         let cells : List Value = cells_given R memory in
-        let st : Stored R cells M = loaded R t T (described_ruled R E t T D s d w n c ew en ec) enough in
+        let st : Stored R cells M = loaded R _ _ (described_by_ruled rules R E s by) enough in
         let judged : moves (holding M) E ≡ listed R E memory = moves_judged R d.form E d.term.running.form cells M st in
         (st, subst (λ xs. move_at xs q ≡ choose xs) judged (wanted (guard_scope (attributes R) 0) E choose (whole R d.form E d.term.running s d.term.words_are) asks))
 
-    pub step_loaded : (k : ℕ) (B C B' C' : List ℕ) (r : Result Step Refusal) → q ≡ Some k → SteppedFrom t T D s M c k B C r B' C' → SteppedAt B C r B' C'
-    step_loaded k B C B' C' r eq stepped R E choose d ec enough h g asks =
-        let m = chosen_move R E choose d ec enough asks in
+    pub step_loaded : (k : ℕ) (B C B' C' : List ℕ) (r : Result Step Refusal) → q ≡ Some k → SteppedFrom rules s M k B C r B' C' → SteppedAt rules s memory x B C r B' C'
+    step_loaded k B C B' C' r eq stepped R E choose by enough h g asks =
+        let m = chosen_move R E choose by enough asks in
         let cells : List Value = cells_given R memory in
         let o : get_elem? (listed R E memory) k ≡ choose (listed R E memory) = ap (move_at (listed R E memory)) (sym eq) ∙ m.1 in
-        let v : 1 ≡ R.edition.width = sym (width_is_1 d.form) in
+        let v : 1 ≡ R.edition.width = sym (width_is_1 by.described.form) in
         subst (λ u. Done (writing B C (or_refused Refusal.not_offered (choose (listed R E memory))) (moved_wide R memory B C u)) r B' C') v
-        (subst (λ p. Done (writing B C (or_refused Refusal.not_offered p) (moved_from R cells B C)) r B' C') o (stepped R E cells d ec m.0 h g))
+        (subst (λ p. Done (writing B C (or_refused Refusal.not_offered p) (moved_from R cells B C)) r B' C') o (stepped R E cells by m.0 h g))
 
-    pub step_unwanted : (B C : List ℕ) → q ≡ None → SteppedAt B C (Err NotOffered) B C
+    pub step_unwanted : (B C : List ℕ) → q ≡ None → SteppedAt rules s memory x B C (Err NotOffered) B C
     unfolding moved_as refusal
-    step_unwanted B C eq R E choose d ec enough h g asks =
-        let m = chosen_move R E choose d ec enough asks in
+    step_unwanted B C eq R E choose by enough h g asks =
+        let m = chosen_move R E choose by enough asks in
         let o : none ≡ choose (listed R E memory) = ap (move_at (listed R E memory)) (sym eq) ∙ m.1 in
         subst (λ p. Done (writing B C (or_refused Refusal.not_offered p) (moved R memory B C)) (Err NotOffered) B C) o (record { answer = refl; term_after = refl; memory_after = refl })

@@ -15,7 +15,7 @@ use Rattle.eb3.specs.Operations.{cells_needed, memory_fits, term_in, listed, cou
 use Rattle.given.specs.Giving.{given_in}
 use Rattle.refusals.specs.declared.Refusal.{Refusal}
 use Rattle.refusals.specs.declared.Refusal.TheVariants.{Space}
-use Rattle.refusals.specs.Numbers.{refusal, RefusedBy}
+use Rattle.refusals.specs.Numbers.{number, refusal, refusal_number}
 
 -- The number of moves, or the refusal of this number.
 unfoldable pub counted_as : Answer ℕ → Result ℕ Refusal
@@ -41,9 +41,9 @@ module _ (rules term memory : List ℕ) where
   unfolding count
   by_given = by_admitted (admission rules)
 
-  pub count_refused : (k : Refusal) → RefusedBy k (given_in rules term) → Err k ≡ counted_as (count rules term memory)
+  pub count_refused : (k : Refusal) → given_in rules term ≡ refused (number k) → Err k ≡ counted_as (count rules term memory)
   unfolding counted_as and_then
-  count_refused k h = ap Err h.named ∙ sym (ap counted_as (by_given ∙ ap (λ a. and_then a counted_from) h.is))
+  count_refused k e = ap Err (sym (refusal_number k)) ∙ sym (ap counted_as (by_given ∙ ap (λ a. and_then a counted_from) e))
 
   module _ (R : RuleSet) (E : Term) (e : given_in rules term ≡ answered (R, E)) where
     known_so : count rules term memory ≡ counted_from (R, E)

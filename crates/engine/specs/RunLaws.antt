@@ -10,14 +10,14 @@ use Rattle.eb3.specs.Bytes.{word_count}
 use Rattle.eb3.specs.Memory.{cell_room}
 use Rattle.eb3.specs.Reading.{pick}
 use Rattle.eb3.specs.Admission.{admission}
-use Rattle.eb3.specs.Answers.{answered, Ran as Answer_ran, Written, unwritten}
+use Rattle.eb3.specs.Answers.{refused, answered, Ran as Answer_ran, Written, unwritten}
 use Rattle.eb3.specs.Operations.{cells_needed, main_reach, term_fits, memory_fits, writing, ran, run, ScratchAfter}
 use Rattle.mains.specs.Mains.{RanRight}
 use Rattle.mains.specs.declared.Totals.{Totals}
 use Rattle.engine.specs.Running.{ran_as, RunDone}
 use Rattle.refusals.specs.declared.Refusal.{Refusal}
 use Rattle.refusals.specs.declared.Refusal.TheVariants.{Space}
-use Rattle.refusals.specs.Numbers.{refusal, RefusedBy}
+use Rattle.refusals.specs.Numbers.{number, refusal, refusal_number}
 
 module _ (rules numbers term memory spare_term spare_memory : List ℕ) where
   abbrev Leaves : Result Totals Refusal → List ℕ → List ℕ → List ℕ → Type 0
@@ -35,9 +35,9 @@ module _ (rules numbers term memory spare_term spare_memory : List ℕ) where
   abbrev run_from : RuleSet → Written Answer_ran
   run_from R = pick ((term_fits (main_reach R) term && memory_fits R memory) && (term_fits (main_reach R) spare_term && memory_fits R spare_memory)) (ran numbers term memory R) (unwritten term memory Refusal.space)
 
-  pub run_refused : (k : Refusal) → RefusedBy k (admission rules) → Leaves (Err k) term memory spare_term
+  pub run_refused : (k : Refusal) → admission rules ≡ refused (number k) → Leaves (Err k) term memory spare_term
   unfolding run ran_as
-  run_refused k h = by_whole (unwritten term memory h.code) (Err k) term memory spare_term (ap (λ a. writing term memory a run_from) h.is) (ap Err h.named) refl refl refl
+  run_refused k e = by_whole (unwritten term memory (number k)) (Err k) term memory spare_term (ap (λ a. writing term memory a run_from) e) (ap Err (sym (refusal_number k))) refl refl refl
 
   module _ (R : RuleSet) (e : admission rules ≡ answered R) where
     by_room : (a b c d : Bool) → term_fits (main_reach R) term ≡ a → memory_fits R memory ≡ b → term_fits (main_reach R) spare_term ≡ c → memory_fits R spare_memory ≡ d

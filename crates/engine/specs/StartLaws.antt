@@ -14,12 +14,12 @@ use Rattle.eb3.specs.Bytes.{written, word_count}
 use Rattle.eb3.specs.Memory.{cell_room, memory_words}
 use Rattle.eb3.specs.Reading.{pick}
 use Rattle.eb3.specs.Admission.{admission}
-use Rattle.eb3.specs.Answers.{answered, Written, unwritten}
+use Rattle.eb3.specs.Answers.{refused, answered, Written, unwritten}
 use Rattle.eb3.specs.Operations.{cells_needed, main_reach, term_fits, memory_fits, writing, started, start}
 use Rattle.engine.specs.Starting.{started_as, StartDone}
 use Rattle.refusals.specs.declared.Refusal.{Refusal}
 use Rattle.refusals.specs.declared.Refusal.TheVariants.{Space}
-use Rattle.refusals.specs.Numbers.{refusal, RefusedBy}
+use Rattle.refusals.specs.Numbers.{number, refusal, refusal_number}
 
 module _ (rules term memory : List ℕ) where
   by_whole : (w : Written ℕ) (r : Result ℕ Refusal) (term' memory' : List ℕ) → start rules term memory ≡ w → r ≡ started_as w.answer → term' ≡ w.term → memory' ≡ w.memory → StartDone rules term memory r term' memory'
@@ -29,9 +29,9 @@ module _ (rules term memory : List ℕ) where
     memory_after = m ∙ ap (λ (v : Written ℕ). v.memory) (sym e);
   }
 
-  pub start_refused : (k : Refusal) → RefusedBy k (admission rules) → StartDone rules term memory (Err k) term memory
+  pub start_refused : (k : Refusal) → admission rules ≡ refused (number k) → StartDone rules term memory (Err k) term memory
   unfolding start started_as
-  start_refused k h = by_whole (unwritten term memory h.code) (Err k) term memory (ap (λ a. writing term memory a λ R. pick (term_fits (main_reach R) term && memory_fits R memory) (started term memory R) (unwritten term memory Refusal.space)) h.is) (ap Err h.named) refl refl
+  start_refused k e = by_whole (unwritten term memory (number k)) (Err k) term memory (ap (λ a. writing term memory a λ R. pick (term_fits (main_reach R) term && memory_fits R memory) (started term memory R) (unwritten term memory Refusal.space)) e) (ap Err (sym (refusal_number k))) refl refl
 
   module _ (R : RuleSet) (e : admission rules ≡ answered R) where
     by_room : (b : Bool) → (term_fits (main_reach R) term && memory_fits R memory) ≡ b → start rules term memory ≡ pick b (started term memory R) (unwritten term memory Refusal.space)

@@ -35,7 +35,7 @@ use Rattle.given.specs.Asking.{asked_of, event_asked, asked_as, Chooses}
 use Rattle.engine.specs.Stepping.{moved_as, Done, stepped_from, stepped}
 use Rattle.refusals.specs.declared.Refusal.{Refusal}
 use Rattle.refusals.specs.declared.Refusal.TheVariants.{Space, Stranger}
-use Rattle.refusals.specs.Numbers.{refusal, RefusedBy}
+use Rattle.refusals.specs.Numbers.{number, refusal, refusal_number}
 use Rattle.engine.specs.declared.stepping.Step.{Step}
 
 -- ── one operation ──
@@ -76,11 +76,11 @@ module _ (rules term memory : List ℕ) (next_term next_memory : List ℕ) where
   -- ── by what was given ──
 
   module _ (request : Request) where
-    pub step_refused : (j : Refusal) → RefusedBy j (given_in rules term) → Done (stepped rules term memory request next_term next_memory) (Err j) next_term next_memory
+    pub step_refused : (j : Refusal) → given_in rules term ≡ refused (number j) → Done (stepped rules term memory request next_term next_memory) (Err j) next_term next_memory
     unfolding stepped moved_as
-    step_refused j h =
-        let f : stepped rules term memory request next_term next_memory ≡ unwritten next_term next_memory h.code = ap (λ a. writing next_term next_memory a (stepped_from request memory next_term next_memory)) h.is in
-        subst (λ w. Done w (Err j) next_term next_memory) (sym f) (record { answer = ap Err h.named; term_after = refl; memory_after = refl })
+    step_refused j e =
+        let f : stepped rules term memory request next_term next_memory ≡ unwritten next_term next_memory (number j) = ap (λ a. writing next_term next_memory a (stepped_from request memory next_term next_memory)) e in
+        subst (λ w. Done w (Err j) next_term next_memory) (sym f) (record { answer = ap Err (sym (refusal_number j)); term_after = refl; memory_after = refl })
 
     pub step_given : (R : RuleSet) (E : Term) → given_in rules term ≡ answered (R, E) → (r : Result Step Refusal) (term' memory' : List ℕ)
         → Done (stepped_from request memory next_term next_memory (R, E)) r term' memory' → Done (stepped rules term memory request next_term next_memory) r term' memory'
@@ -117,7 +117,7 @@ module _ (R : RuleSet) (form : Form R) where
       go (refused j) q f = ap refused (stranger_number (even event.now) (given_event R (words_in event.now)) j q)
       go (answered ρ) q f = absurd (let z : ◌≡◌ {A = ℕ} 0 1 = cc in omega arith)
 
-  -- A choice that is wanted, by what stands for it.
+  -- A choice that is wanted, by what means it.
   pub record Choosing (request : Request) (wanted : Wanted) : Type 0 where
     pub choose : List Move → Maybe Move
     pub asked_so : asked_of request R ≡ answered choose

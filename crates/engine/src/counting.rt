@@ -1,67 +1,67 @@
 // Count: how many moves a given term has at a given memory (document 01, "Operations").
-ghost use Rattle.std.specs.Prelude.{◌≡◌, ℕ, ◌*◌, ◌/◌, ◌≤◌, List, length, get_or};
+ghost use Rattle.std.specs.Prelude.{◌≡◌, ◌*◌, ◌/◌, ◌≤◌, length};
 ghost use Rattle.eb3.specs.Terms.{Term};
 ghost use Rattle.eb3.specs.RuleSets.{RuleSet};
 ghost use Rattle.eb3.specs.Memory.{cell_room};
 ghost use Rattle.eb3.specs.Operations.{cells_needed, listed, count};
-ghost use Rattle.admission.specs.Knowing.{Opens};
-ghost use Rattle.given.specs.Giving.{Described};
+ghost use Rattle.engine.specs.Describing.{DescribedBy};
 ghost use Rattle.engine.specs.Counting.{counted_as};
 
 use blocks::open;
-use cells::Functions;
+use blocks::opened::Blocks;
 use given::giving::given_in;
+use mains::admitted::Admitted;
 use refusals::Refusal;
 use scan::front;
 use steps::counting::count_moves;
 use steps::storing::load_store;
 
 // The moves of the term s at the cells of a memory that has enough.
-fn count_at(s: &[u16], tb: &[u32], dir: &[u32], c: usize, memory: &[u8]) -> u32
-    requires { (length s.now ≤ 65535) × (c ≤ 1024) × (get_or tb.now 17 0 ≤ 64) × (get_or tb.now 210 0 ≤ 16) }
-    ensures { (R : RuleSet) (E : Term) (t : List ℕ) → Described R E t tb.now dir.now s.now → c ≡ cells_needed R → c ≤ cell_room memory.now → result ≡ length (listed R E memory.now) }
+fn count_at(rules: &Admitted, s: &[u16], memory: &[u8]) -> u32
+    requires { length s.now ≤ 65535 }
+    ensures { (R : RuleSet) (E : Term) → DescribedBy rules.now R E s.now → rules.now.functions.cells ≤ cell_room memory.now → result ≡ length (listed R E memory.now) }
 {
     let mut m = [0u16; 2084];
-    let functions = Functions::of(&[], tb, dir, c);
-    load_store(&functions, &mut m, memory);
+    load_store(&rules.functions, &mut m, memory);
     (count_moves(s, &m) % 4294967296) as u32
 }
 
-// n opened blocks and a term, decoded into lent words.
+// An opened file and a term, decoded into lent words.
 fn count_in(
-    rules: &[u8],
-    n: usize,
+    file: &Blocks,
     words: &mut [u16],
     ws: &mut [u16],
     term: &[u8],
     memory: &[u8],
 ) -> Result<u32, Refusal>
-    requires { (length rules.now ≡ 512 * n) × (254 * n ≤ length words.old) × (1 ≤ n) × (n ≤ 64) × Opens rules.now × (length term.now / 2 ≤ 8192 → length term.now / 2 ≤ length ws.old) }
-    ensures { result ≡ counted_as (count rules.now term.now memory.now) }
+    requires { (254 * file.now.count ≤ length words.old) × (length term.now / 2 ≤ 8192 → length term.now / 2 ≤ length ws.old) }
+    ensures { result ≡ counted_as (count file.now.bytes.now term.now memory.now) }
 {
     let mut tables = [0u32; 500];
     let mut dir = [0u32; 1072];
-    let given = given_in(rules, n, words, &mut tables, &mut dir, term, ws)?;
+    let given = given_in(file, words, &mut tables, &mut dir, term, ws)?;
     if memory.len() / 2 < given.cells {
         return Err(Refusal::Space);
     }
     let s = front(ws, term.len() / 2);
-    Ok(count_at(s, &tables, &dir, given.cells, memory))
+    let end = 254 * file.count;
+    let rules = Admitted::of(&words[2..end], &tables, &dir, given.cells);
+    Ok(count_at(&rules, s, memory))
 }
 
 // Local words for the blocks and for the term: a rule set of one block and a term of at most 256 words do not pay for clearing large arrays.
+// Stays: one function for all sizes of the local arrays, since memory is fixed and there is no heap.
 fn count_sized<const WORDS: usize, const TERM: usize>(
-    rules: &[u8],
-    n: usize,
+    file: &Blocks,
     term: &[u8],
     memory: &[u8],
 ) -> Result<u32, Refusal>
-    requires { (length rules.now ≡ 512 * n) × (254 * n ≤ WORDS) × (1 ≤ n) × (n ≤ 64) × Opens rules.now × (length term.now / 2 ≤ 8192 → length term.now / 2 ≤ TERM) × (WORDS ≤ 16256) × (TERM ≤ 8192) }
-    ensures { result ≡ counted_as (count rules.now term.now memory.now) }
+    requires { (254 * file.now.count ≤ WORDS) × (length term.now / 2 ≤ 8192 → length term.now / 2 ≤ TERM) × (WORDS ≤ 16256) × (TERM ≤ 8192) }
+    ensures { result ≡ counted_as (count file.now.bytes.now term.now memory.now) }
 {
     let mut words = [0u16; WORDS];
     let mut ws = [0u16; TERM];
-    let r = count_in(rules, n, &mut words, &mut ws, term, memory);
+    let r = count_in(file, &mut words, &mut ws, term, memory);
     r
 }
 
@@ -69,9 +69,9 @@ fn count_sized<const WORDS: usize, const TERM: usize>(
 pub fn count(rules: &[u8], term: &[u8], memory: &[u8]) -> Result<u32, Refusal>
     ensures { result ≡ counted_as (count rules.now term.now memory.now) }
 {
-    let n = open(rules)?;
-    if n <= 1 && term.len() <= 512 {
-        return count_sized::<254, 256>(rules, n, term, memory);
+    let file = open(rules)?;
+    if file.count <= 1 && term.len() <= 512 {
+        return count_sized::<254, 256>(&file, term, memory);
     }
-    count_sized::<16256, 8192>(rules, n, term, memory)
+    count_sized::<16256, 8192>(&file, term, memory)
 }

@@ -1,4 +1,4 @@
-// The operations behind Admit, as Rattle functions that answer a Result (document 01, "Operations"). Each contract is an equation with
+// The operations after Admit, as Rattle functions that answer a Result (document 01, "Operations"). Each contract is an equation with
 // the specification's operation, for every input.
 #![tactic(auto)]
 

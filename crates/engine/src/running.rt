@@ -1,18 +1,19 @@
 // Run: from the start by a whole list of move numbers, numbers not offered counted and passed over (document 01, "Operations"). The
 // rule set is admitted once.
-ghost use Rattle.std.specs.Prelude.{◌≡◌, ℕ, ◌*◌, ◌/◌, ◌≤◌, length, get_or};
-ghost use Rattle.admission.specs.Knowing.{Opens};
+ghost use Rattle.std.specs.Prelude.{◌≡◌, ◌*◌, ◌≤◌, length};
 ghost use Rattle.engine.specs.Running.{RunDone};
 
 use admission::admit_in;
 use blocks::open;
+use blocks::opened::Blocks;
+use mains::admitted::{Admitted, Course};
 use mains::{Totals, run_main};
 use refusals::Refusal;
 
-// n opened blocks, decoded into lent words.
+// An opened file, decoded into lent words.
+// Stays: the words, the term, the memory and the spare buffer are lent apart, as in mains (its `finish` says why).
 fn run_in(
-    rules: &[u8],
-    n: usize,
+    file: &Blocks,
     words: &mut [u16],
     numbers: &[u8],
     term: &mut [u8],
@@ -20,12 +21,12 @@ fn run_in(
     spare: &mut [u8],
     cells: &[u8],
 ) -> Result<Totals, Refusal>
-    requires { (length rules.now ≡ 512 * n) × (254 * n ≤ length words.old) × (1 ≤ n) × (n ≤ 64) × Opens rules.now }
-    ensures { RunDone rules.now numbers.now term.old memory.old spare.old cells.now result term.new memory.new spare.new }
+    requires { 254 * file.now.count ≤ length words.old }
+    ensures { RunDone file.now.bytes.now numbers.now term.old memory.old spare.old cells.now result term.new memory.new spare.new }
 {
     let mut tables = [0u32; 500];
     let mut dir = [0u32; 1072];
-    let sizes = admit_in(rules, words, &mut tables, &mut dir, n)?;
+    let sizes = admit_in(file, words, &mut tables, &mut dir)?;
     let c = sizes.cells as usize;
     let reach = sizes.reach as usize;
     if term.len() / 2 < reach {
@@ -40,36 +41,32 @@ fn run_in(
     if cells.len() / 2 < c {
         return Err(Refusal::Space);
     }
-    let end = 254 * n;
-    let totals = run_main(
-        numbers,
-        &words[2..end],
-        &tables,
-        &dir,
-        c,
+    let end = 254 * file.count;
+    let rules = Admitted::of(&words[2..end], &tables, &dir, c);
+    let course = Course {
+        rules,
         reach,
-        term,
-        memory,
-        spare,
-    );
+        numbers,
+    };
+    let totals = run_main(&course, term, memory, spare);
     Ok(totals)
 }
 
-// Local words for one block, or for as many as there may be.
+// Local words for one block, or for 64, the most that there may be.
+// Stays: one function for all sizes of a local array, since memory is fixed and there is no heap.
 fn run_sized<const WORDS: usize>(
-    rules: &[u8],
-    n: usize,
+    file: &Blocks,
     numbers: &[u8],
     term: &mut [u8],
     memory: &mut [u8],
     spare: &mut [u8],
     cells: &[u8],
 ) -> Result<Totals, Refusal>
-    requires { (length rules.now ≡ 512 * n) × (254 * n ≤ WORDS) × (1 ≤ n) × (n ≤ 64) × Opens rules.now × (WORDS ≤ 16256) }
-    ensures { RunDone rules.now numbers.now term.old memory.old spare.old cells.now result term.new memory.new spare.new }
+    requires { (254 * file.now.count ≤ WORDS) × (WORDS ≤ 16256) }
+    ensures { RunDone file.now.bytes.now numbers.now term.old memory.old spare.old cells.now result term.new memory.new spare.new }
 {
     let mut words = [0u16; WORDS];
-    let r = run_in(rules, n, &mut words, numbers, term, memory, spare, cells);
+    let r = run_in(file, &mut words, numbers, term, memory, spare, cells);
     r
 }
 
@@ -85,9 +82,9 @@ pub fn run(
 ) -> Result<Totals, Refusal>
     ensures { RunDone rules.now numbers.now term.old memory.old spare.old cells.now result term.new memory.new spare.new }
 {
-    let n = open(rules)?;
-    if n <= 1 {
-        return run_sized::<254>(rules, n, numbers, term, memory, spare, cells);
+    let file = open(rules)?;
+    if file.count <= 1 {
+        return run_sized::<254>(&file, numbers, term, memory, spare, cells);
     }
-    run_sized::<16256>(rules, n, numbers, term, memory, spare, cells)
+    run_sized::<16256>(&file, numbers, term, memory, spare, cells)
 }

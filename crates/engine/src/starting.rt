@@ -1,64 +1,64 @@
 // Start: writes main's unfolding and the memory at the start into lent buffers (document 01, "Operations"; "Memory and the history
 // machine").
-ghost use Rattle.std.specs.Prelude.{◌≡◌, List, [], ◌∷◌, ◌++◌, ℕ, ◌+◌, ◌*◌, ◌≤◌, ◌<◌, length, get_or};
+ghost use Rattle.std.specs.Prelude.{◌≡◌, ◌*◌, ◌≤◌, length};
 ghost use Rattle.engine.specs.Memories.{MemoryStarted, Begun};
-ghost use Rattle.admission.specs.Knowing.{Opens};
 ghost use Rattle.engine.specs.Starting.{StartDone};
 
 use admission::admit_in;
 use blocks::open;
-use cells::{Functions, fill, lay, save};
+use blocks::opened::Blocks;
+use cells::{fill, lay, save};
+use mains::admitted::Admitted;
 use refusals::Refusal;
 use unfold::unfold_main;
 
 // The cells of the start, made in a lent store.
-fn start_store(t: &[u16], tb: &[u32], dir: &[u32], m: &mut [u16], c: usize, memory: &mut [u8])
-    requires { (length t.now ≤ 65535) × (c ≤ 1024) × (get_or tb.now 17 0 ≤ 64) × (get_or tb.now 210 0 ≤ 16) }
-    ensures { MemoryStarted t.now tb.now dir.now (length m.old) c memory.old memory.new }
+fn start_store(rules: &Admitted, m: &mut [u16], memory: &mut [u8])
+    ensures { MemoryStarted rules.now.functions.words.now rules.now.tables.now rules.now.functions.directory.now (length m.old) rules.now.functions.cells memory.old memory.new }
 {
-    let functions = Functions::of(t, tb, dir, c);
-    lay(&functions, m);
-    fill(&functions, m, 2);
-    save(m, memory, c);
+    let functions = &rules.functions;
+    lay(functions, m);
+    fill(functions, m, 2);
+    save(m, memory, functions.cells);
 }
 
-// A store for up to 64 cells, or for as many as there may be: a small rule set does not pay for clearing a large array.
-fn start_memory(t: &[u16], tb: &[u32], dir: &[u32], c: usize, memory: &mut [u8])
-    requires { (length t.now ≤ 65535) × (c ≤ 1024) × (get_or tb.now 17 0 ≤ 64) × (get_or tb.now 210 0 ≤ 16) }
-    ensures { MemoryStarted t.now tb.now dir.now 1060 c memory.old memory.new }
+// A store for at most 64 cells, or for the most that there may be: a small rule set does not pay for clearing a large array.
+fn start_memory(rules: &Admitted, memory: &mut [u8])
+    ensures { MemoryStarted rules.now.functions.words.now rules.now.tables.now rules.now.functions.directory.now 1060 rules.now.functions.cells memory.old memory.new }
 {
-    if c <= 64 {
+    if rules.functions.cells <= 64 {
         let mut m = [0u16; 100];
-        start_store(t, tb, dir, &mut m, c, memory);
+        start_store(rules, &mut m, memory);
         return;
     }
     let mut m = [0u16; 1060];
-    start_store(t, tb, dir, &mut m, c, memory);
+    start_store(rules, &mut m, memory);
 }
 
 // The term and the memory of the start.
-fn begin(t: &[u16], tb: &[u32], dir: &[u32], c: usize, term: &mut [u8], memory: &mut [u8])
-    requires { (length t.now ≤ 65535) × (c ≤ 1024) × (get_or tb.now 17 0 ≤ 64) × (get_or tb.now 210 0 ≤ 16) }
-    ensures { Begun t.now tb.now dir.now c term.old memory.old term.new memory.new }
+fn begin(rules: &Admitted, term: &mut [u8], memory: &mut [u8])
+    ensures { Begun rules.now.functions.words.now rules.now.tables.now rules.now.functions.directory.now rules.now.functions.cells term.old memory.old term.new memory.new }
 {
-    unfold_main(t, tb, term);
-    start_memory(t, tb, dir, c, memory);
+    let tables = rules.tables;
+    unfold_main(rules.functions.words, tables, term);
+    start_memory(rules, memory);
 }
 
-// n opened blocks, decoded into lent words.
+// An opened file, decoded into lent words.
+// Stays: the words, the term and the memory are three arrays, lent apart: the last two are the host's buffers, and the words are the caller's,
+// whose length goes by the file's.
 fn start_in(
-    rules: &[u8],
+    file: &Blocks,
     words: &mut [u16],
-    n: usize,
     term: &mut [u8],
     memory: &mut [u8],
 ) -> Result<u32, Refusal>
-    requires { (length rules.now ≡ 512 * n) × (254 * n ≤ length words.old) × (1 ≤ n) × (n ≤ 64) × Opens rules.now }
-    ensures { StartDone rules.now term.old memory.old result term.new memory.new }
+    requires { 254 * file.now.count ≤ length words.old }
+    ensures { StartDone file.now.bytes.now term.old memory.old result term.new memory.new }
 {
     let mut tables = [0u32; 500];
     let mut dir = [0u32; 1072];
-    let sizes = admit_in(rules, words, &mut tables, &mut dir, n)?;
+    let sizes = admit_in(file, words, &mut tables, &mut dir)?;
     let c = sizes.cells as usize;
     if term.len() / 2 < sizes.reach as usize {
         return Err(Refusal::Space);
@@ -66,32 +66,33 @@ fn start_in(
     if memory.len() / 2 < c {
         return Err(Refusal::Space);
     }
-    let end = 254 * n;
-    begin(&words[2..end], &tables, &dir, c, term, memory);
+    let end = 254 * file.count;
+    let rules = Admitted::of(&words[2..end], &tables, &dir, c);
+    begin(&rules, term, memory);
     Ok(sizes.size)
 }
 
-// Local words for one block, or for as many as there may be.
+// Local words for one block, or for 64, the most that there may be.
+// Stays: one function for all sizes of a local array, since memory is fixed and there is no heap.
 fn start_sized<const WORDS: usize>(
-    rules: &[u8],
-    n: usize,
+    file: &Blocks,
     term: &mut [u8],
     memory: &mut [u8],
 ) -> Result<u32, Refusal>
-    requires { (length rules.now ≡ 512 * n) × (254 * n ≤ WORDS) × (1 ≤ n) × (n ≤ 64) × Opens rules.now × (WORDS ≤ 16256) }
-    ensures { StartDone rules.now term.old memory.old result term.new memory.new }
+    requires { (254 * file.now.count ≤ WORDS) × (WORDS ≤ 16256) }
+    ensures { StartDone file.now.bytes.now term.old memory.old result term.new memory.new }
 {
     let mut words = [0u16; WORDS];
-    start_in(rules, &mut words, n, term, memory)
+    start_in(file, &mut words, term, memory)
 }
 
 // Start: main's unfolding and the memory at the start; or the first refusal of 1 to 9, and nothing is written.
 pub fn start(rules: &[u8], term: &mut [u8], memory: &mut [u8]) -> Result<u32, Refusal>
     ensures { StartDone rules.now term.old memory.old result term.new memory.new }
 {
-    let n = open(rules)?;
-    if n <= 1 {
-        return start_sized::<254>(rules, n, term, memory);
+    let file = open(rules)?;
+    if file.count <= 1 {
+        return start_sized::<254>(&file, term, memory);
     }
-    start_sized::<16256>(rules, n, term, memory)
+    start_sized::<16256>(&file, term, memory)
 }

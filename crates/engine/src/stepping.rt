@@ -1,34 +1,25 @@
 // Move and Present: one step from a given term and memory, into lent buffers (document 01, "Operations"). Both are one operation, asked
 // for the move of a number or for the first whose action is an event.
-ghost use Rattle.std.specs.Prelude.{◌≡◌, List, ℕ, ◌+◌, ◌*◌, ◌/◌, ◌%◌, ◌≤◌, length, get_or};
+// Stays: that words are at most 65,535 is a clause of each function here, for the reason in successors (docs/DESIGN-PASS.md, "A struct for words").
+ghost use Rattle.std.specs.Prelude.{◌≡◌, List, ℕ, ◌*◌, ◌/◌, ◌%◌, ◌≤◌, length};
 ghost use Rattle.std.proofs.Math.Option.{Option};
-ghost use Rattle.std.proofs.Math.ListN.{get_elem?};
-ghost use Rattle.eb3.specs.Refusal.{not_offered};
-ghost use Rattle.eb3.specs.Values.{Value};
 ghost use Rattle.eb3.specs.Terms.{Term, Action};
 ghost use Rattle.eb3.specs.Moves.{Move, moves};
-ghost use Rattle.eb3.specs.RuleSets.{RuleSet, attributes};
-ghost use Rattle.eb3.specs.Semantics.{Sem_M};
 ghost use Rattle.eb3.specs.Scopes.{Scope};
-ghost use Rattle.eb3.specs.Sizes.{reach};
-ghost use Rattle.eb3.specs.Bytes.{word_count};
-ghost use Rattle.eb3.specs.Memory.{cell_room};
-ghost use Rattle.eb3.specs.Operations.{cells_needed, listed, writing, moved, move, present};
-ghost use Rattle.eb3.specs.Answers.{or_refused};
+ghost use Rattle.eb3.specs.Operations.{move, present};
 ghost use Rattle.actions.specs.Codes.{action_code, Small};
 ghost use Rattle.listing.specs.Listing.{holding};
 ghost use Rattle.steps.specs.Counting.{Whole};
-ghost use Rattle.steps.specs.Storing.{Stored};
-ghost use Rattle.admission.specs.Knowing.{Opens};
-ghost use Rattle.given.specs.Giving.{Described};
 ghost use Rattle.given.specs.Asking.{Chooses};
-ghost use Rattle.engine.specs.Stepping.{told, Done, moved_from, move_at, reach_in_words, stepped_from, stepped};
+ghost use Rattle.engine.specs.Stepping.{told, Done, move_at, stepped, SteppedFrom, SteppedAt, Steps};
 
 use actions::{argument_at, argument_count, label_of};
 use blocks::open;
-use cells::{Functions, save};
+use blocks::opened::Blocks;
+use cells::save;
 use given::asking::{Request, Wanted, ask};
 use given::giving::given_in;
+use mains::admitted::Admitted;
 use refusals::Refusal;
 use scan::front;
 use steps::counting::first_move;
@@ -36,57 +27,67 @@ use steps::moving::take_move;
 use steps::renewing::renew;
 use steps::storing::load_store;
 
-// The successor's size in words and the action: visible 1 with its label and arguments, or all 0.
+/// A visible action: its label, how many arguments it has, and the two that it may have, 0 where there is none.
 #[derive(Clone, Copy)]
-pub struct Step {
-    pub size: u32,
-    pub visible: u32,
+pub struct Visible {
     pub label: u32,
     pub arguments: u32,
     pub first: u32,
     pub second: u32,
 }
 
+/// The successor's size in words, and the action that led to it; none is the internal one.
+#[derive(Clone, Copy)]
+pub struct Step {
+    pub size: u32,
+    pub action: Option<Visible>,
+}
+
+/// What Move and Present are asked: of a term and a memory, for which move.
+#[derive(Clone, Copy)]
+pub struct Asked<'a> {
+    pub term: &'a [u8],
+    pub memory: &'a [u8],
+    pub request: Request<'a>,
+}
+
 // ── the answer ──
 
+// What is said of the action with this number, and of a successor of this size.
 fn tell(code: u32, size: usize) -> Step
     ensures { (ρ : Action) → Small ρ → code ≡ action_code ρ → result ≡ told ρ (size % 4294967296) }
 {
+    let size = (size % 4294967296) as u32;
     if code == 0 {
-        return Step {
-            size: (size % 4294967296) as u32,
-            visible: 0,
-            label: 0,
-            arguments: 0,
-            first: 0,
-            second: 0,
-        };
+        return Step { size, action: None };
     }
     Step {
-        size: (size % 4294967296) as u32,
-        visible: 1,
-        label: label_of(code),
-        arguments: argument_count(code),
-        first: argument_at(code, 0),
-        second: argument_at(code, 1),
+        size,
+        action: Some(Visible {
+            label: label_of(code),
+            arguments: argument_count(code),
+            first: argument_at(code, 0),
+            second: argument_at(code, 1),
+        }),
     }
 }
 
 // ── the step ──
 
 // Move k from a loaded store, into buffers with room.
+// Stays: the store and the two buffers are three lent arrays: the store is the caller's own, and the buffers are the host's.
 fn step_from(
-    functions: &Functions,
+    rules: &Admitted,
     s: &[u16],
-    tb: &[u32],
     m: &mut [u16],
     k: usize,
     next_term: &mut [u8],
     next_memory: &mut [u8],
 ) -> Result<Step, Refusal>
-    requires { (length s.now ≤ 65535) × (functions.now.width ≡ 3 + get_or tb.now 17 0) × (functions.now.count ≡ get_or tb.now 210 0) }
-    ensures { (R : RuleSet) (E : Term) (cells : List Value) → Described R E functions.now.words.now tb.now functions.now.directory.now s.now → functions.now.cells ≡ cells_needed R → Stored R cells m.old → reach 1 E ≤ word_count next_term.old → functions.now.cells ≤ cell_room next_memory.old → Done (writing next_term.old next_memory.old (or_refused not_offered (get_elem? (moves ((Sem_M (attributes R)).satisfies cells) E) k)) (moved_from R cells next_term.old next_memory.old)) result next_term.new next_memory.new }
+    requires { length s.now ≤ 65535 }
+    ensures { SteppedFrom rules.now s.now m.old k next_term.old next_memory.old result next_term.new next_memory.new }
 {
+    let functions = &rules.functions;
     match take_move(s, m, k, next_term) {
         Some(taken) => {
             renew(functions, m, taken.action);
@@ -110,47 +111,42 @@ fn find(s: &[u16], m: &[u16], wanted: Wanted) -> Option<usize>
 
 // From the cells of a memory, into buffers with room.
 fn step_at(
-    t: &[u16],
+    rules: &Admitted,
     s: &[u16],
-    tb: &[u32],
-    dir: &[u32],
-    c: usize,
     memory: &[u8],
     wanted: Wanted,
     next_term: &mut [u8],
     next_memory: &mut [u8],
 ) -> Result<Step, Refusal>
-    requires { (length t.now ≤ 65535) × (length s.now ≤ 65535) × (c ≤ 1024) × (get_or tb.now 17 0 ≤ 64) × (get_or tb.now 210 0 ≤ 16) }
-    ensures { (R : RuleSet) (E : Term) (choose : List Move → Option Move) → Described R E t.now tb.now dir.now s.now → c ≡ cells_needed R → c ≤ cell_room memory.now → reach 1 E ≤ word_count next_term.old → c ≤ cell_room next_memory.old → Chooses wanted choose → Done (writing next_term.old next_memory.old (or_refused not_offered (choose (listed R E memory.now))) (moved R memory.now next_term.old next_memory.old)) result next_term.new next_memory.new }
+    requires { length s.now ≤ 65535 }
+    ensures { SteppedAt rules.now s.now memory.now wanted next_term.old next_memory.old result next_term.new next_memory.new }
 {
-    let functions = Functions::of(t, tb, dir, c);
     let mut m = [0u16; 2084];
-    load_store(&functions, &mut m, memory);
+    load_store(&rules.functions, &mut m, memory);
     match find(s, &m, wanted) {
-        Some(k) => step_from(&functions, s, tb, &mut m, k, next_term, next_memory),
+        Some(k) => step_from(rules, s, &mut m, k, next_term, next_memory),
         None => Err(Refusal::NotOffered),
     }
 }
 
 // Refusal 11, then 9, then 12.
 fn step_given(
-    t: &[u16],
+    rules: &Admitted,
     s: &[u16],
-    tb: &[u32],
-    dir: &[u32],
-    c: usize,
     reach: usize,
-    memory: &[u8],
-    request: Request,
+    asked: &Asked,
     next_term: &mut [u8],
     next_memory: &mut [u8],
 ) -> Result<Step, Refusal>
-    requires { (length t.now ≤ 65535) × (length s.now ≤ 65535) × (c ≤ 1024) × (get_or tb.now 17 0 ≤ 64) × (get_or tb.now 210 0 ≤ 16) }
-    ensures { (R : RuleSet) (E : Term) → Described R E t.now tb.now dir.now s.now → c ≡ cells_needed R → reach ≡ reach_in_words E → Done (stepped_from request.entry memory.now next_term.old next_memory.old (R, E)) result next_term.new next_memory.new }
+    requires { length s.now ≤ 65535 }
+    ensures { Steps rules.now s.now reach asked.now.memory.now asked.now.request next_term.old next_memory.old result next_term.new next_memory.new }
 {
-    let Some(wanted) = ask(tb, request) else {
+    let tables = rules.tables;
+    let Some(wanted) = ask(tables, asked.request) else {
         return Err(Refusal::Stranger);
     };
+    let memory = asked.memory;
+    let c = rules.functions.cells;
     if next_term.len() / 2 < reach {
         return Err(Refusal::Space);
     }
@@ -160,128 +156,101 @@ fn step_given(
     if next_memory.len() / 2 < c {
         return Err(Refusal::Space);
     }
-    step_at(t, s, tb, dir, c, memory, wanted, next_term, next_memory)
+    step_at(rules, s, memory, wanted, next_term, next_memory)
 }
 
-// n opened blocks and a term, decoded into lent words.
+// An opened file and a term, decoded into lent words.
+// Stays: the words of both and the two buffers are four lent arrays: the words are the caller's, whose length goes by the file's and by the
+// term's, and the buffers are the host's.
 fn step_in(
-    rules: &[u8],
-    n: usize,
+    file: &Blocks,
     words: &mut [u16],
     ws: &mut [u16],
-    term: &[u8],
-    memory: &[u8],
-    request: Request,
+    asked: &Asked,
     next_term: &mut [u8],
     next_memory: &mut [u8],
 ) -> Result<Step, Refusal>
-    requires { (length rules.now ≡ 512 * n) × (254 * n ≤ length words.old) × (1 ≤ n) × (n ≤ 64) × Opens rules.now × (length term.now / 2 ≤ 8192 → length term.now / 2 ≤ length ws.old) }
-    ensures { Done (stepped rules.now term.now memory.now request.entry next_term.old next_memory.old) result next_term.new next_memory.new }
+    requires { (254 * file.now.count ≤ length words.old) × (length asked.now.term.now / 2 ≤ 8192 → length asked.now.term.now / 2 ≤ length ws.old) }
+    ensures { Done (stepped file.now.bytes.now asked.now.term.now asked.now.memory.now asked.now.request next_term.old next_memory.old) result next_term.new next_memory.new }
 {
     let mut tables = [0u32; 500];
     let mut dir = [0u32; 1072];
-    let given = given_in(rules, n, words, &mut tables, &mut dir, term, ws)?;
-    let end = 254 * n;
-    step_given(
-        &words[2..end],
-        front(ws, term.len() / 2),
-        &tables,
-        &dir,
-        given.cells,
-        given.reach,
-        memory,
-        request,
-        next_term,
-        next_memory,
-    )
+    let term = asked.term;
+    let given = given_in(file, words, &mut tables, &mut dir, term, ws)?;
+    let s = front(ws, term.len() / 2);
+    let end = 254 * file.count;
+    let rules = Admitted::of(&words[2..end], &tables, &dir, given.cells);
+    step_given(&rules, s, given.reach, asked, next_term, next_memory)
 }
 
 // Local words for the blocks and for the term: a rule set of one block and a term of at most 256 words do not pay for clearing large arrays.
+// Stays: one function for all sizes of the local arrays, since memory is fixed and there is no heap.
 fn step_sized<const WORDS: usize, const TERM: usize>(
-    rules: &[u8],
-    n: usize,
-    term: &[u8],
-    memory: &[u8],
-    request: Request,
+    file: &Blocks,
+    asked: &Asked,
     next_term: &mut [u8],
     next_memory: &mut [u8],
 ) -> Result<Step, Refusal>
-    requires { (length rules.now ≡ 512 * n) × (254 * n ≤ WORDS) × (1 ≤ n) × (n ≤ 64) × Opens rules.now × (length term.now / 2 ≤ 8192 → length term.now / 2 ≤ TERM) × (WORDS ≤ 16256) × (TERM ≤ 8192) }
-    ensures { Done (stepped rules.now term.now memory.now request.entry next_term.old next_memory.old) result next_term.new next_memory.new }
+    requires { (254 * file.now.count ≤ WORDS) × (length asked.now.term.now / 2 ≤ 8192 → length asked.now.term.now / 2 ≤ TERM) × (WORDS ≤ 16256) × (TERM ≤ 8192) }
+    ensures { Done (stepped file.now.bytes.now asked.now.term.now asked.now.memory.now asked.now.request next_term.old next_memory.old) result next_term.new next_memory.new }
 {
     let mut words = [0u16; WORDS];
     let mut ws = [0u16; TERM];
-    let r = step_in(
-        rules,
-        n,
-        &mut words,
-        &mut ws,
-        term,
-        memory,
-        request,
-        next_term,
-        next_memory,
-    );
+    let r = step_in(file, &mut words, &mut ws, asked, next_term, next_memory);
     r
 }
 
 fn step_by(
     rules: &[u8],
-    term: &[u8],
-    memory: &[u8],
-    request: Request,
+    asked: &Asked,
     next_term: &mut [u8],
     next_memory: &mut [u8],
 ) -> Result<Step, Refusal>
-    ensures { Done (stepped rules.now term.now memory.now request.entry next_term.old next_memory.old) result next_term.new next_memory.new }
+    ensures { Done (stepped rules.now asked.now.term.now asked.now.memory.now asked.now.request next_term.old next_memory.old) result next_term.new next_memory.new }
 {
-    let n = open(rules)?;
-    if n <= 1 && term.len() <= 512 {
-        return step_sized::<254, 256>(rules, n, term, memory, request, next_term, next_memory);
+    let file = open(rules)?;
+    if file.count <= 1 && asked.term.len() <= 512 {
+        return step_sized::<254, 256>(&file, asked, next_term, next_memory);
     }
-    step_sized::<16256, 8192>(rules, n, term, memory, request, next_term, next_memory)
+    step_sized::<16256, 8192>(&file, asked, next_term, next_memory)
 }
 
 // ── the operations ──
 
 // Move k: its successor and the memory that its action leaves; or the first refusal of 1 to 8, 10, 9 and 12, and nothing is written.
-pub fn make_move(
+pub fn make_move<'a>(
     rules: &[u8],
-    term: &[u8],
-    memory: &[u8],
+    term: &'a [u8],
+    memory: &'a [u8],
     k: usize,
     next_term: &mut [u8],
     next_memory: &mut [u8],
 ) -> Result<Step, Refusal>
     ensures { Done (move rules.now term.now memory.now k next_term.old next_memory.old) result next_term.new next_memory.new }
 {
-    step_by(
-        rules,
+    let asked = Asked {
         term,
         memory,
-        Request::Move(k),
-        next_term,
-        next_memory,
-    )
+        request: Request::Move(k),
+    };
+    step_by(rules, &asked, next_term, next_memory)
 }
 
 // Present: the first move whose action is the given event; or the first refusal of 1 to 8, 10, 11, 9 and 12.
-pub fn present(
+pub fn present<'a>(
     rules: &[u8],
-    term: &[u8],
-    memory: &[u8],
-    event: &[u8],
+    term: &'a [u8],
+    memory: &'a [u8],
+    event: &'a [u8],
     next_term: &mut [u8],
     next_memory: &mut [u8],
 ) -> Result<Step, Refusal>
     ensures { Done (present rules.now term.now memory.now event.now next_term.old next_memory.old) result next_term.new next_memory.new }
 {
-    step_by(
-        rules,
+    let asked = Asked {
         term,
         memory,
-        Request::Event(event),
-        next_term,
-        next_memory,
-    )
+        request: Request::Event(event),
+    };
+    step_by(rules, &asked, next_term, next_memory)
 }

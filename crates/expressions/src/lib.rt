@@ -1,6 +1,7 @@
 // The two evaluators, over data and over conditions, calling each other (document 01, "Values and conditions": a data
 // expression may hold a condition, and a condition holds data expressions). They serve functions' expressions and guards
-// alike; each answers its value and the words left behind the expression, so that nothing is scanned twice.
+// alike; each answers its value and the words left after the expression, so that nothing is scanned twice.
+// Stays: that words are at most 65,535 is a clause of each function here, for the reason in successors (docs/DESIGN-PASS.md, "A struct for words").
 #![tactic(auto)]
 
 ghost use Rattle.std.specs.Prelude.{◌≡◌, Bool, [], ◌∷◌, ◌≤◌, ◌<◌, length, drop, get_or};
@@ -14,19 +15,23 @@ use code_numbers::{
 };
 use scan::{behind, first, last};
 
+pub mod store;
+
+// The word of undefined.
+// Stays a word: values are words of the store, and an Option of a number would be turned into one wherever a cell is read or written.
 const UNDEFINED: usize = 65535;
 
 // ── answers ──
 
-/// The value of a data expression as a word, and how many words are left behind the expression.
+/// The value of a data expression as a word, and how many words are left after the expression.
 #[derive(Clone, Copy)]
 pub struct Valued {
     pub value: usize,
     pub left: usize,
 }
 
-// Whether a condition holds, 1 or 0, and 65,536 times the words that are left behind it.
-// Stays: measured, a condition of 1,000 ands takes 12 % more instructions as a struct, and each level 16 bytes more stack (docs/DESIGN-PASS.md, "Answers in one number").
+// Whether a condition holds, 1 or 0, and 65,536 times the words that are left after it.
+// Stays, here and in the functions of conditions below: measured, a condition of 1,000 ands takes 12 % more instructions as a struct, and each level 16 bytes more stack (docs/DESIGN-PASS.md, "Answers in one number").
 fn pack(v: usize, left: usize) -> usize
     requires { (v < 65536) × (left < 65536) }
     ensures { (result ≡ answer v left) × (result < 4294967296) }
@@ -35,6 +40,8 @@ fn pack(v: usize, left: usize) -> usize
 }
 
 // ── values as words ──
+
+// Stays: values are of the type usize with their bound as a fact: each is a place or a part of a sum next, and as u16 it would be cast at every use.
 
 // The word of undefined is above every number, so a sum with it is no number either.
 fn add(a: usize, b: usize) -> usize
@@ -111,6 +118,7 @@ fn connect(connective: Connective, a: usize, b: usize) -> usize
 // ── the store ──
 
 // A word of the store; past its end, the word of undefined.
+// Stays: std's chain is the generic function; this names it, so that its contract says once what a store holds.
 pub fn word(m: &[u16], i: usize) -> usize
     ensures { (result ≡ stored m.now i) × (result < 65536) }
 {
@@ -122,8 +130,9 @@ fn cell(m: &[u16], at: usize, f: usize, x: usize) -> usize
     requires { (at < 65536) × (f < 65536) × (x < 65536) }
     ensures { (result ≡ encode 65535 (reading_in m.now at f (decode 65534 x ∷ []))) × (result < 65536) }
 {
-    if x < word(m, 4 + 2 * f) {
-        word(m, at + (word(m, 4 + 2 * f + 1) + x))
+    let row = store::ROWS + store::ROW_WORDS * f;
+    if x < word(m, row) {
+        word(m, at + (word(m, row + 1) + x))
     } else {
         UNDEFINED
     }
@@ -133,12 +142,12 @@ fn cell(m: &[u16], at: usize, f: usize, x: usize) -> usize
 fn old_cells(m: &[u16]) -> usize
     ensures { (result ≡ before_place m.now) × (result < 65536) }
 {
-    word(m, 3)
+    word(m, store::OLD_CELLS)
 }
 
 // ── data ──
 
-// A constant, and a variable, behind their code.
+// A constant, and a variable, after their code.
 fn constant(t: &[u16]) -> Valued
     ensures { (result ≡ valued (get_or t.now 0 0) (length (drop 1 t.now))) × (result.value < 65536) × (result.left ≤ length t.now) }
 {
@@ -172,7 +181,7 @@ fn operand(s: &[u16], m: &[u16]) -> Valued
     }
 }
 
-// Two data, one behind the other, and what an operation makes of them. Inlined, since its frame would come on top of the evaluator's at each level.
+// Two data, one after the other, and what an operation makes of them. Inlined, since its frame would come on top of the evaluator's at each level.
 #[cycle(evaluators)]
 #[inline(always)]
 fn paired(operation: Operation, t: &[u16], m: &[u16]) -> Valued
@@ -234,7 +243,7 @@ pub fn eval_data(s: &[u16], m: &[u16]) -> Valued
         SUM => paired(Operation::Add, t, m),
         DIFFERENCE => paired(Operation::Subtract, t, m),
         IF => selected(t, m),
-        NOW => attribute(t, m, 36),
+        NOW => attribute(t, m, store::CELLS),
         BEFORE => attribute(t, m, old_cells(m)),
         _ => Valued {
             value: UNDEFINED,
@@ -245,7 +254,7 @@ pub fn eval_data(s: &[u16], m: &[u16]) -> Valued
 
 // ── conditions ──
 
-// Two data, one behind the other, and how they compare: 1 or 0.
+// Two data, one after the other, and how they compare: 1 or 0.
 #[cycle(evaluators)]
 #[inline(always)]
 fn compared(operation: Operation, t: &[u16], m: &[u16]) -> usize
@@ -256,7 +265,7 @@ fn compared(operation: Operation, t: &[u16], m: &[u16]) -> usize
     pack(v.value, v.left)
 }
 
-// Two conditions, one behind the other, and what a connective makes of them: of 0 and 1, the least is `and`, and the largest `or`.
+// Two conditions, one after the other, and what a connective makes of them: of 0 and 1, the least is `and`, and the largest `or`.
 #[cycle(evaluators)]
 fn joined(connective: Connective, t: &[u16], m: &[u16]) -> usize
     requires { length t.now < 65535 }

@@ -77,7 +77,7 @@ module _ (event : List ℕ) (R : RuleSet) where
   unfolding event_asked asked_at
   odd_stranger h = sym (ap asked_at (ne_eqb (length event % 2) 0 h))
 
-  -- Words that are no event are none with an odd byte behind them either.
+  -- Words that are no event are none with an odd byte after them either.
   none_asked : given_event R (words_in event) ≡ none → None ≡ event_asked (event_in R event)
   unfolding event_asked asked_at
   none_asked e = go (even event)
@@ -105,7 +105,7 @@ module _ (T event : List ℕ) where
   pub asked_long : 6 < word_count event → EventAsked None
   asked_long h R form d = none_asked event R (long_stranger R form (words_in event) (omega (arith, words_counted event)))
 
-  -- The words loaded into an array with room for them, and what was told of its front.
+  -- The words loaded into an array with room for them, and what was said of its first part.
   module _ (M M' s : List ℕ) (room : word_count event ≤ length M) (l : Loaded event M M' 0 (word_count event)) (es : s ≡ take (word_count event) M') (g : Option ℕ) (told : (R : RuleSet) → Form R → Declares T R → g ≡ event_as (given_event R s)) where
     told_event : (R : RuleSet) → Form R → Declares T R → g ≡ event_as (given_event R (words_in event))
     told_event R form d = told R form d ∙ ap (λ u. event_as (given_event R u)) (es ∙ loaded_words event M M' (word_count event) refl room l)

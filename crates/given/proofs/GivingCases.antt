@@ -1,4 +1,4 @@
--- A case for each way that the check of a given term returns.
+-- A case for each way that the check of a given term returns (document 01, "Operations"; refusal 10).
 use mathlib.Core.Path.{◌≡◌, refl, ap, sym, ◌∙◌, subst}
 use mathlib.Core.List.{List}
 use mathlib.Core.Option.{Option as Optional, none, some}
@@ -40,7 +40,7 @@ use Rattle.given.specs.Giving.{checked_as, Spelled, TermChecked, found_term}
 use Rattle.refusals.specs.declared.Refusal.{Refusal}
 use Rattle.refusals.specs.Numbers.{refusal}
 
--- Loaded from a buffer's front, all its words: as a part that begins there.
+-- Loaded from a buffer's start, all its words: as a part that begins there.
 pub loaded_part : (B M M' : List ℕ) (n : ℕ) → n ≡ word_count B → n ≤ length M → Loaded B M M' 0 n → take (n - 0) (drop 0 M') ≡ words_in B
 loaded_part B M M' n e room l = let z : n - 0 ≡ n = omega arith in ap (λ k. take k M') z ∙ loaded_words B M M' n e room l
 

@@ -28,7 +28,7 @@ abbrev pub asked_as : Request → RuleSet → Option Wanted
 asked_as (request.Move k) R = Some (wanted.Number k)
 asked_as (request.Event event) R = event_asked (event_in R event.now)
 
--- What is wanted, a number or an action's number, stands for a choice among the listed moves.
+-- What is wanted, a number or an action's number, means a choice among the listed moves.
 abbrev pub Chooses : Wanted → (List Move → Optional Move) → Type 0
 Chooses (wanted.Number k) choose = choose ≡ (λ xs. get_elem? xs k)
 Chooses (wanted.Action x) choose = (ρ : Action) × Small ρ × (x ≡ action_code ρ) × (choose ≡ at_first ρ)

@@ -2,19 +2,23 @@
 use Rattle.std.specs.Prelude.{◌≡◌, List, ◌++◌, ℕ, ◌+◌, ◌*◌, ◌≤◌, length, take, drop, get_or, Err, Result}
 use Rattle.std.proofs.Math.Path.{refl, ap, sym}
 use Rattle.std.proofs.Common.{◌∙◌, subst, arith}
+use Rattle.eb3.specs.Refusal as Why
+use Rattle.eb3.specs.Generic.Lists.{one_of, all_of, one_of_more}
 use Rattle.eb3.specs.Terms.{Term}
 use Rattle.eb3.specs.Sizes.{size, reach}
 use Rattle.eb3.proofs.Laws.Sizes.{size_below_reach}
 use Rattle.eb3.specs.Spelling.{words}
 use Rattle.eb3.proofs.Laws.Spelling.{words_length}
-use Rattle.eb3.specs.Bytes.{word_count}
+use Rattle.eb3.specs.Bytes.{words_in, word_count}
 use Rattle.eb3.specs.Blocks.{stream}
 use Rattle.eb3.specs.Admission.{admission}
 use Rattle.eb3.specs.RuleSets.{RuleSet}
 use Rattle.eb3.specs.WellFormedness.{Form}
 use Rattle.eb3.specs.Answers.{Answer, refused, answered, and_then}
 use Rattle.eb3.proofs.Laws.Answers.{and_then_answered, answered_injective, not_both}
-use Rattle.eb3.specs.Operations.{cells_needed, term_in}
+use Rattle.eb3.specs.TermReading.{given_term}
+use Rattle.eb3.specs.Operations.{cells_needed, even, term_in}
+use Rattle.eb3.proofs.Laws.Refusals.{Within, picked, and_then_within, or_refused_within, admission_within, refused_within}
 use Rattle.eb3.proofs.Laws.Editions.{width_is_1}
 use Rattle.weights.specs.declared.Limits.{Limits}
 use Rattle.declarations.specs.Declaring.{Declares}
@@ -25,14 +29,14 @@ use Rattle.given.specs.declared.giving.Given.{Given}
 use Rattle.admission.specs.Knowing.{Known}
 use Rattle.given.specs.Giving.{checked_as, TermChecked, given_in, given_as, Described, GivenDone, found_term}
 use Rattle.refusals.specs.declared.Refusal.{Refusal}
-use Rattle.refusals.specs.Numbers.{RefusedBy}
+use Rattle.refusals.specs.Numbers.{number, refusal_number, RefusedBy, refused_by}
 
 module _ (rules term words₀ : List ℕ) (n : ℕ) (words' T D ws : List ℕ) (decoded : words' ≡ stream rules ++ drop (254 * n) words₀) where
-  pub given_refused : (k : Refusal) → RefusedBy k (admission rules) → GivenDone rules term words₀ n (Err k) words' T D ws
+  pub given_refused : (k : Refusal) → admission rules ≡ refused (number k) → GivenDone rules term words₀ n (Err k) words' T D ws
   unfolding given_as and_then
-  given_refused k h =
-      let f : given_in rules term ≡ refused h.code = ap (λ a. and_then a λ R. and_then (term_in R term) λ E. answered (R, E)) h.is in
-      record { answer = ap Err h.named ∙ sym (ap given_as f); decoded = decoded; described = λ R E g. absurd (not_both h.code (R, E) (sym f ∙ g)) }
+  given_refused k e =
+      let f : given_in rules term ≡ refused (number k) = ap (λ a. and_then a λ R. and_then (term_in R term) λ E. answered (R, E)) e in
+      record { answer = ap Err (sym (refusal_number k)) ∙ sym (ap given_as f); decoded = decoded; described = λ R E g. absurd (not_both (number k) (R, E) (sym f ∙ g)) }
 
   module _ (l : Limits) (k : Known rules T D l) where
     abbrev R : RuleSet
@@ -73,7 +77,22 @@ unfolding given_as
 refused_from (refused j) k e = record { code = j; is = refl; named = cc }
 refused_from (answered p) k e = absurd (let z : ◌≡◌ {A = ℕ} 0 1 = cc in omega arith)
 
--- The rule set and the term that an answer stands for.
+-- A rule set is refused by a number from 1 to 8, and a term by 10.
+module _ (rules term : List ℕ) where
+  more_within : (a : Answer RuleSet) → Within Why.of_admission a → Within Why.of_present a
+  unfolding one_of all_of
+  more_within (refused j) h = one_of_more Why.of_present Why.of_admission tt j h
+  more_within (answered R) h = tt
+
+  term_within : (R : RuleSet) → Within Why.of_present (term_in R term)
+  unfolding one_of
+  term_within R = picked (Within Why.of_present) (even term) _ _ (or_refused_within Why.of_present Why.term (given_term R (words_in term)) tt) tt
+
+  given_within : Within Why.of_present (given_in rules term)
+  given_within = and_then_within Why.of_present (admission rules) _ (more_within (admission rules) (admission_within rules)) (λ R.
+      and_then_within Why.of_present (term_in R term) _ (term_within R) (λ E. tt))
+
+-- The rule set and the term that an answer is about.
 pub record Found (a : Answer (RuleSet × Term)) (c g : ℕ) : Type 0 where
   pub rule_set : RuleSet
   pub running_term : Term
@@ -89,8 +108,10 @@ found_from (answered p) c g e =
     record { rule_set = p.0; running_term = p.1; given_so = refl; cells_are = ap (λ x. x.cells) q; reach_is = ap (λ x. x.reach) q }
 
 module _ (rules term words₀ : List ℕ) (n : ℕ) (r : Result Given Refusal) (words' T D ws : List ℕ) (d : GivenDone rules term words₀ n r words' T D ws) where
-  pub told_refused : (k : Refusal) → r ≡ Err k → RefusedBy k (given_in rules term)
-  told_refused k e = refused_from (given_in rules term) k (sym e ∙ d.answer)
+  pub told_refused : (k : Refusal) → r ≡ Err k → given_in rules term ≡ refused (number k)
+  told_refused k e =
+      let within = refused_within Why.of_present (given_in rules term) (given_within rules term) in
+      refused_by k (given_in rules term) within (refused_from (given_in rules term) k (sym e ∙ d.answer))
 
   pub told_found : (c g : ℕ) → r ≡ found_term c g → Found (given_in rules term) c g
   told_found c g e = found_from (given_in rules term) c g (sym e ∙ d.answer)

@@ -4,10 +4,10 @@ ghost use Rattle.std.specs.Prelude.{◌≡◌, ℕ, ◌*◌, ◌/◌, ◌≤◌,
 ghost use Rattle.eb3.specs.RuleSets.{RuleSet};
 ghost use Rattle.eb3.specs.WellFormedness.{Form};
 ghost use Rattle.declarations.specs.Declaring.{Declares};
-ghost use Rattle.admission.specs.Knowing.{Opens};
 ghost use Rattle.given.specs.Giving.{TermChecked, GivenDone};
 
 use admission::admit_in;
+use blocks::opened::Blocks;
 use cells::load;
 use refusals::Refusal;
 use terms::given_term;
@@ -42,19 +42,20 @@ fn check_term(tb: &[u32], c: usize, term: &[u8], ws: &mut [u16]) -> Result<Given
     }
 }
 
-// n opened blocks, decoded into lent words, and a term.
+// An opened file, decoded into lent words, and a term.
+// Stays: the words, the tables, the directory and the term's words are four arrays, lent apart: fixed memory and no heap, and each holds
+// another thing.
 pub fn given_in(
-    rules: &[u8],
-    n: usize,
+    file: &Blocks,
     words: &mut [u16],
-    tables: &mut [u32],
-    dir: &mut [u32],
+    tables: &mut [u32; 500],
+    dir: &mut [u32; 1072],
     term: &[u8],
     ws: &mut [u16],
 ) -> Result<Given, Refusal>
-    requires { (length rules.now ≡ 512 * n) × (254 * n ≤ length words.old) × (1 ≤ n) × (n ≤ 64) × (length tables.old ≡ 500) × (length dir.old ≡ 1072) × Opens rules.now × (length term.now / 2 ≤ 8192 → length term.now / 2 ≤ length ws.old) }
-    ensures { (length ws.new ≡ length ws.old) × GivenDone rules.now term.now words.old n result words.new tables.new dir.new ws.new }
+    requires { (254 * file.now.count ≤ length words.old) × (length term.now / 2 ≤ 8192 → length term.now / 2 ≤ length ws.old) }
+    ensures { (length ws.new ≡ length ws.old) × GivenDone file.now.bytes.now term.now words.old file.now.count result words.new tables.new dir.new ws.new }
 {
-    let sizes = admit_in(rules, words, tables, dir, n)?;
+    let sizes = admit_in(file, words, tables, dir)?;
     check_term(tables, sizes.cells as usize, term, ws)
 }

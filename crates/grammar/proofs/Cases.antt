@@ -1,4 +1,5 @@
--- A case for each way that the front of a row is told; the premises have the form of what the code tells there, so that `search` finds them.
+-- A case for each way that the front of a row is said; the premises have the form of what the code says there, so that `search` finds them.
+-- Document 01, "Values and conditions"; refusals 4 and 5.
 use Prim.Native.Nat.{ℕ, suc, ◌+◌, ◌≤◌, ◌<◌}
 use native.Mathlib.Omega.{arith}
 use native.Mathlib.Decide.{dec_le}
@@ -26,7 +27,7 @@ use Rattle.refusals.specs.declared.Refusal.{Refusal}
 use Rattle.refusals.specs.declared.Refusal.TheVariants.{Form, Reference}
 use Rattle.refusals.specs.Numbers.{refusal, number, refusal_number}
 
--- ── a number in front ──
+-- ── a number at the front ──
 
 pub operand_none : (k : Refusal) (limit : ℕ) (s : List ℕ) (at m : ℕ) → length s ≤ at → Operand k limit s at m (Err Form)
 unfolding number_of refusal
@@ -78,7 +79,7 @@ one_named limit arity k d t h =
 
 -- ── the codes ──
 
--- What a match tells of the codes that it tests one by one, where none is met.
+-- What a match says of the codes that it tests one by one, where none is met.
 abbrev OtherD : ℕ → Type 0
 OtherD w = ((((((Unit {0} × (w ≡ 0 → ⊥)) × (w ≡ 1 → ⊥)) × (w ≡ 2 → ⊥)) × (w ≡ 5 → ⊥)) × (w ≡ 6 → ⊥)) × (w ≡ 7 → ⊥))
 
@@ -103,7 +104,7 @@ cond_none P s at rest h = rw (drop_of_length-le s {i = at} h)
 
 -- ── a word at the place `at` ──
 
--- A number behind it, and m of f's behind that.
+-- A number after it, and m of f's after that.
 faced : {A B : Type 0} (f : Reader A) (g : Reader B) (after : ℕ) (s : List ℕ) (at rest m : ℕ) (k : Refusal) (limit : ℕ) (r : Result Front Refusal) → m ≤ at + 2
     → checked (repeat (suc rest) f (drop at s)) ≡ checked (then (number_of (number k) limit (drop (at + 1) s)) (λ w. repeat m f)) → Operand k limit s (at + 1) m r → Facing f g after s at rest r
 unfolding then checked
@@ -135,7 +136,7 @@ module _ (P : Scope) (s : List ℕ) (at rest : ℕ) (h : at < length s) (few : r
       let e : suc at ≡ at + 1 = omega arith in
       ap (λ i. drop i s) e
 
-  -- what stands there by its kind
+  -- what is there by its kind
   data_at : (k : DataKind) → data_kind P (get_or s at 0) ≡ k → rd (drop at s) ≡ data_by 1 P (whole 1 P) k t
   data_at k e = ap rd (drop-cons s at 0 h) ∙ data_case 1 P (get_or s at 0 ∷ drop (suc at) s) k (λ z. omega arith) e ∙ ap (data_by 1 P (whole 1 P) k) back
 

@@ -1,4 +1,4 @@
--- Answers of listing, put together and taken apart; one move, and two operands' lists one behind the other.
+-- Answers of listing, put together and taken apart; one move, and two operands' lists one after the other (document 01, "Moves, in order").
 use mathlib.Core.Path.{◌≡◌, refl, sym, ap, ◌∙◌}
 use mathlib.Core.List.{List, ◌++◌}
 use Prim.Native.Nat.{ℕ, ◌+◌, ◌-◌, ◌*◌, ◌/◌, ◌%◌, ◌≤◌, ◌<◌}
@@ -27,7 +27,7 @@ sound_lost entry exit h = record { same_length = h; bounded = le_refl full; coun
 pub never_full : {A : Type 0} → full < full → A
 never_full z = absurd (omega (arith, z))
 
--- What is known of a term that may stand there.
+-- What is known of a term that may be there.
 abbrev pub Told : ℕ → List ℕ → List ℕ → List ℕ → ℕ → Scope → Term → List ℕ → Type 0
 Told x M entry exit r P E rest = (room (holding M) E ≤ length entry → r < full) × (r < full → Lists (shown x (holding M) E) (length rest) exit r)
 
@@ -64,7 +64,7 @@ one-made code left entry l h = record {
 
 -- ── two operands ──
 
--- l is the answer of the first operand's list, r that of the second's behind it
+-- l is the answer of the first operand's list, r that of the second's after it
 module _ {x : ℕ} (t M entry mid : List ℕ) (l : ℕ) (first : ShownListed x t M entry mid l) (short : length t ≤ 65535) (few : length entry ≤ 131072) where
   module _ (ok : l < full) where
     module _ (P : Scope) (E F : Term) (rest : List ℕ) (k : TwoAt t P E F rest) where

@@ -1,4 +1,4 @@
--- Each form of a term: from its operands' answers to its own.
+-- Each form of a term: from its operands' answers to its own (document 01, "Moves, in order").
 use mathlib.Core.Path.{◌≡◌, refl, sym, ap, ◌∙◌, subst}
 use mathlib.Core.Bool.{Bool, true, false}
 use mathlib.Core.List.{List, [], ◌∷◌, ◌++◌}
@@ -22,7 +22,7 @@ use Rattle.listing.specs.RoomLaws.{room_after_done, room_sequence, room_choice}
 use Rattle.listing.specs.Arms.{Lists, Sound, OneListed, ShownListed, TwoListed, SideListed}
 use Rattle.listing.proofs.Answers.{sound_lost, never_full, Told, listed_of, lists_as}
 
--- ── no operand, or two listed one behind the other ──
+-- ── no operand, or two listed one after the other ──
 
 pub internal_listed : {x : ℕ} (t M entry exit : List ℕ) (r : ℕ) → OneListed 0 (length t) entry exit r → ShownListed x (20 ∷ t) M entry exit r
 unfolding room
@@ -36,7 +36,7 @@ none_sound entry n h = record { same_length = refl; bounded = omega arith; count
 pub none_lists : (exit : List ℕ) (left r : ℕ) → r ≡ left → Lists [] left exit r
 none_lists exit left r e = record { counted = omega (arith, e, answer_is left 0); listed = refl }
 
--- code is the action's number, and so many words are left behind it
+-- code is the action's number, and `left` words are left after it
 module _ (x : ℕ) (t entry : List ℕ) (code left : ℕ) (f : (a : VisibleAction) (rest : List ℕ) → ActionAt t a rest → code ≡ action_code (visible a))
     (g : (a : VisibleAction) (rest : List ℕ) → ActionAt t a rest → left ≡ length rest) (b : Bool) (tested : b ≡ in_set x code) where
   told : (a : VisibleAction) (rest : List ℕ) → ActionAt t a rest → in_set x (action_code (visible a)) ≡ b
@@ -58,7 +58,7 @@ choice_listed {x} t M entry exit r h = listed_of h.sound (choice_cases t (Told x
       λ z. lists_as (shown_choice x (holding M) E F) refl (h.right P E F rest s z),
     )))
 
--- ── the moves of one operand, where b words are left behind the whole ──
+-- ── the moves of one operand, where b words are left after the whole ──
 
 module _ {x : ℕ} (t M entry exit : List ℕ) (l : ℕ) (h : ShownListed x t M entry exit l) where
   pub side_lost : (b : ℕ) → full ≤ l → SideListed x t M b entry exit full
@@ -93,7 +93,7 @@ module _ {x : ℕ} (t M entry exit : List ℕ) (w : ℕ) (isw : w ≡ get_or t 0
         λ z. lists_as (shown_after_done x (holding M) E F d) refl (h.right P F rest b z),
       )))
 
-  -- b is the count of words behind the second operand, wherever there is one
+  -- b is the count of words after the second operand, wherever there is one
   side_sequence : (r b : ℕ) → (w ≡ 30 → ⊥) → SideListed x t M b entry exit r
       → ((P : Scope) (E F : Term) (rest : List ℕ) → TwoAt t P E F rest → r < full → b ≡ length rest) → ShownListed x (22 ∷ t) M entry exit r
   side_sequence r b n h f = listed_of h.sound (sequence_cases t (Told x M entry exit r)
@@ -117,7 +117,7 @@ module _ {x : ℕ} (t M entry exit : List ℕ) (w : ℕ) (isw : w ≡ get_or t 0
         let le = answered_left l (length (words 1 F ++ rest)) (length (shown x (holding M) E)) q.counted sh in
         f P F rest (second_at (l % 65536) u s le isu))
 
--- ── the code in front ──
+-- ── the code at the front ──
 
 pub at_front : {x : ℕ} (s t M entry exit : List ℕ) (w k r : ℕ) → w ≡ get_or s 0 0 → t ≡ drop 1 s → w ≡ k → 0 < k → ShownListed x (k ∷ t) M entry exit r → ShownListed x s M entry exit r
 at_front {x} s t M entry exit w k r a b e z h = subst (λ u. ShownListed x u M entry exit r) (sym (front_form s t w k a b e z)) h

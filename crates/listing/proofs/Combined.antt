@@ -1,4 +1,5 @@
--- What combining answers: the three lists are written one behind the other behind both sides, and then copied to the front.
+-- What combining answers: the three lists are written one after the other after both sides, and then copied to the front (document 01, "Moves, in
+-- order": left's moves outside the mask, right's likewise, then pairs of equal actions in it).
 use mathlib.Core.Path.{◌≡◌, sym, ap, ◌∙◌}
 use mathlib.Core.Bool.{Bool}
 use mathlib.Core.List.{List, ◌++◌}
@@ -14,7 +15,7 @@ pub begun : (p : ℕ → Bool) (left right out : List ℕ) → Writing (combined
 unfolding combined
 begun p left right out = writing_start (combined p left right) 0 out (omega arith)
 
--- both are the first b numbers of x, left the first n of these and right the others; out are those behind them
+-- both are the first b numbers of x, left the first n of these and right the others; out are those after them
 module _ (p : ℕ → Bool) (n b : ℕ) (x both left right out : List ℕ) (nb : n ≤ b) (fits : b ≤ length x) (isb : both ≡ take b x) (iso : out ≡ drop b x) (isl : left ≡ take n both) (isr : right ≡ drop n both) where
   made_is : combined p left right ≡ combined p (slice 0 n x) (slice n b x)
   made_is = λ i. combined p ((isl ∙ ap (take n) isb ∙ take-take n b x nb) i) ((isr ∙ ap (drop n) isb) i)

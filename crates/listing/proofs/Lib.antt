@@ -1,6 +1,4 @@
 -- What the proofs of several functions use (document 01, "Moves, in order").
-mod Pieces
-mod Skipping
 mod Writing
 mod Copying
 mod Combined

@@ -1,4 +1,4 @@
--- A parallel: both sides' lists, one behind the other or combined by the mask.
+-- A parallel: both sides' lists, one after the other or combined by the mask (document 01, "Moves, in order").
 use mathlib.Core.Path.{◌≡◌, refl, sym, ap, ◌∙◌, subst}
 use mathlib.Core.Bool.{Bool, true, false, ◌&&◌}
 use mathlib.Core.List.{List, ◌∷◌, ◌++◌}
@@ -19,15 +19,14 @@ use Rattle.listing.specs.Positions.{TwoAt, MaskedAt, second_at}
 use Rattle.listing.specs.Operands.{answer_is, BothDone, behind_both}
 use Rattle.listing.specs.CasesByCode.{parallel_cases}
 use Rattle.listing.specs.Combining.{combined, Made, Combined}
-use Rattle.std.specs.Prelude.{Some, None}
+use Rattle.std.specs.Prelude.{Some, None, eqb}
 use Rattle.listing.specs.Shown.{shown}
 use Rattle.listing.specs.ShownLaws.{mask_set_front, shown_below, shown_both_done, shown_parallel, combined_hidden, beside_idle_left, beside_idle_right, room_sides, room_combined}
 use Rattle.listing.specs.RoomLaws.{room_both_done}
 use Rattle.listing.specs.Arms.{OneListed, ShownListed, TwoListed, SideListed, MaskedListed}
-use Rattle.listing.proofs.Skipping.{Tells}
 use Rattle.listing.proofs.Answers.{whole_length, first_count, second_lost, second_count, second_left, second_listed, both_front, sound_lost, never_full, Told, listed_of, lists_as}
 
--- t stands behind the mask at the front of d
+-- t comes after the mask at the front of d
 sides : (d t : List ℕ) → t ≡ drop 4 d → {P : Scope} {Δ : List ℕ} {E F : Term} {rest : List ℕ} → MaskedAt d P Δ E F rest → TwoAt t P E F rest
 sides d t ist {P} {Δ} {E} {F} {rest} k = subst (λ v. TwoAt v P E F rest) (sym ist) k.sides
 
@@ -125,10 +124,14 @@ module _ {x : ℕ} (d t M entry mid : List ℕ) (l : ℕ) (first : ShownListed x
 
 -- ── beside a side that can never move ──
 
+-- Whether the term at the front can never move.
+abbrev pub Tells : List ℕ → Bool → Type 0
+Tells t b = (P : Scope) (E : Term) (rest : List ℕ) → TermAt t P E rest → b ≡ eqb (breadth E) 0
+
 idle_is : (t : List ℕ) (b : Bool) → Tells t b → b ≡ true → (P : Scope) (E : Term) (rest : List ℕ) → TermAt t P E rest → breadth E ≡ 0
 idle_is t b f e P E rest h = eqb→eq (breadth E) 0 (subst T (sym e ∙ f P E rest h) tt)
 
--- n words stand behind the left side; y is x with the mask's labels
+-- n words come after the left side; y is x with the mask's labels
 module _ (x : ℕ) (d t u M entry exit : List ℕ) (ist : t ≡ drop 4 d) (n : ℕ) (skipped : (P : Scope) (E : Term) (rest : List ℕ) → TermAt t P E rest → n ≡ length rest) (isu : u ≡ last_of n t)
     (b : Bool) (y r : ℕ) where
   right_at : {P : Scope} {Δ : List ℕ} {E F : Term} {rest : List ℕ} → MaskedAt d P Δ E F rest → TermAt u P F rest

@@ -1,4 +1,4 @@
--- A star, a guard and a parallel: from their operands' answers to their own.
+-- A star, a guard and a parallel: from their operands' answers to their own (document 01, "Moves, in order").
 use mathlib.Core.Path.{◌≡◌, refl, sym, ap, ◌∙◌}
 use mathlib.Core.List.{List, [], ◌∷◌, ◌++◌}
 use Prim.Native.Nat.{ℕ, ◌+◌, ◌-◌, ◌/◌, ◌%◌, ◌≤◌, ◌<◌}
@@ -25,7 +25,7 @@ pub star_none : {x : ℕ} (t M entry : List ℕ) → length entry ≡ 0 → Show
 star_none {x} t M entry e = listed_of (sound_lost entry entry refl) (star_cases t (Told x M entry entry full)
     (λ P E rest s. (λ k. absurd (omega (arith, room_star (holding M) E, k)), λ z. never_full z)))
 
--- y is the array with the internal move in front
+-- y is the array with the internal move at the front
 module _ {x : ℕ} (t M entry y back : List ℕ) (r : ℕ) (isy : y ≡ set entry 0 0) (some : length entry ≡ 0 → ⊥) (few : length entry ≤ 131072) (lent : ShownListed x t M (take (length y - 1) (drop 1 y)) back r) where
   behind : ShownListed x t M (drop 1 y) back r
   behind = rw (← part 1 y) lent

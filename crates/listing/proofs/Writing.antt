@@ -1,4 +1,4 @@
--- Numbers written one behind the other into an array, from some place on.
+-- Numbers written one after the other into an array, from some place on (document 01, "Moves, in order").
 use mathlib.Core.Path.{◌≡◌, refl, sym, ap, ◌∙◌}
 use mathlib.Core.Bool.{Bool, true, false, cond}
 use mathlib.Core.List.{List, [], ◌∷◌, ◌++◌, append_assoc, append-nil}

@@ -1,4 +1,4 @@
--- What listing outside a set x of labels answers: of a term, and at each form of one, which is one move, two operands one behind the other, or
+-- What listing outside a set x of labels answers: of a term, and at each form of one, which is one move, two operands one after the other, or
 -- two operands combined by a mask.
 -- Document 01, "Moves, in order".
 use Rattle.std.specs.Prelude.{◌≡◌, List, [], ◌∷◌, ◌++◌, ℕ, ◌/◌, ◌≤◌, ◌<◌, length, take}
@@ -12,7 +12,7 @@ use Rattle.listing.specs.Combining.{combined}
 use Rattle.listing.specs.RoomLaws.{two_room, masked_room}
 use Rattle.listing.specs.Shown.{shown}
 
--- The array begins with o, and so many words are left.
+-- The array begins with o, and `left` words are left.
 pub record Lists (o : List ℕ) (left : ℕ) (exit : List ℕ) (r : ℕ) : Type 0 where
   pub counted : r ≡ answer left (length o)
   pub listed : take (length o) exit ≡ o
@@ -39,7 +39,7 @@ pub record TwoListed (x : ℕ) (t M entry exit : List ℕ) (r : ℕ) : Type 0 wh
   pub has_room : (P : Scope) (E F : Term) (rest : List ℕ) → TwoAt t P E F rest → two_room (holding M) E F ≤ length entry → r < full
   pub right : (P : Scope) (E F : Term) (rest : List ℕ) → TwoAt t P E F rest → r < full → Lists (shown x (holding M) E ++ shown x (holding M) F) (length rest) exit r
 
--- A term whose moves stand for those of a whole behind which so many words are left.
+-- A term whose moves are those of a whole after which `left` words are left.
 pub record SideListed (x : ℕ) (t M : List ℕ) (left : ℕ) (entry exit : List ℕ) (r : ℕ) : Type 0 where
   pub sound : Sound entry exit r
   pub has_room : (P : Scope) (E : Term) (rest : List ℕ) → TermAt t P E rest → room (holding M) E ≤ length entry → r < full

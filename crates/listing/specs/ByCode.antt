@@ -1,4 +1,4 @@
--- A code tells which term stands behind it: one case for each code.
+-- A code says which term begins with it: one case for each code.
 -- Document 01, "Moves, in order".
 use Rattle.std.specs.Prelude.{◌≡◌, List, ℕ}
 use Rattle.std.proofs.Common.{arith}
@@ -6,7 +6,7 @@ use Rattle.eb3.specs.Expressions.{Cond}
 use Rattle.eb3.specs.Terms.{Term, Done, Internal, Perform, Sequence, Choice, Star, Parallel, Guard, VisibleAction}
 use Rattle.listing.specs.Positions.{code_in_front}
 
--- What is known of a code behind the cases from 20 to 26.
+-- What is known of a code after the cases from 20 to 26.
 abbrev pub NoOther : ℕ → Type 0
 NoOther w = ((((((Unit {0} × (w ≡ 20 → ⊥)) × (w ≡ 21 → ⊥)) × (w ≡ 22 → ⊥)) × (w ≡ 23 → ⊥)) × (w ≡ 24 → ⊥)) × (w ≡ 25 → ⊥)) × (w ≡ 26 → ⊥)
 

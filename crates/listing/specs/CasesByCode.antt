@@ -1,4 +1,4 @@
--- What is shown of the operands behind a code is shown of every term that begins with it.
+-- What is shown of the operands after a code is shown of every term that begins with it.
 -- Document 01, "Moves, in order".
 use Rattle.std.specs.Prelude.{◌≡◌, List, ◌∷◌, ℕ, drop}
 use Rattle.std.proofs.Common.{ap}

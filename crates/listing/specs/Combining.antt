@@ -1,5 +1,5 @@
 -- The numbers of a parallel's moves, made of those of its sides (document 01, "Moves, in order"): left's outside the mask, right's likewise, then
--- pairs of equal actions in the mask, ordered by left, then right. `p` tells which numbers are in the mask.
+-- pairs of equal actions in the mask, ordered by left, then right. `p` says which numbers are in the mask.
 use Rattle.std.specs.Prelude.{◌≡◌, Bool, cond, List, [], ◌∷◌, ◌++◌, ℕ, ◌+◌, ◌≤◌, ◌<◌, eqb, length, take, drop, Option, MatchOption}
 
 unfoldable pub outside : (ℕ → Bool) → List ℕ → List ℕ
@@ -29,13 +29,13 @@ pub record Wrote (o : List ℕ) (e : ℕ) (x y : List ℕ) (r : Option ℕ) : Ty
   pub same_length : length y ≡ length x
   pub written : MatchOption r (length x < e + length o) (Written o e x y)
 
--- The r numbers of o stand in front of y, and behind b numbers x has room for as many.
+-- The r numbers of o are at the front of y, and after b numbers x has room for r more.
 pub record Made (o : List ℕ) (b : ℕ) (x y : List ℕ) (r : ℕ) : Type 0 where
   pub fitted : b + r ≤ length x
   pub counted : r ≡ length o
   pub front : take r y ≡ o
 
--- What combining answers: how many numbers now stand in front, or None where there was no room behind the b that both sides take.
+-- What combining answers: how many numbers are now at the front, or None where there was no room after the b that both sides take.
 pub record Combined (o : List ℕ) (b : ℕ) (x y : List ℕ) (r : Option ℕ) : Type 0 where
   pub same_length : length y ≡ length x
   pub made : MatchOption r (length x < b + length o) (Made o b x y)

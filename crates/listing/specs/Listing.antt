@@ -21,7 +21,7 @@ Fits P (Star E) = Fits P E
 Fits P (Parallel Δ E F) = (length Δ ≡ 4) × Fits P E × Fits P F
 Fits P (Guard C E) = CondInScope C P × Fits P E
 
--- s begins with such a term, and rest stands behind it.
+-- s begins with such a term, and rest comes after it.
 pub record TermAt (s : List ℕ) (P : Scope) (E : Term) (rest : List ℕ) : Type 0 where
   pub plain : Plain P
   pub fits : Fits P E
@@ -39,7 +39,7 @@ code_of x = action_code x.action
 unfoldable pub codes : (Cond → Bool) → Term → List ℕ
 codes g E = map code_of (moves g E)
 
--- The room that listing takes: at a parallel with a mask both sides' lists stand before the list that is made of them.
+-- The room that listing takes: at a parallel with a mask both sides' lists are before the list that is made of them.
 unfoldable pub room : (Cond → Bool) → Term → ℕ
 room g Done = 0
 room g Internal = 1
@@ -57,7 +57,7 @@ room g (Guard C E) = cond (g C) (room g E) 0
 abbrev pub full : ℕ
 full = 1099511627776
 
--- What listing into a lent array answers: how many moves there are, 65,536 times, and the words left behind the term; the array begins with the
+-- What listing into a lent array answers: how many moves there are, 65,536 times, and the words left after the term; the array begins with the
 -- moves' numbers.
 pub record Right (g : Cond → Bool) (E : Term) (rest exit : List ℕ) (r : ℕ) : Type 0 where
   pub counted : r ≡ answer (length rest) (length (codes g E))

@@ -1,4 +1,4 @@
--- Where the operands of a term stand, and which of them are done: what the tests on codes and on conditions tell (document 01, "Moves, in order").
+-- Where the operands of a term are, and which of them are done: what the tests on codes and on conditions say (document 01, "Moves, in order").
 use Rattle.std.specs.Prelude.{◌≡◌, refl, Bool, true, false, ◌&&◌, List, [], ◌∷◌, ◌++◌, ℕ, ◌+◌, ◌*◌, ◌/◌, ◌%◌, ◌≤◌, ◌<◌, eqb, length, drop, get_or}
 use Rattle.std.proofs.Common.{sym, ◌∙◌, arith, length-drop, drop_of_length-le}
 use Rattle.std.proofs.Math.Path.{ap}
@@ -55,7 +55,7 @@ module _ {t : List ℕ} {P : Scope} {E F : Term} {rest : List ℕ} (s : TwoAt t 
   pub first_other : (get_or t 0 0 ≡ 30 → ⊥) → done? E ≡ false
   first_other h = other_test E (λ e. h (term_front t P E (words 1 F ++ rest) s.first ∙ e))
 
-  -- behind a term that is done
+  -- after a term that is done
   behind_done : get_or t 0 0 ≡ 30 → drop 1 t ≡ words 1 F ++ rest
   unfolding words
   behind_done e =
@@ -139,7 +139,7 @@ module _ (t M u : List ℕ) (c : ℕ) (judged : Judged t M c) (isu : u ≡ last_
         let q : u ≡ words 1 E ++ rest = isu ∙ ap (λ n. last_of n t) e ∙ ap (last_of (length (words 1 E ++ rest))) s.condition.spelled ∙ last_behind (cond_words 1 C) (words 1 E ++ rest) in
         record { plain = s.guarded.plain; fits = s.guarded.fits; spelled = q; closed = s.guarded.closed }
 
--- ── the code in front ──
+-- ── the code at the front ──
 
 pub front_form : (s t : List ℕ) (w k : ℕ) → w ≡ get_or s 0 0 → t ≡ drop 1 s → w ≡ k → 0 < k → s ≡ k ∷ t
 front_form [] t w k a b e z = absurd (omega arith)

@@ -1,4 +1,4 @@
--- Where the operands of a term stand, told by the code in front of it.
+-- Where the operands of a term are, by the code at its front.
 -- Document 01, "Moves, in order".
 use Rattle.std.specs.Prelude.{◌≡◌, refl, ℕ, ◌≤◌, length, take, drop, get_or}
 use Rattle.std.proofs.Math.Path.{ap}
@@ -15,7 +15,7 @@ use Rattle.expressions.specs.Answering.{Plain, CondAt}
 use Rattle.actions.specs.Codes.{Closed, ActionAt}
 use Rattle.listing.specs.Listing.{Fits, TermAt}
 
--- ── the code in front ──
+-- ── the code at the front ──
 
 unfoldable pub code_in_front : Term → ℕ
 code_in_front Done = 30
@@ -115,7 +115,7 @@ module _ (t : List ℕ) (P : Scope) (rest : List ℕ) where
     guarded = record { plain = h.plain; fits = h.fits.1; spelled = refl; closed = h.closed };
   }
 
--- ── what stands behind an operand ──
+-- ── what comes after an operand ──
 
 pub behind_term : (t : List ℕ) (P : Scope) (E : Term) (rest : List ℕ) → TermAt t P E rest → last_of (length rest) t ≡ rest
 behind_term t P E rest h = ap (last_of (length rest)) h.spelled ∙ last_behind (words 1 E) rest

@@ -1,4 +1,4 @@
--- Terms in a row, one behind the other (document 01, "Moves, in order": the operands of a term stand behind one another).
+-- Terms in a row, one after the other (document 01, "Moves, in order": the operands of a term come one after the other).
 use Rattle.std.specs.Prelude.{◌≡◌, refl, List, [], ◌∷◌, ◌++◌, ℕ}
 use Rattle.std.proofs.Common.{sym, ap, ◌∙◌, append-nil, append_assoc}
 use Rattle.eb3.specs.Generic.AllLists.{All}
@@ -13,7 +13,7 @@ abbrev pub terms_words : List Term → List ℕ
 terms_words [] = []
 terms_words (E ∷ Es) = words 1 E ++ terms_words Es
 
--- s begins with such terms, and rest stands behind them.
+-- s begins with such terms, and rest comes after them.
 pub record RowAt (s : List ℕ) (P : Scope) (Es : List Term) (rest : List ℕ) : Type 0 where
   pub plain : Plain P
   pub fit : All (Fits P) Es
@@ -24,7 +24,7 @@ pub record RowAt (s : List ℕ) (P : Scope) (Es : List Term) (rest : List ℕ) :
 pub row_of_one : (s : List ℕ) (P : Scope) (E : Term) (rest : List ℕ) → TermAt s P E rest → RowAt s P (E ∷ []) rest
 row_of_one s P E rest h = record { plain = h.plain; fit = (h.fits, tt); spelled = h.spelled ∙ ap (λ l. l ++ rest) (sym (append-nil (words 1 E))); closed = h.closed }
 
--- ── a row behind another ──
+-- ── a row after another ──
 
 pub terms_append : (Es Fs : List Term) → terms_words (Es ++ Fs) ≡ terms_words Es ++ terms_words Fs
 terms_append [] Fs = refl

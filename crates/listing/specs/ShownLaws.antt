@@ -134,7 +134,7 @@ module _ (x : ℕ) (g : Cond → Bool) where
 -- ── room ──
 
 module _ (x : ℕ) (g : Cond → Bool) (P : Scope) (Δ : Mask) (E F : Term) (h : (done? E && done? F) ≡ false) (e : Fits P E) (f : Fits P F) where
-  -- a parallel takes at least what its sides take one behind the other
+  -- a parallel takes at least what its sides take one after the other
   pub room_sides : two_room g E F ≤ room g (Parallel Δ E F)
   room_sides = go (zero_mask Δ) refl
     where

@@ -7,7 +7,8 @@ ghost use Rattle.listing.specs.Combining.{outside, equal_to, pairs, combined, Wr
 
 use actions::in_set;
 
-// Each of the functions below writes into `out` from a place on, and answers the place behind what it wrote, or None where there was no room.
+// Each of the functions below writes into `out` from a place on, and returns the place after what it wrote, or None where there was no room.
+// Stays: a struct of `out` and the place would be the same two again, after a `&mut self`, for four private functions that one caller chains by `?`.
 
 // One number.
 fn put(a: u32, at: usize, out: &mut [u32]) -> Option<usize>
@@ -21,8 +22,9 @@ fn put(a: u32, at: usize, out: &mut [u32]) -> Option<usize>
     Some(at + 1)
 }
 
-// Those of the numbers that are outside the mask. Stays: `continue` here and below, since with the call of `put` within an `if` this loop was measured
-// to take 1.6 times as long, the next a seventh longer.
+// Those of the numbers that are outside the mask.
+// Stays: `continue` here and below, since with the call of `put` within an `if` this loop was measured to take 1.6 times as long, the next a seventh
+// longer.
 fn put_outside(mask: u64, from: &[u32], e: usize, out: &mut [u32]) -> Option<usize>
     requires { e ≤ length out.old }
     ensures { Wrote (outside (in_set mask) from.now) e out.old out.new result }
@@ -66,8 +68,9 @@ fn put_pairs(mask: u64, left: &[u32], right: &[u32], e: usize, out: &mut [u32]) 
     Some(at)
 }
 
-// Copies what stands from b to e to the front.
+// Copies the numbers from b to e to the front.
 // Stays number by number: copy_within calls memmove, and the library promises C hosts to call memcpy and memset only (host/eb3.h, Linking).
+// Stays with b and e: what is read and what is written are parts of one array that may overlap, so they are no two slices.
 fn shift(b: usize, e: usize, acts: &mut [u32])
     requires { (b ≤ e) × (e ≤ length acts.old) }
     ensures { (length acts.new ≡ length acts.old) × (take (e - b) acts.new ≡ slice b e acts.old) }
@@ -77,8 +80,8 @@ fn shift(b: usize, e: usize, acts: &mut [u32])
     }
 }
 
-// Of the n numbers in front and the k behind them, those of the parallel, in front: how many, or None where there was no room. They are made behind
-// both lists, which are read to the end.
+// Of the n numbers at the front and the k after them, those of the parallel, at the front: how many, or None where there was no room. They are made
+// after both lists, which are read to the end.
 pub fn combine(mask: u64, n: usize, k: usize, acts: &mut [u32]) -> Option<usize>
     requires { n + k ≤ length acts.old }
     ensures { Combined (combined (in_set mask) (slice 0 n acts.old) (slice n (n + k) acts.old)) (n + k) acts.old acts.new result }

@@ -1,5 +1,6 @@
 // The moves of a running term, listed by their actions' numbers in a lent array, in order (document 01, "Moves, in order";
 // counting recurses into operand terms, term length falling).
+// Stays: that words are at most 65,535 is a clause of each function here, for the reason in successors (docs/DESIGN-PASS.md, "A struct for words").
 #![tactic(auto)]
 
 ghost use Rattle.std.specs.Prelude.{◌≡◌, ℕ, ◌+◌, ◌*◌, ◌-◌, ◌≤◌, ◌<◌, List, [], ◌∷◌, ◌++◌, length, take, drop, get_or, ◌&&◌, eqb, MatchOption};
@@ -10,10 +11,10 @@ ghost use Rattle.listing.specs.Positions.{TwoAt};
 ghost use Rattle.listing.specs.Arms.{OneListed, ShownListed, TwoListed, SideListed, MaskedListed};
 ghost use Rattle.listing.specs.Listing.{TermAt, Listed};
 ghost use Rattle.listing.specs.Rows.{RowAt};
-ghost use Rattle.listing.specs.Counting.{operand_count, more_words, moving_code};
 
 use actions::{behind_action, code_at, in_set, join, mask_set};
 use code_numbers::{ACTION, CHOICE, DONE, GUARD, INTERNAL, PARALLEL, SEQUENCE, STAR};
+use codes::EDITION_1;
 use combining::combine;
 use expressions::eval_cond;
 use scan::{behind, first, last};
@@ -22,104 +23,39 @@ mod combining;
 
 // ── skipping ──
 
-// How many terms, data and conditions follow a code: two bits for each code up to 30.
-const OPERANDS: usize = 11716395933523584;
-
-// The codes before whose operands one more word stands: a constant, a variable, a function's number.
-const ONE_MORE: usize = 198;
-
-// The code before whose operands the four words of a mask stand.
-const FOUR_MORE: usize = 33554432;
-
-// Stays: shifts, in the three tables of bits, are faster than a match by cases, which would be a jump that no machine foresees.
-fn operands_behind(w: usize) -> usize
-    requires { w ≤ 30 }
-    ensures { (result ≡ operand_count w) × (result < 4) }
-{
-    (OPERANDS >> (2 * w)) % 4
-}
-
-fn words_behind(w: usize) -> usize
-    requires { w ≤ 30 }
-    ensures { (result ≡ more_words w) × (result < 6) }
-{
-    (ONE_MORE >> w) % 2 + 4 * ((FOUR_MORE >> w) % 2)
-}
-
-// The code at a place; None where no word stands there, or one that is no code.
-fn known_code(s: &[u16], at: usize) -> Option<usize>
-    ensures { MatchOption result (at < length s.now → 30 < get_or s.now at 0) (λ w. (w ≡ get_or s.now at 0) × (at < length s.now) × (w ≤ 30)) }
-{
-    s.get(at).map(|w| *w as usize).filter(|w| *w <= DONE)
-}
-
-// The words left behind n terms in a row. One loop over codes, which says nothing about values: `due` counts the terms, data and
-// conditions that are still to come. Stays: `while`, since no index is counted, and a code tells how far behind it the next one stands.
+// The words left after n terms in a row.
 pub fn skip_row(s: &[u16], n: usize) -> usize
     requires { (length s.now ≤ 65535) × (n ≤ 65535) }
     ensures { (result ≤ length s.now) × ((P : Scope) (Es : List Term) (rest : List ℕ) → RowAt s.now P Es rest → n ≡ length Es → result ≡ length rest) }
 {
-    let mut at: usize = 0;
-    let mut due = n;
-    while 0 < due {
-        let Some(w) = known_code(s, at) else {
-            return 0;
-        };
-        if w == ACTION {
-            at = s.len() - behind_action(&s[at + 1..]);
-            due -= 1;
-            continue;
-        }
-        at = at + 1 + words_behind(w);
-        due = due - 1 + operands_behind(w);
-    }
-    s.len().saturating_sub(at)
+    codes::skip_row(s, n, EDITION_1)
 }
 
-// The words left behind the term at the front.
+// The words left after the term at the front.
 pub fn skip(s: &[u16]) -> usize
     requires { length s.now ≤ 65535 }
     ensures { (result ≤ length s.now) × ((P : Scope) (E : Term) (rest : List ℕ) → TermAt s.now P E rest → result ≡ length rest) }
 {
-    skip_row(s, 1)
+    codes::skip(s, EDITION_1)
 }
 
-// The codes with which a term begins that has a move whatever its operands are: an internal move, an action, a star, a parallel.
-const MOVING: usize = 53477376;
-
-fn moving(w: usize) -> bool
-    requires { w ≤ 30 }
-    ensures { result ≡ moving_code w }
-{
-    (MOVING >> w) % 2 == 1
-}
-
-// Whether the term at the front can never move: no such code stands in it. Where one does the loop ends at the first. Stays: `while`, as above.
+// Whether the term at the front can never move.
 pub fn idle(s: &[u16]) -> bool
     requires { length s.now ≤ 65535 }
     ensures { (P : Scope) (E : Term) (rest : List ℕ) → TermAt s.now P E rest → result ≡ eqb (breadth E) 0 }
 {
-    let mut at: usize = 0;
-    let mut due: usize = 1;
-    while 0 < due {
-        let Some(w) = known_code(s, at) else {
-            return false;
-        };
-        if moving(w) {
-            return false;
-        }
-        at = at + 1 + words_behind(w);
-        due = due - 1 + operands_behind(w);
-    }
-    true
+    codes::idle(s, EDITION_1)
 }
 
 // ── listing ──
 
 // An answer that says that there was no room. Every other is 65,536 times how many moves are listed, and the words left.
-// Stays: measured, an Option of both numbers in a struct takes up to 1.30 times the instructions (guards; sequences behind done 1.22), and 160 bytes a
-// level of the stack for 96 (docs/DESIGN-PASS.md, "Answers in one number").
-const FULL: usize = 1099511627776;
+// Stays here and in each function below that makes, tests or takes apart such an answer: measured, an Option of both numbers in a struct takes up to
+// 1.30 times the instructions (guards; sequences after done 1.22), and 160 bytes a level of the stack for 96 (docs/DESIGN-PASS.md, "Answers in one
+// number").
+// Stays: `m`, `x` and `acts` as parameters. A second operand's moves are listed into the rest of `acts`, and a mask adds to `x`, so a struct of the three
+// would be made anew for nearly every call, in memory where registers serve now.
+pub const FULL: usize = 1099511627776;
 
 // One move.
 fn list_one(code: u32, left: usize, acts: &mut [u32]) -> usize
@@ -133,7 +69,7 @@ fn list_one(code: u32, left: usize, acts: &mut [u32]) -> usize
     left + 65536
 }
 
-// The words behind the mask in front.
+// The words after the mask at the front.
 pub fn behind_mask(d: &[u16]) -> &[u16]
     ensures { result.now ≡ drop 4 d.now }
 {
@@ -141,7 +77,7 @@ pub fn behind_mask(d: &[u16]) -> &[u16]
     &d[n..]
 }
 
-// Whether both of the terms in front are done.
+// Whether both of the terms at the front are done.
 pub fn both_done(t: &[u16]) -> bool
     ensures { (P : Scope) (E F : Term) (rest : List ℕ) → TwoAt t.now P E F rest → result ≡ (done? E && done? F) }
 {
@@ -161,7 +97,7 @@ fn list_action(t: &[u16], x: u64, acts: &mut [u32]) -> usize
     list_one(a, n, acts)
 }
 
-// The moves of the term at the front: how many there are, 65,536 times, and the words left behind it.
+// The moves of the term at the front: how many there are, 65,536 times, and the words left after it.
 pub fn list(s: &[u16], m: &[u16], acts: &mut [u32]) -> usize
     requires { (length s.now ≤ 65535) × (length acts.old ≤ 131072) }
     ensures { Listed s.now m.now acts.old acts.new result }
@@ -208,7 +144,7 @@ fn list_sequence(t: &[u16], m: &[u16], x: u64, acts: &mut [u32]) -> usize
     l / 65536 * 65536 + skip(last(t, l % 65536))
 }
 
-// The moves of two terms, the second's behind the first's.
+// The moves of two terms, the second's after the first's.
 #[cycle(listing_terms)]
 #[tactic(auto, using(scan::specs::Laws::last_len))]
 fn list_two(t: &[u16], m: &[u16], x: u64, acts: &mut [u32]) -> usize
@@ -227,7 +163,7 @@ fn list_two(t: &[u16], m: &[u16], x: u64, acts: &mut [u32]) -> usize
     n * 65536 + r
 }
 
-// An internal move, and the term's moves behind it.
+// An internal move, and the term's moves after it.
 #[cycle(listing_terms)]
 fn list_star(t: &[u16], m: &[u16], x: u64, acts: &mut [u32]) -> usize
     requires { (length t.now ≤ 65535) × (length acts.old ≤ 131072) }
@@ -262,7 +198,7 @@ fn list_parallel(d: &[u16], m: &[u16], x: u64, acts: &mut [u32]) -> usize
     list_masked(d, m, x, acts)
 }
 
-// Both sides' moves by the mask in front; beside a side that can never move, the other's outside the mask. That the left side is skipped before it
+// Both sides' moves by the mask at the front; beside a side that can never move, the other's outside the mask. That the left side is skipped before it
 // is listed costs little: of parallels within one another, beside such a side x gains one of 64 labels, and where both sides can move the breadth doubles.
 #[cycle(listing_terms)]
 #[tactic(auto, using(scan::specs::Laws::last_len, crate::specs::Operands::mask_len))]
@@ -282,7 +218,7 @@ fn list_masked(d: &[u16], m: &[u16], x: u64, acts: &mut [u32]) -> usize
     list_combined(d, m, x, acts)
 }
 
-// The moves of the term in front, of a whole behind which other words are left.
+// The moves of the term at the front, of a whole after which other words are left.
 #[cycle(listing_terms)]
 fn list_side(t: &[u16], m: &[u16], x: u64, left: usize, acts: &mut [u32]) -> usize
     requires { (length t.now ≤ 65535) × (length acts.old ≤ 131072) × (left ≤ 65535) }
@@ -295,7 +231,7 @@ fn list_side(t: &[u16], m: &[u16], x: u64, left: usize, acts: &mut [u32]) -> usi
     l / 65536 * 65536 + left
 }
 
-// Both sides' moves, combined by the mask in front.
+// Both sides' moves, combined by the mask at the front.
 #[cycle(listing_terms)]
 #[tactic(auto, using(scan::specs::Laws::last_len, crate::specs::Operands::mask_len))]
 fn list_combined(d: &[u16], m: &[u16], x: u64, acts: &mut [u32]) -> usize

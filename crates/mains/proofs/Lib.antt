@@ -1,4 +1,3 @@
 -- What the proofs of several functions use (document 01, "Operations": Run).
 mod MainCases
 mod BareCases
-mod MadeCases

@@ -124,7 +124,7 @@ module _ (R : RuleSet) (well : WellFormed R) where
         let f : last.refused_count ≡ tally.refused = sym (ended.refused_is ∙ agree.same_refused) in
         λ j. record { size = s j; visible = v j; internal = i j; refusals = f j }
 
-  -- What is told and written at the end.
+  -- What is returned and written at the end.
   pub main_ended : {H : Holding} (numbers : List ℕ) {ws M : List ℕ} {tally : Tally} {n : ℕ} {xs : List ℕ} {c reach : ℕ} {term memory spare term' memory' spare' : List ℕ} {low : ℕ}
       → Ended H R (memory_run (attributes R) main (words_in numbers)) ws M tally → Spelled R (memory_run (attributes R) main (words_in numbers)).state.term n xs
       → c ≡ cells_needed R → reach ≡ main_reach R → reach ≤ length xs → now_place + c ≤ length M → reach ≤ word_count term → c ≤ cell_room memory

@@ -22,7 +22,7 @@ pub record RanRight (numbers term memory spare : List ℕ) (R : RuleSet) (r : To
   pub memory_after : memory' ≡ (ran numbers term memory R).memory
   pub words_only : WordsOnly spare spare'
 
--- Of the stream t, the tables T, the directory D, c cells and main's reach; there is room for so many words.
+-- Of the stream t, the tables T, the directory D, c cells and main's reach; there is room for `room` words.
 abbrev pub RunsMain : (numbers t T D : List ℕ) (c reach room : ℕ) (term memory spare : List ℕ) (r : Totals) (term' memory' spare' : List ℕ) → Type 0
 RunsMain numbers t T D c reach room term memory spare r term' memory' spare' =
     (R : RuleSet) → WellFormed R → Directory t T D R → c ≡ cells_needed R → reach ≡ main_reach R → reach ≤ room → reach ≤ word_count term → c ≤ cell_room memory → reach ≤ word_count spare
@@ -30,11 +30,11 @@ RunsMain numbers t T D c reach room term memory spare r term' memory' spare' =
 
 -- ── the end of it ──
 
--- The words up to a place, zeros behind them up to another.
+-- The words up to a place, zeros after them up to another.
 abbrev pub Padded : (ws : List ℕ) (from to : ℕ) (ws' : List ℕ) → Type 0
 Padded ws from to ws' = from ≤ to → to ≤ length ws → take to ws' ≡ take from ws ++ replicate (to - from) 0
 
--- The first words of ws, zeros up to main's reach behind them, and the c cells of the store M, written into the lent buffers.
+-- The first words of ws, zeros up to main's reach after them, and the c cells of the store M, written into the lent buffers.
 pub record Finished (ws : List ℕ) (size reach : ℕ) (M : List ℕ) (c : ℕ) (term memory term' memory' : List ℕ) : Type 0 where
   pub term_written : size ≤ reach → reach ≤ length ws → reach ≤ word_count term → term' ≡ written (take size ws ++ replicate (reach - size) 0) term
   pub memory_written : now_place + c ≤ length M → c ≤ cell_room memory → memory' ≡ written (take c (drop now_place M)) memory

@@ -1,5 +1,5 @@
 -- The run of main from its unfolding and the cells of the start, the term held in one way or the other (document 01, "Operations": Run; "Memory and the history
--- machine"). What is told and written at the end is the same.
+-- machine"). What is returned and written at the end is the same.
 use Rattle.std.specs.Prelude.{◌≡◌, ℕ, ◌≤◌}
 use mathlib.Core.List.{List}
 use Rattle.eb3.specs.Cells.{initial_cells}
@@ -14,8 +14,9 @@ use Rattle.steps.specs.Storing.{Stored, Ruled}
 use Rattle.sharing.specs.Shared.{Unmasked}
 use Rattle.runs.specs.Running.{Spelled, Roomy}
 use Rattle.runs.specs.Sharing.{RoomyOver}
-use Rattle.mains.specs.Mains.{RanRight}
+use Rattle.mains.specs.Mains.{RanRight, RunsMain}
 use Rattle.mains.specs.declared.Totals.{Totals}
+use Rattle.mains.specs.declared.admitted.Course.{Course}
 
 -- The store M holds the cells of the start, and the lent buffers have room for main's reach and for the cells.
 pub record AtStart (R : RuleSet) (t T D : List ℕ) (w functions c reach : ℕ) (M term memory : List ℕ) : Type 0 where
@@ -37,3 +38,22 @@ abbrev pub RunsMasked : (numbers t D : List ℕ) (w functions c reach n : ℕ) (
 RunsMasked numbers t D w functions c reach n ws M path term memory spare r term' memory' spare' =
     (R : RuleSet) (T : List ℕ) → AtStart R t T D w functions c reach M term memory → Roomy reach ws spare path → Spelled R (unfold_main R) n ws
     → RanRight numbers term memory spare R r term' memory' spare'
+
+-- ── the same of a course ──
+
+-- By the course's numbers, rule set and reach.
+abbrev pub CourseBare : (course : Course) (u d M : List ℕ) (paths acts middle : ℕ) (term memory : List ℕ) (r : Totals) (term' memory' : List ℕ) → Type 0
+CourseBare course u d M paths acts middle term memory r term' memory' =
+    let functions = course.rules.functions in
+    RunsBare course.numbers.now functions.words.now functions.directory.now functions.width functions.count functions.cells course.reach u d M paths acts middle term memory r term' memory'
+
+abbrev pub CourseMasked : (course : Course) (n : ℕ) (ws M path term memory spare : List ℕ) (r : Totals) (term' memory' spare' : List ℕ) → Type 0
+CourseMasked course n ws M path term memory spare r term' memory' spare' =
+    let functions = course.rules.functions in
+    RunsMasked course.numbers.now functions.words.now functions.directory.now functions.width functions.count functions.cells course.reach n ws M path term memory spare r term' memory' spare'
+
+-- There is room for `room` words.
+abbrev pub CourseMain : (course : Course) (room : ℕ) (term memory spare : List ℕ) (r : Totals) (term' memory' spare' : List ℕ) → Type 0
+CourseMain course room term memory spare r term' memory' spare' =
+    let functions = course.rules.functions in
+    RunsMain course.numbers.now functions.words.now course.rules.tables.now functions.directory.now functions.cells course.reach room term memory spare r term' memory' spare'

@@ -1,13 +1,15 @@
 // The run of a rule set's main process from the start: its term in words, its cells in a store, the lent buffers written at the end
 // (document 01, "Operations": Run writes the last term, zeros up to main's G, and the cells). Main is unfolded in one spare buffer,
 // of which only whole words are written; the successors of a term with masks are built there, too.
+// Stays: that words are at most 65,535 is a clause of each function here, for the reason in successors (docs/DESIGN-PASS.md, "A struct for words").
 #![tactic(auto)]
 
-ghost use Rattle.std.specs.Prelude.{◌≡◌, ◌+◌, ◌≤◌, length, get_or};
-ghost use Rattle.mains.specs.Mains.{RunsMain, Padded, Finished};
-ghost use Rattle.mains.specs.Starts.{RunsBare, RunsMasked};
+ghost use Rattle.std.specs.Prelude.{◌≡◌, ◌≤◌, length};
+ghost use Rattle.mains.specs.Mains.{Padded, Finished};
+ghost use Rattle.mains.specs.Starts.{CourseBare, CourseMasked, CourseMain};
 
-use cells::{Functions, load, save};
+use admitted::Course;
+use cells::{load, save};
 use runs::run_moves;
 use runs::scratch::Scratch;
 use runs::shared::run_shared;
@@ -18,6 +20,8 @@ use sharing::masks::shareable;
 use steps::storing::start_store;
 use unfold::unfold_main;
 use writing::put_words;
+
+pub mod admitted;
 
 // The last term's size in words, and how many numbers took a visible move, took an internal one, or were refused.
 #[derive(Clone, Copy)]
@@ -39,6 +43,9 @@ fn pad(ws: &mut [u16], from: usize, to: usize)
 }
 
 // The first words, zeros up to main's reach, and the c cells of the store, written into the lent buffers.
+// Stays, here and in the functions after it: the term, the memory and the spare buffer are lent apart, and so are the words and the store: memory
+// is fixed and there is no heap, and each is another thing. A struct of the three buffers: each contract would have to say that its
+// references stay the same (`ghost_name`), and read what they leave as `exit.0`, `exit.1.0` and so on, which is no plainer.
 fn finish(
     ws: &mut [u16],
     size: usize,
@@ -58,9 +65,7 @@ fn finish(
 // From the words of main's unfolding, which has no masks, and the cells of the start: at first the term is the whole of it, and the last
 // one is spelled out.
 fn run_bare(
-    numbers: &[u8],
-    functions: &Functions,
-    reach: usize,
+    course: &Course,
     u: &[u16],
     d: &mut [u16],
     m: &mut [u16],
@@ -69,7 +74,7 @@ fn run_bare(
     memory: &mut [u8],
 ) -> Totals
     requires { (length u.now ≤ 65503) × (length d.old ≤ 65535) }
-    ensures { RunsBare numbers.now functions.now.words.now functions.now.directory.now functions.now.width functions.now.count functions.now.cells reach u.now d.old m.old (length scratch.old.path.now) (length scratch.old.acts.now) (length scratch.old.mid.now) term.old memory.old result term.new memory.new }
+    ensures { CourseBare course.now u.now d.old m.old (length scratch.old.path.now) (length scratch.old.acts.now) (length scratch.old.mid.now) term.old memory.old result term.new memory.new }
 {
     // never with room for main
     if d.len() == 0 {
@@ -81,12 +86,13 @@ fn run_bare(
         };
     }
     d[0] = part_word(u);
-    let r = run_shared(numbers, functions, u, 1, d, m, scratch);
+    let functions = &course.rules.functions;
+    let r = run_shared(course.numbers, functions, u, 1, d, m, scratch);
     let q = expand(u, front(d, r.size), scratch.mid, 0);
     finish(
         scratch.mid,
         q / 65536,
-        reach,
+        course.reach,
         m,
         functions.cells,
         term,
@@ -101,10 +107,9 @@ fn run_bare(
 }
 
 // With masks, or with operands too deep to be shared, the term is held in its own words.
+// Stays: eight parameters, of which the last six are lent arrays, and n is how many words of the first are the term's.
 fn run_masked(
-    numbers: &[u8],
-    functions: &Functions,
-    reach: usize,
+    course: &Course,
     n: usize,
     ws: &mut [u16],
     m: &mut [u16],
@@ -114,10 +119,11 @@ fn run_masked(
     spare: &mut [u8],
 ) -> Totals
     requires { length ws.old ≤ 65535 }
-    ensures { (length spare.new ≡ length spare.old) × RunsMasked numbers.now functions.now.words.now functions.now.directory.now functions.now.width functions.now.count functions.now.cells reach n ws.old m.old scratch.old.path.now term.old memory.old spare.old result term.new memory.new spare.new }
+    ensures { (length spare.new ≡ length spare.old) × CourseMasked course.now n ws.old m.old scratch.old.path.now term.old memory.old spare.old result term.new memory.new spare.new }
 {
-    let r = run_moves(numbers, functions, n, ws, m, spare, scratch);
-    finish(ws, r.size, reach, m, functions.cells, term, memory);
+    let functions = &course.rules.functions;
+    let r = run_moves(course.numbers, functions, n, ws, m, spare, scratch);
+    finish(ws, r.size, course.reach, m, functions.cells, term, memory);
     Totals {
         size: (r.size % 4294967296) as u32,
         visible: r.visible,
@@ -128,10 +134,7 @@ fn run_masked(
 
 // Main's unfolding and the cells of the start, then all numbers, in lent words with room for main's reach; every other array is as long.
 fn run_words(
-    numbers: &[u8],
-    functions: &Functions,
-    tb: &[u32],
-    reach: usize,
+    course: &Course,
     ws: &mut [u16],
     d: &mut [u16],
     scratch: &mut Scratch,
@@ -139,45 +142,33 @@ fn run_words(
     memory: &mut [u8],
     spare: &mut [u8],
 ) -> Totals
-    requires { (functions.now.width ≡ 3 + get_or tb.now 17 0) × (functions.now.count ≡ get_or tb.now 210 0) × (functions.now.cells ≤ 1024) × (length ws.old ≤ 65503) × (length d.old ≡ length ws.old) × (length scratch.old.path.now ≡ length ws.old) × (length scratch.old.acts.now ≡ length ws.old) × (length scratch.old.mid.now ≡ length ws.old) }
-    ensures { RunsMain numbers.now functions.now.words.now tb.now functions.now.directory.now functions.now.cells reach (length ws.old) term.old memory.old spare.old result term.new memory.new spare.new }
+    requires { (length ws.old ≤ 65503) × (length d.old ≡ length ws.old) × (length scratch.old.path.now ≡ length ws.old) × (length scratch.old.acts.now ≡ length ws.old) × (length scratch.old.mid.now ≡ length ws.old) }
+    ensures { CourseMain course.now (length ws.old) term.old memory.old spare.old result term.new memory.new spare.new }
 {
-    let n = unfold_main(functions.words, tb, spare);
+    let rules = &course.rules;
+    let tables = rules.tables;
+    let n = unfold_main(rules.functions.words, tables, spare);
     load(spare, ws, 0, n);
     let mut m = [0u16; 2084];
-    start_store(functions, &mut m);
+    start_store(&rules.functions, &mut m);
     if shareable(front(ws, n)) {
-        return run_bare(
-            numbers,
-            functions,
-            reach,
-            front(ws, n),
-            d,
-            &mut m,
-            scratch,
-            term,
-            memory,
-        );
+        return run_bare(course, front(ws, n), d, &mut m, scratch, term, memory);
     }
-    run_masked(
-        numbers, functions, reach, n, ws, &mut m, scratch, term, memory, spare,
-    )
+    run_masked(course, n, ws, &mut m, scratch, term, memory, spare)
 }
 
-// The same in arrays of N words, for a reach of up to so many. It is not put into its caller, so that a short reach does not pay for a
+// The same in arrays of N words, for a reach of at most N. It is not put into its caller, so that a short reach does not pay for a
 // frame with long arrays.
+// Stays: one function for all sizes of the local arrays, since memory is fixed and there is no heap.
 #[inline(never)]
 fn run_sized<const N: usize>(
-    numbers: &[u8],
-    functions: &Functions,
-    tb: &[u32],
-    reach: usize,
+    course: &Course,
     term: &mut [u8],
     memory: &mut [u8],
     spare: &mut [u8],
 ) -> Totals
-    requires { (functions.now.width ≡ 3 + get_or tb.now 17 0) × (functions.now.count ≡ get_or tb.now 210 0) × (functions.now.cells ≤ 1024) × (N ≤ 65503) }
-    ensures { RunsMain numbers.now functions.now.words.now tb.now functions.now.directory.now functions.now.cells reach N term.old memory.old spare.old result term.new memory.new spare.new }
+    requires { N ≤ 65503 }
+    ensures { CourseMain course.now N term.old memory.old spare.old result term.new memory.new spare.new }
 {
     let mut ws = [0u16; N];
     let mut d = [0u16; N];
@@ -189,42 +180,19 @@ fn run_sized<const N: usize>(
         acts: &mut acts,
         mid: &mut mid,
     };
-    let r = run_words(
-        numbers,
-        functions,
-        tb,
-        reach,
-        &mut ws,
-        &mut d,
-        &mut scratch,
-        term,
-        memory,
-        spare,
-    );
+    let r = run_words(course, &mut ws, &mut d, &mut scratch, term, memory, spare);
     r
 }
 
 // From the start by all numbers, into buffers with room for main's reach and the cells.
-pub fn run_main(
-    numbers: &[u8],
-    t: &[u16],
-    tb: &[u32],
-    dir: &[u32],
-    c: usize,
-    reach: usize,
-    term: &mut [u8],
-    memory: &mut [u8],
-    spare: &mut [u8],
-) -> Totals
-    requires { (length t.now ≤ 65535) × (c ≤ 1024) × (get_or tb.now 17 0 ≤ 64) × (get_or tb.now 210 0 ≤ 16) }
-    ensures { RunsMain numbers.now t.now tb.now dir.now c reach 8192 term.old memory.old spare.old result term.new memory.new spare.new }
+pub fn run_main(course: &Course, term: &mut [u8], memory: &mut [u8], spare: &mut [u8]) -> Totals
+    ensures { CourseMain course.now 8192 term.old memory.old spare.old result term.new memory.new spare.new }
 {
-    let functions = Functions::of(t, tb, dir, c);
-    if reach <= 256 {
-        return run_sized::<256>(numbers, &functions, tb, reach, term, memory, spare);
+    if course.reach <= 256 {
+        return run_sized::<256>(course, term, memory, spare);
     }
-    if reach <= 1024 {
-        return run_sized::<1024>(numbers, &functions, tb, reach, term, memory, spare);
+    if course.reach <= 1024 {
+        return run_sized::<1024>(course, term, memory, spare);
     }
-    run_sized::<8192>(numbers, &functions, tb, reach, term, memory, spare)
+    run_sized::<8192>(course, term, memory, spare)
 }

@@ -7,7 +7,7 @@ ghost use Rattle.eb3.specs.Bytes.{words_in};
 ghost use Rattle.readers.specs.Readers.{doubles_in};
 ghost use Rattle.readers.specs.Readers.{increased};
 ghost use Rattle.readers.specs.Table.{none, Of32Bits, plus as sums, added_to, counts_at, added_first, records, one_more};
-ghost use Rattle.readers.specs.Placing.{put_word, put_number, put_record, put_first};
+ghost use Rattle.readers.specs.Placing.{put_number, put_record, put_first};
 
 pub mod list;
 
@@ -20,6 +20,7 @@ pub struct Counts {
 }
 
 // The sums of two records, each number modulo 4,294,967,296.
+// Stays field by field: each field is a sum, and nothing is taken over as it is.
 pub fn plus(c: Counts, d: Counts) -> Counts
     ensures { result ≡ sums c d }
 {
@@ -50,6 +51,7 @@ pub fn add_in(mut table: [Counts; 32], reader: usize, more: Counts) -> [Counts; 
 // ── what a run counts: three numbers a reader, in the order of a record ──
 
 // One more of an outcome at a reader, both from 0.
+// Stays, here and below: a slice with its length as a fact, since it is public, and what is public asks no more of its callers.
 pub fn count_one(counted: &mut [u32], reader: usize, outcome: usize)
     requires { (reader < 32) × (outcome < 3) × (length counted.old ≡ 96) }
     ensures { (counted.new ≡ one_more counted.old reader outcome) × (length counted.new ≡ length counted.old) }
@@ -93,6 +95,8 @@ fn add_all(mut table: [Counts; 32], counted: &[u32]) -> [Counts; 32]
 
 // ── a host's table: numbers of four bytes, low byte first ──
 
+// Stays: a slice, with the length of 32 records as a fact, since a host lends it, and it may be longer.
+
 // Number i of a table.
 fn read_number(table: &[u8], i: usize) -> u32
     requires { (4 * i + 4 ≤ length table.now) × (i < 96) }
@@ -130,20 +134,16 @@ fn read_records(table: &[u8]) -> [Counts; 32]
     t
 }
 
-fn write_word(table: &mut [u8], i: usize, w: u32)
-    requires { (2 * i + 2 ≤ length table.old) × (i < 192) }
-    ensures { (table.new ≡ put_word table.old i w) × (length table.new ≡ length table.old) }
-{
-    table[2 * i] = (w % 256) as u8;
-    table[2 * i + 1] = (w / 256 % 256) as u8;
-}
-
 fn write_number(table: &mut [u8], i: usize, n: u32)
     requires { (4 * i + 4 ≤ length table.old) × (i < 96) }
     ensures { (table.new ≡ put_number table.old i n) × (length table.new ≡ length table.old) }
 {
-    write_word(table, 2 * i, n % 65536);
-    write_word(table, 2 * i + 1, n / 65536);
+    let [lowest, low, high, highest] = n.to_le_bytes();
+    let at = 4 * i;
+    table[at] = lowest;
+    table[at + 1] = low;
+    table[at + 2] = high;
+    table[at + 3] = highest;
 }
 
 fn write_record(table: &mut [u8], reader: usize, c: Counts)

@@ -26,6 +26,7 @@ pub fn place(r: usize) -> usize
 }
 
 // No reader is missing, and each is 1 to 32.
+// Stays a `for`: as `as_chunks::<4>` and `all` it was tried, and the proof did not find what the closure answers for an array of four bytes.
 fn readers_right(list: &[u8]) -> bool
     ensures { result ≡ all_read (words_in list.now) }
 {

@@ -1,4 +1,4 @@
--- A case for each way that the checks of a guard and of the quantifiers return. The premises have the form of what the code tells there.
+-- A case for each way that the checks of a guard and of the quantifiers return. The premises have the form of what the code has there.
 use Prim.Native.Nat.{ℕ, ◌-◌}
 use native.Mathlib.Omega.{arith}
 use mathlib.Core.Path.{◌≡◌, refl, sym, ap, ◌∙◌, subst}
@@ -23,9 +23,9 @@ use Rattle.weights.specs.declared.Weight.{Weight}
 use Rattle.weights.specs.Weighing.{cap, measure}
 use Rattle.arguments.specs.Tables.{declared, callee}
 use Rattle.arguments.specs.TableLaws.{domains_length, guard_declared}
-use Rattle.rule_terms.specs.Weighed.{weighed, mask_if, copies_of, quantifier, weighed_copies, Answer, found}
+use Rattle.rule_terms.specs.Weighed.{weighed, terms, answer, mask_if, copies_of, quantifier, weighed_copies, Answer, found}
 use Rattle.rule_terms.specs.WeighedLaws.{weighed_in, refused_in}
-use Rattle.rule_terms.proofs.Parts.{terms, answer, got_term, no_term, behind_got, refused_behind}
+use Rattle.rule_terms.proofs.Parts.{got_term, no_term, behind_got, refused_behind}
 use Rattle.std.specs.Prelude.{Ok, Err}
 use Rattle.refusals.specs.declared.Refusal.{Refusal}
 use Rattle.rule_terms.specs.declared.Quantifier.{Quantifier}

@@ -1,4 +1,4 @@
--- A case for each code of a term. The premises have the form of what the code tells there, so that `search` finds them.
+-- A case for each code of a term. The premises have the form of what the code has there, so that `search` finds them.
 use Prim.Native.Nat.{ℕ, ◌≤◌, ◌<◌}
 use mathlib.Core.Path.{◌≡◌, refl, sym, ap, ◌∙◌}
 use mathlib.Core.List.{List}
@@ -12,12 +12,12 @@ use Rattle.scan.specs.Laws.{nil_form}
 use Rattle.weights.specs.declared.Weight.{Weight}
 use Rattle.weights.specs.Weighing.{cap, measure}
 use Rattle.arguments.specs.Tables.{declared, callee}
-use Rattle.rule_terms.specs.Weighed.{weighed, weighed_two, Answer, found}
+use Rattle.rule_terms.specs.Weighed.{weighed, terms, answer, weighed_two, Answer, found}
 use Rattle.rule_terms.specs.Laws.{term_case}
 use Rattle.rule_terms.specs.WeighedLaws.{weighed_in}
-use Rattle.rule_terms.proofs.Parts.{terms, answer, two_first, two_second, two_in, weighed_sequence, weighed_choice, parallel_none, parallel_in, copies_none, copies_out, copies_in}
+use Rattle.rule_terms.proofs.Parts.{two_first, two_second, two_in, weighed_sequence, weighed_choice, parallel_none, parallel_in, copies_none, copies_out, copies_in}
 use Rattle.rule_terms.proofs.Binders.{guard_none, guard_out, guard_in, quantified_none, quantified_in}
-use Rattle.rule_terms.specs.declared.Joint.TheVariants.{Sequence as InSequence, Choice as InChoice}
+use Rattle.weights.specs.declared.Joint.TheVariants.{Sequence as InSequence, Choice as InChoice}
 use Rattle.std.specs.Prelude.{Err}
 use Rattle.refusals.specs.declared.Refusal.TheVariants.{Form}
 use Rattle.refusals.specs.Numbers.{refusal}
@@ -33,7 +33,7 @@ Other w = (((((((((Unit {0} × (w ≡ 20 → ⊥)) × (w ≡ 21 → ⊥)) × (w 
 other_kind : (Γ : List ℕ) (w : ℕ) → (w ≡ 24 → ⊥) → Other w → rule_kind Γ w ≡ RuleKind.wrong
 other_kind Γ w n h = simp (ne_eqb w 20 h.0.0.0.0.0.0.0.0.1, ne_eqb w 21 h.0.0.0.0.0.0.0.1, ne_eqb w 22 h.0.0.0.0.0.0.1, ne_eqb w 23 h.0.0.0.0.0.1, ne_eqb w 24 n, ne_eqb w 25 h.0.0.0.0.1, ne_eqb w 26 h.0.0.0.1, ne_eqb w 27 h.0.0.1, ne_eqb w 28 h.0.1, ne_eqb w 29 h.1)
 
--- s is the words, t those behind the first
+-- s is the words, t those after the first
 module _ (T Γ s t : List ℕ) (h : length s ≡ 0 → ⊥) (q : t ≡ drop 1 s) where
   abbrev by : RuleKind → Read RuleTerm
   by k = rule_by (declared T) (read_rule_term (declared T)) Γ k t

@@ -1,4 +1,4 @@
--- A case for each way that a check of a term's parts returns. The premises have the form of what the code tells there, so that `search` finds them.
+-- A case for each way that a check of a term's parts returns. The premises have the form of what the code has there, so that `search` finds them.
 use Prim.Native.Nat.{ℕ}
 use mathlib.Core.Path.{◌≡◌, refl, sym, ap, ◌∙◌}
 use mathlib.Core.Bool.{Bool}
@@ -6,35 +6,27 @@ use mathlib.Core.List.{List}
 use lib.ListN.{length, take, get_or}
 use Rattle.eb3.specs.Sizes.{zero_mask}
 use Rattle.eb3.specs.RuleSets.{RuleTerm, RuleSet, rule_sequence, rule_choice, rule_parallel}
-use Rattle.eb3.specs.Unfolding.{right_nest}
-use Rattle.eb3.specs.Measures.{sat, Measure, nothing, sequence_of, choice_of, measure_term}
+use Rattle.eb3.specs.Measures.{sat, Measure, measure_term}
 use Rattle.eb3.specs.Reading.{Read, refused, taken, Reader, giving, then, both}
 use Rattle.eb3.specs.TermReading.{mask_of}
-use Rattle.eb3.specs.RuleReading.{rule_mask_of, read_rule_term}
+use Rattle.eb3.specs.RuleReading.{rule_mask_of}
 use Rattle.scan.specs.Checking.{checked, last_of, Checked}
 use Rattle.scan.specs.Laws.{Ends, tail_here}
 use Rattle.scan.specs.ReadingLaws.{Taken, checked_refused, checked_taken, giving_refused_as, both_first_as, both_second_as, both_taken, RefusedAs, same_refused}
 use Rattle.weights.specs.declared.Weight.{Weight}
-use Rattle.weights.specs.Weighing.{cap, measure, weight, parallel_by}
+use Rattle.weights.specs.Weighing.{cap, measure, weight, joint_of}
 use Rattle.arguments.specs.Tables.{declared, callee}
 use Rattle.arguments.specs.TableLaws.{labels_length, mask_read}
 use Rattle.rule_terms.specs.declared.Weighed.{Weighed}
-use Rattle.rule_terms.specs.Weighed.{weighed, joint_of, weighed_two, mask_if, copies_of, weighed_copies, Answer, found}
+use Rattle.rule_terms.specs.Weighed.{weighed, terms, answer, weighed_two, mask_if, copies_of, weighed_copies, Answer, found}
 use Rattle.rule_terms.specs.Laws.{term_ends, rule_mask_ends}
 use Rattle.rule_terms.specs.WeighedLaws.{weighed_out, weighed_got, refused_in}
 use Rattle.std.specs.Prelude.{Ok, Err}
 use Rattle.refusals.specs.declared.Refusal.{Refusal}
-use Rattle.rule_terms.specs.declared.Joint.{Joint}
-use Rattle.rule_terms.specs.declared.Joint.TheVariants.{Sequence as InSequence, Choice as InChoice, Parallel as InParallel}
+use Rattle.weights.specs.declared.Joint.{Joint}
+use Rattle.weights.specs.declared.Joint.TheVariants.{Sequence as InSequence, Choice as InChoice, Parallel as InParallel}
 use Rattle.rule_terms.specs.declared.Quantifier.{Quantifier}
 use Rattle.rule_terms.specs.declared.Quantifier.TheVariants.{Choice, Parallel}
-
--- The terms read under a table, and the answer of a check of them.
-abbrev pub terms : List ℕ → List ℕ → Reader RuleTerm
-terms T Γ = read_rule_term (declared T) Γ
-
-abbrev pub answer : List ℕ → Read RuleTerm → Answer
-answer T r = weighed (declared T) (callee T) r
 
 -- What the answers of callees say of the readings.
 pub got_term : (T Γ t : List ℕ) (n : ℕ) (v : Weight) (p : Answer) → p ≡ answer T (terms T Γ t) → p ≡ found n v
@@ -44,7 +36,7 @@ got_term T Γ t n v p e h = weighed_got (declared T) (callee T) t n v (terms T �
 pub no_term : (T Γ t : List ℕ) (k : Refusal) (p : Answer) → p ≡ answer T (terms T Γ t) → p ≡ Err k → RefusedAs k (terms T Γ t)
 no_term T Γ t k p e h = weighed_out (declared T) (callee T) (terms T Γ t) k (sym h ∙ e)
 
--- The words behind, as the code has them.
+-- The words after those read, as the code has them.
 pub behind_got : {A B : Type 0} (f : Reader B) (t r : List ℕ) (n : ℕ) (s : Read A) (g : Taken t n s) → r ≡ last_of n t → f g.rest ≡ f r
 behind_got f t r n s g l = ap f (sym g.words ∙ sym l)
 
@@ -52,21 +44,6 @@ pub refused_behind : {A B : Type 0} (f : Reader B) (t r : List ℕ) (n : ℕ) (s
 refused_behind f t r n s k g l h = same_refused _ _ k (behind_got f t r n s g l) h
 
 -- ── two terms ──
-
-module _ (j : Joint) (a b x : Weight) where
-  pub joint_sequence : j ≡ InSequence → measure x ≡ sequence_of (sat cap) (measure a) (measure b) → measure x ≡ joint_of j (measure a) (measure b)
-  unfolding joint_of
-  joint_sequence e h = rw e h
-
-  pub joint_choice : j ≡ InChoice → measure x ≡ choice_of (sat cap) (measure a) (measure b) → measure x ≡ joint_of j (measure a) (measure b)
-  unfolding joint_of
-  joint_choice e h = rw e h
-
-  pub joint_parallel : (z : Bool) → j ≡ InParallel z → measure x ≡ parallel_by z (measure a) (measure b) → measure x ≡ joint_of j (measure a) (measure b)
-  unfolding joint_of
-  joint_parallel z e h = rw e h
-
-pub ruleset joints = (joint_sequence, joint_choice, joint_parallel)
 
 module _ (T Γ t : List ℕ) (j : Joint) (p : Answer) (e : p ≡ answer T (terms T Γ t)) where
   pub two_first : (k : Refusal) → p ≡ Err k → Err k ≡ weighed_two (declared T) (callee T) j (both (terms T Γ) (terms T Γ) t)
@@ -141,14 +118,6 @@ mask_some T t w b p h i e = as_declared T t b p i e ∙ rw h
 pub mask_none : (T t : List ℕ) (w : Quantifier) → w ≡ Choice → Ok (length t) ≡ checked (mask_if w (declared T) t)
 unfolding mask_if checked
 mask_none T t w h = rw h
-
-pub copied_parallel : (w : Quantifier) (z : Bool) (n : ℕ) (v x : Weight) → w ≡ Parallel → measure x ≡ right_nest (nothing (sat cap)) (parallel_by z) n (λ y. measure v) → measure x ≡ copies_of w z n (measure v)
-unfolding copies_of
-copied_parallel w z n v x h e = rw h e
-
-pub copied_choice : (w : Quantifier) (z : Bool) (n : ℕ) (v x : Weight) → w ≡ Choice → measure x ≡ right_nest (nothing (sat cap)) (choice_of (sat cap)) n (λ y. measure v) → measure x ≡ copies_of w z n (measure v)
-unfolding copies_of
-copied_choice w z n v x h e = rw h e
 
 mask_if_ends : (w : Quantifier) (R : RuleSet) → Ends (mask_if w R)
 unfolding mask_if

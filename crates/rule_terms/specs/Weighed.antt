@@ -3,17 +3,17 @@
 use Rattle.std.specs.Prelude.{Bool, List, [], ℕ, length, Result, Ok, Err}
 use Rattle.eb3.specs.RuleSets.{RuleTerm, RuleSet}
 use Rattle.eb3.specs.Sizes.{zero_mask}
-use Rattle.eb3.specs.Measures.{sat, Measure, nothing, sequence_of, choice_of, measure_term}
+use Rattle.eb3.specs.Measures.{sat, Measure, nothing, choice_of, measure_term}
 use Rattle.eb3.specs.Unfolding.{right_nest}
 use Rattle.eb3.specs.Reading.{Read, refused, taken, Reader}
-use Rattle.eb3.specs.RuleReading.{rule_mask_of, RuleKind}
+use Rattle.eb3.specs.RuleReading.{rule_mask_of, RuleKind, read_rule_term}
 use Rattle.weights.specs.declared.Weight.{Weight}
-use Rattle.weights.specs.Weighing.{cap, weight, parallel_by}
+use Rattle.weights.specs.Weighing.{cap, weight, parallel_by, joint_of}
+use Rattle.weights.specs.declared.Joint.{Joint}
+use Rattle.arguments.specs.Tables.{declared, callee}
 use Rattle.refusals.specs.declared.Refusal.{Refusal}
 use Rattle.refusals.specs.Numbers.{refusal}
 use Rattle.rule_terms.specs.declared.Weighed.{Weighed}
-use Rattle.rule_terms.specs.declared.Joint.{Joint}
-use Rattle.rule_terms.specs.declared.Joint.TheVariants.{Sequence as InSequence, Choice as InChoice, Parallel as InParallel}
 use Rattle.rule_terms.specs.declared.Quantifier.{Quantifier}
 use Rattle.rule_terms.specs.declared.Quantifier.TheVariants.{Choice, Parallel}
 
@@ -28,11 +28,12 @@ unfoldable pub weighed : RuleSet → (ℕ → Measure) → Read RuleTerm → Ans
 weighed R M (refused k) = Err (refusal k)
 weighed R M (taken E t) = found (length t) (weight (measure_term (sat cap) R M E))
 
--- What two terms measure together.
-unfoldable pub joint_of : Joint → Measure → Measure → Measure
-joint_of InSequence l r = sequence_of (sat cap) l r
-joint_of InChoice l r = choice_of (sat cap) l r
-joint_of (InParallel z) l r = parallel_by z l r
+-- The terms read over the rule set that the tables declare, and the answer of a check of them.
+abbrev pub terms : List ℕ → List ℕ → Reader RuleTerm
+terms T Γ = read_rule_term (declared T) Γ
+
+abbrev pub answer : List ℕ → Read RuleTerm → Answer
+answer T r = weighed (declared T) (callee T) r
 
 -- The answer of two terms in a row.
 unfoldable pub weighed_two : RuleSet → (ℕ → Measure) → Joint → Read (RuleTerm × RuleTerm) → Answer

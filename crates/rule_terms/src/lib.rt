@@ -1,8 +1,8 @@
-// Process terms as they stand in a rule stream, checked and measured in one pass (document 01, "Blocks and the rule
-// stream", item 5; "Unfolding, size and breadth").
+// Process terms as a rule stream spells them, checked and measured in one pass (document 01, "Blocks and the rule stream",
+// item 5; "Unfolding, size and breadth").
 #![tactic(auto)]
 
-ghost use Rattle.std.specs.Prelude.{◌≡◌, Bool, ◌+◌, ◌-◌, ◌≤◌, ◌<◌, drop, take, get_or, length};
+ghost use Rattle.std.specs.Prelude.{◌≡◌, Bool, ◌-◌, ◌≤◌, ◌<◌, drop, get_or, length};
 ghost use Rattle.eb3.specs.RuleSets.{attributes};
 ghost use Rattle.eb3.specs.Scopes.{guard_scope};
 ghost use Rattle.eb3.specs.Reading.{both};
@@ -11,22 +11,23 @@ ghost use Rattle.eb3.specs.RuleReading.{rule_action_of, call_of, RuleKind, rule_
 ghost use Rattle.weights.specs.Weighing.{measure};
 ghost use Rattle.arguments.specs.Tables.{declared, callee};
 ghost use Rattle.scan.specs.Checking.{checked};
-ghost use Rattle.rule_terms.specs.Weighed.{weighed, joint_of, weighed_two, weighed_copies, mask_if, copies_of, quantifier};
-ghost use Rattle.rule_terms.specs.Starred.{Stars};
+ghost use Rattle.rule_terms.specs.Weighed.{weighed, terms, answer, weighed_two, weighed_copies, mask_if, copies_of, quantifier};
 
+use arguments::layout::{
+    BREADTH, LABEL_ROWS, LABEL_WORDS, PROCESS_ROWS, PROCESS_WORDS, REACH, SIZE,
+};
 use arguments::{
-    check_arguments, check_mask, domains, entry, functions, labels, mask_zero, processes, row_at,
-    size_of, with,
+    Context, MASK_WORDS, check_arguments, check_mask, domains, entry, functions, labels, mask_zero,
+    processes, row_at, size_of, with,
 };
 use code_numbers::{
     ACTION, CALL, CHOICE, CHOICE_OVER, GUARD, INTERNAL, PARALLEL, PARALLEL_OVER, SEQUENCE, STAR,
 };
 use grammar::{Scope, check_cond};
 use refusals::Refusal;
+use scan::repeats::leading;
 use scan::{behind, first, last, number};
-use weights::{
-    Weight, choice, choices, empty, guard, narrow, parallel, parallels, sequence, single, stars,
-};
+use weights::{Joint, Weight, choices, empty, guard, joined, narrow, parallels, single, stars};
 
 // The most variables in scope: a process's parameters, and one for each quantifier around.
 const VARIABLES: usize = 8;
@@ -38,14 +39,6 @@ pub struct Weighed {
     pub weight: Weight,
 }
 
-// How two terms stand together: for a parallel, whether its mask is zero.
-#[derive(Clone, Copy)]
-enum Joint {
-    Sequence,
-    Choice,
-    Parallel(bool),
-}
-
 // Over the elements of a domain: a choice of copies, or copies in parallel, for which a mask is given.
 #[derive(Clone, Copy)]
 enum Quantifier {
@@ -55,16 +48,17 @@ enum Quantifier {
 
 // ── the tables ──
 
-// The measures of a process that stands before.
+// The measures of a process that was read before.
+#[tactic(auto, using(crate::proofs::Leaves::row_in))]
 fn weight_of(tb: &[u32], p: usize) -> Weight
     ensures { measure result ≡ callee tb.now p }
 {
     if p < processes(tb) {
-        let at = 212 + 9 * p;
+        let at = PROCESS_ROWS + PROCESS_WORDS * p;
         return Weight {
-            size: entry(tb, at + 5),
-            reach: entry(tb, at + 6),
-            breadth: entry(tb, at + 7),
+            size: entry(tb, at + SIZE),
+            reach: entry(tb, at + REACH),
+            breadth: entry(tb, at + BREADTH),
         };
     }
     empty()
@@ -73,12 +67,12 @@ fn weight_of(tb: &[u32], p: usize) -> Weight
 // ── terms ──
 
 // A label and its arguments.
-fn action(t: &[u16], tb: &[u32], vars: &[u16]) -> Result<Weighed, Refusal>
-    ensures { result ≡ weighed (declared tb.now) (callee tb.now) (rule_action_of (declared tb.now) vars.now t.now) }
+fn action(t: &[u16], context: &Context) -> Result<Weighed, Refusal>
+    ensures { result ≡ answer context.now.tables.now (rule_action_of (declared context.now.tables.now) context.now.variables.now t.now) }
 {
-    let n = number(t, Refusal::Reference, labels(tb))?;
-    let ds = row_at(tb, 18 + 3 * first(t));
-    let left = check_arguments(last(t, n), tb, vars, ds)?;
+    let n = number(t, Refusal::Reference, labels(context.tables))?;
+    let ds = row_at(context.tables, LABEL_ROWS + LABEL_WORDS * first(t));
+    let left = check_arguments(last(t, n), context.tables, context.variables, ds)?;
     Ok(Weighed {
         left,
         weight: single(2 + 2 * narrow(ds.len())),
@@ -86,49 +80,38 @@ fn action(t: &[u16], tb: &[u32], vars: &[u16]) -> Result<Weighed, Refusal>
 }
 
 // A lower process and its arguments.
-fn call(t: &[u16], tb: &[u32], vars: &[u16]) -> Result<Weighed, Refusal>
-    ensures { result ≡ weighed (declared tb.now) (callee tb.now) (call_of (declared tb.now) vars.now t.now) }
+fn call(t: &[u16], context: &Context) -> Result<Weighed, Refusal>
+    ensures { result ≡ answer context.now.tables.now (call_of (declared context.now.tables.now) context.now.variables.now t.now) }
 {
-    let n = number(t, Refusal::Reference, processes(tb))?;
+    let n = number(t, Refusal::Reference, processes(context.tables))?;
     let p = first(t);
-    let left = check_arguments(last(t, n), tb, vars, row_at(tb, 212 + 9 * p))?;
+    let ds = row_at(context.tables, PROCESS_ROWS + PROCESS_WORDS * p);
+    let left = check_arguments(last(t, n), context.tables, context.variables, ds)?;
     Ok(Weighed {
         left,
-        weight: weight_of(tb, p),
+        weight: weight_of(context.tables, p),
     })
 }
 
-// A term inside a term. Each level of nesting is one frame of `check_term`, where what a call hands over (three slices and
-// the answer) has its place only while this runs, so that the calls of all arms share one place.
+// A term inside a term. Each level of nesting is one frame of `check_term`, where what a call is given has its place only while
+// this runs, so that the calls of all arms share one place.
 #[cycle(terms)]
-fn operand(t: &[u16], tb: &[u32], vars: &[u16]) -> Result<Weighed, Refusal>
-    requires { (length vars.now ≤ 8) × (length t.now ≤ 65535) }
-    ensures { result ≡ weighed (declared tb.now) (callee tb.now) (read_rule_term (declared tb.now) vars.now t.now) }
+fn operand(t: &[u16], context: &Context) -> Result<Weighed, Refusal>
+    ensures { result ≡ answer context.now.tables.now (terms context.now.tables.now context.now.variables.now t.now) }
 {
-    check_term(t, tb, vars)
+    check_term(t, context)
 }
 
-// What two terms measure together.
-fn joined(joint: Joint, a: Weight, b: Weight) -> Weight
-    ensures { measure result ≡ joint_of joint (measure a) (measure b) }
-{
-    match joint {
-        Joint::Sequence => sequence(a, b),
-        Joint::Choice => choice(a, b),
-        Joint::Parallel(zero) => parallel(zero, a, b),
-    }
-}
-
-// Two terms in a row. Always inlined: a level of nesting is then one frame of `check_term`, of 256 bytes, and else this
+// Two terms in a row. Always inlined: a level of nesting is then one frame of `check_term`, of 208 bytes, and else this
 // function's beside it.
 #[inline(always)]
 #[cycle(terms)]
-fn two_terms(t: &[u16], tb: &[u32], vars: &[u16], joint: Joint) -> Result<Weighed, Refusal>
-    requires { (length vars.now ≤ 8) × (length t.now ≤ 65535) }
-    ensures { result ≡ weighed_two (declared tb.now) (callee tb.now) joint (both (read_rule_term (declared tb.now) vars.now) (read_rule_term (declared tb.now) vars.now) t.now) }
+#[tactic(auto, using(crate::proofs::Codes::parts))]
+fn two_terms(t: &[u16], context: &Context, joint: Joint) -> Result<Weighed, Refusal>
+    ensures { result ≡ weighed_two (declared context.now.tables.now) (callee context.now.tables.now) joint (both (terms context.now.tables.now context.now.variables.now) (terms context.now.tables.now context.now.variables.now) t.now) }
 {
-    let a = operand(t, tb, vars)?;
-    let b = operand(last(t, a.left), tb, vars)?;
+    let a = operand(t, context)?;
+    let b = operand(last(t, a.left), context)?;
     Ok(Weighed {
         left: b.left,
         weight: joined(joint, a.weight, b.weight),
@@ -137,22 +120,23 @@ fn two_terms(t: &[u16], tb: &[u32], vars: &[u16], joint: Joint) -> Result<Weighe
 
 // A mask and two terms.
 #[cycle(terms)]
-fn in_parallel(t: &[u16], tb: &[u32], vars: &[u16]) -> Result<Weighed, Refusal>
-    requires { (length vars.now ≤ 8) × (length t.now ≤ 65535) }
-    ensures { result ≡ weighed (declared tb.now) (callee tb.now) (rule_by (declared tb.now) (read_rule_term (declared tb.now)) vars.now RuleKind.parallel t.now) }
+#[tactic(auto, using(crate::proofs::Codes::parts))]
+fn in_parallel(t: &[u16], context: &Context) -> Result<Weighed, Refusal>
+    ensures { result ≡ answer context.now.tables.now (rule_by (declared context.now.tables.now) (read_rule_term (declared context.now.tables.now)) context.now.variables.now RuleKind.parallel t.now) }
 {
-    let n = check_mask(t, 4, labels(tb))?;
-    two_terms(last(t, n), tb, vars, Joint::Parallel(mask_zero(t)))
+    let n = check_mask(t, MASK_WORDS, labels(context.tables))?;
+    two_terms(last(t, n), context, Joint::Parallel(mask_zero(t)))
 }
 
-// A guard's condition, which names no function before. Apart from `guarded`, so that what it hands over shares its place in
-// the frame with what `operand` does.
-fn condition(t: &[u16], tb: &[u32], vars: &[u16]) -> Result<usize, Refusal>
-    ensures { result ≡ checked (read_cond 1 (guard_scope (attributes (declared tb.now)) (length vars.now)) t.now) }
+// A guard's condition, which names no function before. Apart from `guarded`, so that what it gives to its call shares its place
+// in the frame with what `operand` gives.
+#[tactic(auto, using(crate::proofs::Binders::condition_in))]
+fn condition(t: &[u16], context: &Context) -> Result<usize, Refusal>
+    ensures { result ≡ checked (read_cond 1 (guard_scope (attributes (declared context.now.tables.now)) (length context.now.variables.now)) t.now) }
 {
     let c = Scope {
-        variables: vars.len(),
-        now: functions(tb),
+        variables: context.variables.len(),
+        now: functions(context.tables),
         before: 0,
     };
     check_cond(t, c)
@@ -160,12 +144,12 @@ fn condition(t: &[u16], tb: &[u32], vars: &[u16]) -> Result<usize, Refusal>
 
 // A condition, whose size is the words that it took, and a term.
 #[cycle(terms)]
-fn guarded(t: &[u16], tb: &[u32], vars: &[u16]) -> Result<Weighed, Refusal>
-    requires { (length vars.now ≤ 8) × (length t.now ≤ 65535) }
-    ensures { result ≡ weighed (declared tb.now) (callee tb.now) (rule_by (declared tb.now) (read_rule_term (declared tb.now)) vars.now RuleKind.guard t.now) }
+#[tactic(auto, using(crate::proofs::Codes::binders))]
+fn guarded(t: &[u16], context: &Context) -> Result<Weighed, Refusal>
+    ensures { result ≡ answer context.now.tables.now (rule_by (declared context.now.tables.now) (read_rule_term (declared context.now.tables.now)) context.now.variables.now RuleKind.guard t.now) }
 {
-    let n = condition(t, tb, vars)?;
-    let a = operand(last(t, n), tb, vars)?;
+    let n = condition(t, context)?;
+    let a = operand(last(t, n), context)?;
     Ok(Weighed {
         left: a.left,
         weight: guard(narrow(t.len().saturating_sub(n)), a.weight),
@@ -174,15 +158,19 @@ fn guarded(t: &[u16], tb: &[u32], vars: &[u16]) -> Result<Weighed, Refusal>
 
 // ── quantifiers: a choice, or with a mask a parallel, of a copy for each element of a domain ──
 
+#[tactic(auto, using(crate::proofs::Parts::mask_some, crate::proofs::Parts::mask_none))]
 fn mask_if(over: Quantifier, t: &[u16], tb: &[u32]) -> Result<usize, Refusal>
     ensures { result ≡ checked (mask_if over (declared tb.now) t.now) }
 {
     match over {
         Quantifier::Choice => Ok(t.len()),
-        Quantifier::Parallel => check_mask(t, 4, labels(tb)),
+        Quantifier::Parallel => check_mask(t, MASK_WORDS, labels(tb)),
     }
 }
 
+// Copies of a term of that weight, n of them.
+// Stays: whether the mask is zero is a Bool, as in `weights`, whose line says why.
+#[tactic(auto, unfolding(crate::specs::Weighed::copies_of))]
 fn copied(over: Quantifier, n: usize, zero: bool, a: Weight) -> Weight
     ensures { measure result ≡ copies_of over zero n (measure a) }
 {
@@ -193,53 +181,41 @@ fn copied(over: Quantifier, n: usize, zero: bool, a: Weight) -> Weight
 }
 
 // A mask where there is one, and a term, of which there are n copies.
+// Stays: n is the size of a domain, and says nothing of how many of the words count.
 #[cycle(terms)]
-fn copies(
-    t: &[u16],
-    tb: &[u32],
-    vars: &[u16],
-    n: usize,
-    over: Quantifier,
-) -> Result<Weighed, Refusal>
-    requires { (length vars.now ≤ 8) × (length t.now ≤ 65535) }
-    ensures { result ≡ weighed_copies (declared tb.now) (callee tb.now) over n (both (mask_if over (declared tb.now)) (read_rule_term (declared tb.now) vars.now) t.now) }
+#[tactic(auto, using(crate::proofs::Codes::parts))]
+fn copies(t: &[u16], context: &Context, n: usize, over: Quantifier) -> Result<Weighed, Refusal>
+    ensures { result ≡ weighed_copies (declared context.now.tables.now) (callee context.now.tables.now) over n (both (mask_if over (declared context.now.tables.now)) (terms context.now.tables.now context.now.variables.now) t.now) }
 {
-    let m = mask_if(over, t, tb)?;
-    let a = operand(last(t, m), tb, vars)?;
+    let m = mask_if(over, t, context.tables)?;
+    let a = operand(last(t, m), context)?;
     Ok(Weighed {
         left: a.left,
         weight: copied(over, n, mask_zero(t), a.weight),
     })
 }
 
-// A domain, and copies of a term with one variable more. As a function with two callers it keeps a frame of its own and takes
-// nothing of `check_term`'s.
+// A domain, and copies of a term with one variable more. As a function with two callers it keeps a frame of its own, of 192
+// bytes at most eight times, and takes nothing of `check_term`'s.
 #[cycle(terms)]
-fn quantified(t: &[u16], tb: &[u32], vars: &[u16], over: Quantifier) -> Result<Weighed, Refusal>
-    requires { (length vars.now < 8) × (length t.now ≤ 65535) }
-    ensures { result ≡ weighed (declared tb.now) (callee tb.now) (rule_by (declared tb.now) (read_rule_term (declared tb.now)) vars.now (quantifier over) t.now) }
+#[tactic(auto, using(crate::proofs::Codes::binders))]
+fn quantified(t: &[u16], context: &Context, over: Quantifier) -> Result<Weighed, Refusal>
+    requires { length context.now.variables.now < 8 }
+    ensures { result ≡ answer context.now.tables.now (rule_by (declared context.now.tables.now) (read_rule_term (declared context.now.tables.now)) context.now.variables.now (quantifier over) t.now) }
 {
-    let n = number(t, Refusal::Reference, domains(tb))?;
-    let more = with(vars, t[0]);
-    let k = vars.len() + 1;
-    copies(last(t, n), tb, &more[..k], size_of(tb, first(t)), over)
+    let n = number(t, Refusal::Reference, domains(context.tables))?;
+    let more = with(context.variables, t[0]);
+    let k = context.variables.len() + 1;
+    let inside = Context {
+        tables: context.tables,
+        variables: &more[..k],
+    };
+    copies(last(t, n), &inside, size_of(context.tables, first(t)), over)
 }
 
 // ── any term ──
 
-// The stars in front.
-fn stars_in(s: &[u16]) -> usize
-    ensures { Stars s.now result × (get_or (drop result s.now) 0 0 ≡ 24 → ⊥) }
-{
-    for i in 0..s.len() {
-        if s[i] as usize != STAR {
-            return i;
-        }
-    }
-    s.len()
-}
-
-// The words behind the first k.
+// The words after the first k.
 fn beyond(s: &[u16], k: usize) -> &[u16]
     requires { k ≤ length s.now }
     ensures { result.now ≡ drop k s.now }
@@ -249,9 +225,10 @@ fn beyond(s: &[u16], k: usize) -> &[u16]
 
 // A term that is no star.
 #[cycle(terms)]
-fn check_plain(s: &[u16], tb: &[u32], vars: &[u16]) -> Result<Weighed, Refusal>
-    requires { (length vars.now ≤ 8) × (length s.now ≤ 65535) × (get_or s.now 0 0 ≡ 24 → ⊥) }
-    ensures { result ≡ weighed (declared tb.now) (callee tb.now) (read_rule_term (declared tb.now) vars.now s.now) }
+#[tactic(auto, using(crate::proofs::Codes::codes))]
+fn check_plain(s: &[u16], context: &Context) -> Result<Weighed, Refusal>
+    requires { get_or s.now 0 0 ≡ 24 → ⊥ }
+    ensures { result ≡ answer context.now.tables.now (terms context.now.tables.now context.now.variables.now s.now) }
 {
     if s.len() == 0 {
         return Err(Refusal::Form);
@@ -262,36 +239,36 @@ fn check_plain(s: &[u16], tb: &[u32], vars: &[u16]) -> Result<Weighed, Refusal>
             left: t.len(),
             weight: single(1),
         }),
-        ACTION => action(t, tb, vars),
-        SEQUENCE => two_terms(t, tb, vars, Joint::Sequence),
-        CHOICE => two_terms(t, tb, vars, Joint::Choice),
-        PARALLEL => in_parallel(t, tb, vars),
-        GUARD => guarded(t, tb, vars),
+        ACTION => action(t, context),
+        SEQUENCE => two_terms(t, context, Joint::Sequence),
+        CHOICE => two_terms(t, context, Joint::Choice),
+        PARALLEL => in_parallel(t, context),
+        GUARD => guarded(t, context),
         CHOICE_OVER => {
-            if vars.len() < VARIABLES {
-                return quantified(t, tb, vars, Quantifier::Choice);
+            if context.variables.len() < VARIABLES {
+                return quantified(t, context, Quantifier::Choice);
             }
             Err(Refusal::Form)
         }
         PARALLEL_OVER => {
-            if vars.len() < VARIABLES {
-                return quantified(t, tb, vars, Quantifier::Parallel);
+            if context.variables.len() < VARIABLES {
+                return quantified(t, context, Quantifier::Parallel);
             }
             Err(Refusal::Form)
         }
-        CALL => call(t, tb, vars),
+        CALL => call(t, context),
         _ => Err(Refusal::Form),
     }
 }
 
 // One term, where the domains of the variables in scope are given. Stars in a row are counted and not descended into.
 #[cycle(terms)]
-pub fn check_term(s: &[u16], tb: &[u32], vars: &[u16]) -> Result<Weighed, Refusal>
-    requires { (length vars.now ≤ 8) × (length s.now ≤ 65535) }
-    ensures { result ≡ weighed (declared tb.now) (callee tb.now) (read_rule_term (declared tb.now) vars.now s.now) }
+#[tactic(auto, using(crate::proofs::Stars::around))]
+pub fn check_term(s: &[u16], context: &Context) -> Result<Weighed, Refusal>
+    ensures { result ≡ weighed (declared context.now.tables.now) (callee context.now.tables.now) (read_rule_term (declared context.now.tables.now) context.now.variables.now s.now) }
 {
-    let k = stars_in(s);
-    let a = check_plain(beyond(s, k), tb, vars)?;
+    let k = leading(s, STAR);
+    let a = check_plain(beyond(s, k), context)?;
     Ok(Weighed {
         left: a.left,
         weight: stars(k, a.weight),

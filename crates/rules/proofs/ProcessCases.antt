@@ -13,7 +13,9 @@ use Rattle.eb3.specs.RuleReading.{parameter_limit, read_rule_term, read_process,
 use Rattle.weights.specs.Weighing.{measure}
 use Rattle.weights.specs.declared.Weight.{Weight}
 use Rattle.scan.specs.Checking.{checked, last_of, Checked}
-use Rattle.scan.specs.Laws.{Tail, tail_on, last_tail}
+use Rattle.scan.specs.Laws.{Tail, tail_on, last_tail, last_all, last_last, last_length}
+use Rattle.std.proofs.Common.{le_refl}
+use Rattle.rule_terms.specs.declared.Weighed.{Weighed}
 use Rattle.rule_terms.specs.Weighed.{weighed, Answer, found}
 use Rattle.arguments.specs.Tables.{row, declared, callee}
 use Rattle.arguments.specs.TableLaws.{domains_length}
@@ -27,10 +29,6 @@ use Rattle.rules.specs.SectionLaws.{processes_refused, process_row_front, last_a
 use Rattle.std.specs.Prelude.{Ok, Err}
 use Rattle.refusals.specs.declared.Refusal.{Refusal}
 use Rattle.refusals.specs.Numbers.{refusal}
-
-pub limit_more : (n : ℕ) → (n ≡ 0 → ⊥) → 4 ≡ parameter_limit n
-limit_more zero z = absurd (z refl)
-limit_more (suc n) z = refl
 
 -- ── one process ──
 
@@ -82,18 +80,6 @@ unfolding entered_process
 entered_is T T₁ t p k a b c left x y e f h g i =
     let q : T₁ ≡ paste T (212 + 9 * p) (take (get_or t 0 0 + 1) t) (length (take (get_or t 0 0 + 1) t)) = e ∙ ap (λ n. paste T (212 + 9 * p) t (n + 1)) f ∙ paste_front T t (212 + 9 * p) (get_or t 0 0 + 1) h in
     (λ j. set (set (set (set (set (q j) (212 + 9 * p + 5) a) (212 + 9 * p + 6) b) (212 + 9 * p + 7) c) (212 + 9 * p + 8) (g j)) 211 (i j))
-
-pub room_1 : (B : List ℕ) (i a n : ℕ) → n < length B → n < length (set B i a)
-room_1 B i a n h = omega (arith, length-set B i a)
-
-pub room_2 : (B : List ℕ) (i j a b n : ℕ) → n < length B → n < length (set (set B i a) j b)
-room_2 B i j a b n h = room_1 (set B i a) j b n (room_1 B i a n h)
-
-pub room_3 : (B : List ℕ) (i j k a b c n : ℕ) → n < length B → n < length (set (set (set B i a) j b) k c)
-room_3 B i j k a b c n h = room_1 (set (set B i a) j b) k c n (room_2 B i j a b n h)
-
-pub room_4 : (B : List ℕ) (i j k l a b c d n : ℕ) → n < length B → n < length (set (set (set (set B i a) j b) k c) l d)
-room_4 B i j k l a b c d n h = room_1 (set (set (set B i a) j b) k c) l d n (room_3 B i j k a b c n h)
 
 -- ── what the rest asks ──
 
@@ -172,5 +158,66 @@ module _ (T t : List ℕ) (hi : ℕ) (q : Answer) (e : q ≡ process_weighed (de
   all_next zero m p x w T' r T'' v l h small f b count room i en rest next = absurd (let z : ⊥ = omega arith in z)
   all_next (suc n) m p x w T' r T'' v l h small f b count room i en rest next =
       one_next n m w (h ∙ ap parameter_limit (sub-one (suc n))) f p x T' small b count (omega arith) i en r T'' v rest (subst (λ y. ProcessesRead r T' y v T'') (sub-one (suc n)) next)
+
+-- ── one process after the other ──
+
+-- p of n processes are entered and give the tables T, and a is what the check of the last of them answered: what the others read by T, all read.
+pub record Going (t T₀ : List ℕ) (n p : ℕ) (a : Weighed) (T : List ℕ) : Type 0 where
+  pub within : p ≤ n
+  pub short : a.left ≤ length t
+  pub same_length : length T ≡ length T₀
+  pub count : get_or T 211 0 ≡ p
+  pub bounded : Bounded T
+  pub rest : (v : Answer) (T' : List ℕ) → 1 ≤ n - p → ProcessesRead (last_of a.left t) T (n - p) v T' → ProcessesRead t T₀ n v T'
+  pub done : n ≡ p → ProcessesRead t T₀ n (Ok a) T
+
+pub going_start : (t T : List ℕ) (n : ℕ) (w : Weight) → 1 ≤ n → get_or T 211 0 ≡ 0 → Bounded T → Going t T n 0 (record { left = length t; weight = w }) T
+going_start t T n w l z b = record {
+  within = omega arith;
+  short = le_refl (length t);
+  same_length = refl;
+  count = z;
+  bounded = b;
+  rest = λ v T' k r. subst (λ u. ProcessesRead u T n v T') (last_all (length t) t (le_refl (length t))) (subst (λ m. ProcessesRead (last_of (length t) t) T m v T') (let e : n - 0 ≡ n = omega arith in e) r);
+  done = λ e. absurd (let z : ⊥ = omega arith in z);
+}
+
+module _ (t T₀ T u : List ℕ) (n p hi : ℕ) (a : Weighed) (g : Going t T₀ n p a T) (l : p < n) (q : Answer) (e : q ≡ process_weighed (declared T) (callee T) (read_process (declared T) hi u)) (i : u ≡ last_of a.left t) (h : hi ≡ parameter_limit (n - 1 - p)) (small : hi ≤ 4) where
+  more : 1 ≤ n - p
+  more = omega arith
+
+  limit : hi ≡ parameter_limit (n - p - 1)
+  limit = h ∙ ap parameter_limit (let e : n - 1 - p ≡ n - p - 1 = omega arith in e)
+
+  back : (v : Answer) (T' : List ℕ) → ProcessesRead u T (n - p) v T' → ProcessesRead t T₀ n v T'
+  back v T' r = g.rest v T' more (subst (λ y. ProcessesRead y T (n - p) v T') i r)
+
+  pub going_refused : (k : Refusal) → q ≡ Err k → ProcessesRead t T₀ n (Err k) T
+  going_refused k f = back (Err k) T (all_refused T u hi q e (n - p) k more limit f)
+
+  module _ (b : Weighed) (f : q ≡ Ok b) where
+    pub going_front : (get_or u 0 0 ≤ 4) × (get_or u 0 0 + 1 ≤ length u)
+    going_front = all_front T u hi q e (n - p - 1) b.left b.weight limit f small
+
+    left_short : b.left ≤ a.left
+    left_short =
+        let s = process_row_front T u (n - p - 1) b.left b.weight (was T u hi q e (n - p - 1) b.left b.weight limit f) in
+        omega (arith, s.2, ap length i, last_length a.left t g.short)
+
+    pub going_next : (x : ℕ) (T' : List ℕ) → x ≡ get_or u 0 0 → 212 + 9 * n ≤ length T₀ → T' ≡ entered_process T p (take (get_or u 0 0 + 1) u) b.weight.size b.weight.reach b.weight.breadth (length u - (x + 1)) → Going t T₀ n (p + 1) b T'
+    going_next x T' j room en =
+        let here : 212 + 9 * (n - p + p) ≤ length T = omega (arith, g.same_length, l) in
+        let asks = next_asks T T' u p (length u - (x + 1)) b.weight g.bounded going_front.0 (omega (arith, g.same_length, l)) en in
+        record {
+          within = omega arith;
+          short = omega (arith, left_short, g.short);
+          same_length = asks.0 ∙ g.same_length;
+          count = asks.1;
+          bounded = asks.2;
+          rest = λ v T'' m r. back v T'' (all_next T u hi q e (n - p) b.left p x b.weight T' (last_of b.left u) T'' v more limit small f g.bounded g.count here j en refl
+              (subst (λ y. ProcessesRead y T' (n - p - 1) v T'') (sym (ap (last_of b.left) i ∙ last_last b.left a.left t g.short left_short))
+              (subst (λ k. ProcessesRead (last_of b.left t) T' k v T'') (let d : n - (p + 1) ≡ n - p - 1 = omega arith in d) r)));
+          done = λ z. back (Ok b) T' (all_last T u hi q e (n - p) b.left p x b.weight T' (let d : n - p ≡ 1 = omega arith in d) limit small f g.bounded g.count here j en);
+        }
 
 pub ruleset processing = (process_in, process_out)

@@ -28,7 +28,10 @@ use Rattle.rules.specs.Filling.{Placed}
 use Rattle.rules.specs.Sections.{process_weighed, main_weighed}
 use Rattle.rule_terms.specs.Weighed.{Answer, found}
 use Rattle.scan.specs.ReadingLaws.{RefusedAs}
+use Rattle.scan.specs.Refusing.{refused_number}
+use Rattle.eb3.proofs.Laws.Refusals.{process_refuses}
 use Rattle.refusals.specs.declared.Refusal.{Refusal}
+use Rattle.refusals.specs.Numbers.{number}
 
 abbrev IsFound : Answer → Type 0
 IsFound (Ok a) = Unit
@@ -46,7 +49,7 @@ abbrev weight_in : Weight → Answer → Weight
 weight_in d (Ok a) = a.weight
 weight_in d (Err k) = d
 
--- What an answer says of the reading behind it.
+-- What an answer says of the reading that it is of.
 abbrev Reads : RuleSet → (ℕ → Measure) → Read Process → ℕ → Weight → Type 0
 Reads R M r n w = (P : Process) × (u : List ℕ) × (r ≡ taken P u) × (n ≡ length u) × (measure w ≡ measure_term (sat cap) R M P.term)
 
@@ -59,6 +62,10 @@ pub refused_reads : (R : RuleSet) (M : ℕ → Measure) (r : Read Process) (k : 
 unfolding process_weighed
 refused_reads R M (refused j) k e = record { code = j; read = refl; named = ap (refusal_in k) e }
 refused_reads R M (taken P u) k e = absurd (subst IsFound (sym e) tt)
+
+-- A process is refused by the very number of the refusal.
+pub process_refused : (R Q : RuleSet) (M : ℕ → Measure) (hi : ℕ) (t : List ℕ) (k : Refusal) → Err k ≡ process_weighed R M (read_process Q hi t) → read_process Q hi t ≡ refused (number k)
+process_refused R Q M hi t k e = refused_number (read_process Q hi t) k (process_refuses Q hi t) (refused_reads R M (read_process Q hi t) k e)
 
 -- What is left of words that were read is their end.
 process_ends : (R : RuleSet) (hi : ℕ) → Ends (read_process R hi)
@@ -99,7 +106,7 @@ module _ (T t : List ℕ) (n : ℕ) where
     abbrev got : Reads (declared T) (callee T) first_process m w
     got = found_reads (declared T) (callee T) first_process m w e
 
-    -- What stands in front of the words, for entering it.
+    -- What is at the front of the words, for entering it.
     pub process_row_front : (get_or t 0 0 ≤ parameter_limit n) × (get_or t 0 0 + 1 ≤ length t) × (m ≤ length t)
     process_row_front =
         let f = process_front (declared T) (parameter_limit n) t got.0 got.1 got.2 in
@@ -117,7 +124,7 @@ module _ (T t : List ℕ) (n : ℕ) where
       unfolding read_processes then
       rest_reads = ap (λ r. then r λ P. read_processes n (with_process R P)) read_behind
 
-      -- Entered, it is declared with the others, and its term stands behind its parameters.
+      -- Entered, it is declared with the others, and its term is after its parameters.
       module _ (p : ℕ) (T' : List ℕ) (b : Bounded T) (narrow : Narrow R) (count : get_or T 211 0 ≡ p) (room : 212 + 9 * (p + 1) ≤ length T)
           (entered : T' ≡ entered_process T p (take (get_or t 0 0 + 1) t) w.size w.reach w.breadth (length t - (get_or t 0 0 + 1))) where
         abbrev head : List ℕ
@@ -171,7 +178,7 @@ module _ (T t : List ℕ) (n : ℕ) where
             let q : taken (with_process R got.0) got.1 ≡ taken Q u = ap (λ k. read_processes k (with_process R got.0) got.1) (sym z) ∙ sym rest_reads ∙ e in
             subst (Placed whole T') (same_taken (with_process R got.0) Q got.1 u q) (grown_placed whole tl rows)
 
-        -- or one of several: the others behind it, by the tables with it entered.
+        -- or one of several: the others after it, by the tables with it entered.
         module _ (r : List ℕ) (rest : r ≡ last_of m t) where
           left : r ≡ got.1
           left = rest ∙ sym (process_left (declared T) (parameter_limit n) t got.0 got.1 m got.2 got.3)

@@ -13,6 +13,7 @@ use Rattle.eb3.proofs.Laws.CellCounts.{cells_below}
 use Rattle.eb3.specs.RuleSpelling.{rules_words}
 use Rattle.eb3.specs.Reading.{Read, refused, taken, pick}
 use Rattle.eb3.proofs.Laws.Reading.{Sound, pick_true, pick_false}
+use Rattle.eb3.proofs.Laws.Refusals.{Refuses, rules_refuse}
 use Rattle.eb3.specs.RuleReading.{read_rules}
 use Rattle.eb3.proofs.Laws.RuleReading.{FormOf, rules_sound}
 use Rattle.eb3.proofs.Laws.Editions.{edition_1_defined}
@@ -25,9 +26,10 @@ use Rattle.weights.specs.Weighing.{cap, measure}
 use Rattle.weights.specs.declared.Weight.{Weight}
 use Rattle.scan.specs.Checking.{last_of}
 use Rattle.scan.specs.Laws.{behind_part}
+use Rattle.scan.specs.Refusing.{refused_number}
 use Rattle.rules.specs.declared.Rules.{Rules}
 use Rattle.rules.specs.Sections.{rules_weighed, found_rules}
-use Rattle.refusals.specs.Numbers.{refusal}
+use Rattle.refusals.specs.Numbers.{number, refusal}
 use Rattle.refusals.specs.declared.Refusal.{Refusal}
 
 abbrev IsFound : Result Rules Refusal → Type 0
@@ -50,7 +52,7 @@ abbrev weight_in : Weight → Result Rules Refusal → Weight
 weight_in d (Ok a) = a.weight
 weight_in d (Err k) = d
 
--- What an answer says of the reading behind it.
+-- What an answer says of the reading that it is of.
 pub record Whole (t : List ℕ) (r : Read RuleSet) (left cells : ℕ) (w : Weight) : Type 0 where
   pub R : RuleSet
   pub rest : List ℕ
@@ -89,6 +91,15 @@ module _ (t : List ℕ) where
       go : (r : Read RuleSet) → Err k ≡ rules_weighed r → (j : ℕ) × (whole_of r ≡ Answer.refused j) × (k ≡ refusal j)
       go (refused j) e = (j, whole_refused j, ap (refusal_in k) e)
       go (taken R rest) e = absurd (subst IsFound (sym e) tt)
+
+  -- A rule set is refused by the very number of the refusal.
+  pub rules_refused_by : (k : Refusal) → Err k ≡ rules_weighed (read_rules edition_1 t) → whole_of (read_rules edition_1 t) ≡ Answer.refused (number k)
+  unfolding rules_weighed
+  rules_refused_by k e = ap whole_of (go (read_rules edition_1 t) (rules_refuse edition_1 t) e) ∙ whole_refused (number k)
+    where
+      go : (r : Read RuleSet) → Refuses r → Err k ≡ rules_weighed r → r ≡ refused (number k)
+      go (refused j) within f = refused_number (refused j) k within (record { code = j; read = refl; named = ap (refusal_in k) f })
+      go (taken R rest) within f = absurd (subst IsFound (sym f) tt)
 
   module _ (left cells : ℕ) (w : Weight) (e : found_rules left cells w ≡ rules_weighed (read_rules edition_1 t)) where
     abbrev F : Whole t (read_rules edition_1 t) left cells w

@@ -1,5 +1,5 @@
-// A rule set's stream behind its first two words, read once from the front: sections 2 to 5, the tables and the directory
-// that they fill, and main's measures (document 01, "Blocks and the rule stream"; refusals 4 to 6).
+// A rule set's stream after its first two words, read once from the front: items 2 to 5, the tables and the directory that they
+// fill, and main's measures (document 01, "Blocks and the rule stream"; refusals 4 to 6).
 #![tactic(auto)]
 
 ghost use Rattle.std.specs.Prelude.{◌≡◌, List, [], ◌∷◌, ◌++◌, ℕ, ◌+◌, ◌-◌, ◌*◌, ◌≤◌, ◌<◌, drop, take, get_or, length, set};
@@ -10,12 +10,16 @@ ghost use Rattle.declarations.specs.ProcessLaws.{Bounded};
 ghost use Rattle.rules.specs.Sections.{process_weighed};
 ghost use Rattle.rules.specs.Filling.{ProcessesRead, ProcessSectionRead, FunctionSectionRead, LabelSectionRead, RulesRead};
 
-use arguments::entry;
+use arguments::layout::{
+    BODY, BREADTH, DOMAINS, FUNCTIONS, LABEL_ROWS, LABELS, PROCESS_ROWS, PROCESS_WORDS, PROCESSES,
+    REACH, SIZE,
+};
+use arguments::{Context, domains};
 use declarations::{check_domains, copy, enter_labels, functions, parameters};
 use refusals::Refusal;
 use rule_terms::{Weighed, check_term};
 use scan::{count, first, last};
-use weights::Weight;
+use weights::{Weight, empty};
 
 // What a rule set comes to: how many words are left after it, its cells, and main's measures.
 #[derive(Clone, Copy)]
@@ -35,44 +39,58 @@ fn limit_of(n: usize) -> usize
 
 // A process: its parameters, at most hi, and its term.
 fn check_process(t: &[u16], tb: &[u32], hi: usize) -> Result<Weighed, Refusal>
-    requires { (hi ≤ 8) × (length t.now ≤ 65535) }
+    requires { hi ≤ 8 }
     ensures { result ≡ process_weighed (declared tb.now) (callee tb.now) (read_process (declared tb.now) hi t.now) }
 {
-    let m = parameters(t, hi, entry(tb, 0) as usize)?;
+    let m = parameters(t, hi, domains(tb))?;
     let k = first(t) + 1;
-    check_term(last(t, m), tb, &t[1..k])
+    let context = Context {
+        tables: tb,
+        variables: &t[1..k],
+    };
+    check_term(last(t, m), &context)
 }
 
-// Process p, whose parameters stand in front of t, may be called from now on.
+// Process p, whose parameters are at the front of t, may be called from now on.
 fn enter_process(tb: &mut [u32], t: &[u16], p: usize, w: Weight, left: usize)
     requires { (212 + 9 * p + 9 ≤ length tb.old) × (p < 65536) × (get_or t.now 0 0 ≤ 4) × (get_or t.now 0 0 + 1 ≤ length t.now) × (left < 65536) }
     ensures { tb.new ≡ entered_process tb.old p (take (get_or t.now 0 0 + 1) t.now) w.size w.reach w.breadth left }
 {
     let k = first(t) + 1;
-    let at = 212 + 9 * p;
+    let at = PROCESS_ROWS + PROCESS_WORDS * p;
     copy(tb, at, t, k);
-    tb[at + 5] = w.size;
-    tb[at + 6] = w.reach;
-    tb[at + 7] = w.breadth;
-    tb[at + 8] = left as u32;
-    tb[211] = (p + 1) as u32;
+    tb[at + SIZE] = w.size;
+    tb[at + REACH] = w.reach;
+    tb[at + BREADTH] = w.breadth;
+    tb[at + BODY] = left as u32;
+    tb[PROCESSES] = (p + 1) as u32;
 }
 
-// n processes, from number p on; the last is main, whose measures are given back.
-fn processes(t: &[u16], tb: &mut [u32], n: usize, p: usize) -> Result<Weighed, Refusal>
-    requires { (1 ≤ n) × (212 + 9 * (n + p) ≤ length tb.old) × (n + p < 65536) × (length t.now ≤ 65535) × (get_or tb.old 211 0 ≡ p) × Bounded tb.old }
+// n processes; the last is main, whose measures are returned.
+fn processes(t: &[u16], tb: &mut [u32], n: usize) -> Result<Weighed, Refusal>
+    requires { (1 ≤ n) × (212 + 9 * n ≤ length tb.old) × (n < 65536) × (length t.now ≤ 65535) × (get_or tb.old 211 0 ≡ 0) × Bounded tb.old }
     ensures { ProcessesRead t.now tb.old n result tb.new }
 {
-    let a = check_process(t, tb, limit_of(n - 1))?;
-    let left = t.len() - (first(t) + 1);
-    enter_process(tb, t, p, a.weight, left);
-    if n == 1 {
-        return Ok(a);
+    let mut main = Weighed {
+        left: t.len(),
+        weight: empty(),
+    };
+    for p in 0..n {
+        let u = last(t, main.left);
+        main = check_process(u, tb, limit_of(n - 1 - p))?;
+        let left = u.len() - (first(u) + 1);
+        enter_process(tb, u, p, main.weight, left);
     }
-    processes(last(t, a.left), tb, n - 1, p + 1)
+    Ok(main)
 }
 
 // ── the sections in a row ──
+
+// Stays: that the tables are 500 numbers is asked by the four functions here, and that the words are at most 65,535, which keeps a
+// place in them small. Callers lend the tables as a slice, as all that reads them does, so an array's type would end at `read`; and each
+// function is given another part of the words, for which a struct with this fact would be made anew.
+// Stays: three of them take the words, the tables and the directory. The words are others at each call, and most of what they call takes
+// one of the two arrays: a struct of both would be taken apart at each of these calls.
 
 fn process_section(t: &[u16], tb: &mut [u32]) -> Result<Weighed, Refusal>
     requires { (length tb.old ≡ 500) × (length t.now ≤ 65535) × Bounded tb.old }
@@ -80,8 +98,8 @@ fn process_section(t: &[u16], tb: &mut [u32]) -> Result<Weighed, Refusal>
 {
     let m = count(t, 1, 32)?;
     let n = first(t);
-    tb[211] = 0;
-    processes(last(t, m), tb, n, 0)
+    tb[PROCESSES] = 0;
+    processes(last(t, m), tb, n)
 }
 
 fn function_section(t: &[u16], tb: &mut [u32], dir: &mut [u32]) -> Result<Rules, Refusal>
@@ -90,10 +108,11 @@ fn function_section(t: &[u16], tb: &mut [u32], dir: &mut [u32]) -> Result<Rules,
 {
     let m = count(t, 0, 16)?;
     let n = first(t);
-    tb[210] = n as u32;
+    tb[FUNCTIONS] = n as u32;
     let u = last(t, m);
     let counted = functions(u, tb, dir, n, n, 0, 0)?;
     let main = process_section(last(u, counted.left), tb)?;
+    // Stays: a field that holds `main` whole would put its name before two of the three that are read.
     Ok(Rules {
         left: main.left,
         cells: counted.cells,
@@ -107,14 +126,14 @@ fn label_section(t: &[u16], tb: &mut [u32], dir: &mut [u32]) -> Result<Rules, Re
 {
     let m = count(t, 1, 64)?;
     let n = first(t);
-    tb[17] = n as u32;
-    let d = entry(tb, 0) as usize;
+    tb[LABELS] = n as u32;
+    let d = domains(tb);
     let u = last(t, m);
-    let j = enter_labels(u, tb, n, 18, d)?;
+    let j = enter_labels(u, tb, n, LABEL_ROWS, d)?;
     function_section(last(u, j), tb, dir)
 }
 
-// A rule set behind its edition and its number of blocks: how many words are left behind it, and main's measures.
+// A rule set after its edition and its number of blocks: how many words are left after it, and main's measures.
 // What the tables and the directory held before makes no difference; a directory too short is filled as far as it goes.
 pub fn read(t: &[u16], tb: &mut [u32], dir: &mut [u32]) -> Result<Rules, Refusal>
     requires { (length tb.old ≡ 500) × (length t.now ≤ 65535) }
@@ -122,6 +141,6 @@ pub fn read(t: &[u16], tb: &mut [u32], dir: &mut [u32]) -> Result<Rules, Refusal
 {
     let m = check_domains(t)?;
     let k = first(t) + 1;
-    copy(tb, 0, t, k);
+    copy(tb, DOMAINS, t, k);
     label_section(last(t, m), tb, dir)
 }

@@ -1,6 +1,7 @@
 // The memory machine run by a list of numbers, its term in words and its cells in a store (document 01, "Memory and the history
 // machine"; "Operations": Run: numbers not offered are counted and passed over). Nothing is admitted or checked again between
 // two numbers, so that each costs what its step costs.
+// Stays: that words are at most 65,535 is a clause of each function here, for the reason in successors (docs/DESIGN-PASS.md, "A struct for words").
 #![tactic(auto)]
 
 ghost use Rattle.std.specs.Prelude.{◌≡◌, ◌+◌, ◌*◌, ◌≤◌, ◌<◌, length, get_or};
@@ -38,7 +39,7 @@ fn number_at(numbers: &[u8], i: usize) -> usize
     requires { 2 * i + 2 ≤ length numbers.now }
     ensures { (result ≡ get_or (words_in numbers.now) i 0) × (result < 65536) }
 {
-    numbers[2 * i] as usize + 256 * numbers[2 * i + 1] as usize
+    usize::from(u16::from_le_bytes([numbers[2 * i], numbers[2 * i + 1]]))
 }
 
 // Move k of the term in the first n words: its successor is built in lent bytes and put in the term's place, the cells are renewed.
@@ -52,7 +53,11 @@ fn step_once(
     scratch: &mut Scratch,
 ) -> Option<Done>
     requires { length ws.old ≤ 65535 }
-    ensures { (length ws.new ≡ length ws.old) × (length m.new ≡ length m.old) × (length out.new ≡ length out.old) × SameArrays scratch.old scratch.new × StepsOnce functions.now.words.now functions.now.directory.now functions.now.width functions.now.count functions.now.cells n k ws.old m.old out.old scratch.old.path.now ws.new m.new out.new result }
+    ensures words { length ws.new ≡ length ws.old }
+    ensures store { length m.new ≡ length m.old }
+    ensures bytes { length out.new ≡ length out.old }
+    ensures arrays { SameArrays scratch.old scratch.new }
+    ensures stepped { StepsOnce functions.now.words.now functions.now.directory.now functions.now.width functions.now.count functions.now.cells n k ws.old m.old out.old scratch.old.path.now ws.new m.new out.new result }
 {
     let taken = take_move_in(front(ws, n), m, k, scratch.path, scratch.acts, out)?;
     renew(functions, m, taken.action);
@@ -88,6 +93,7 @@ fn counted(tally: Tally, done: Option<Done>) -> Tally
 }
 
 // From the term in the first n words of ws and the cells in the store, by all numbers of the list; an odd last byte is ignored.
+// Stays: the term is the first n words of ws, here and below: it grows and shrinks within one array of a fixed size, since there is no heap.
 pub fn run_moves(
     numbers: &[u8],
     functions: &Functions,
@@ -98,7 +104,11 @@ pub fn run_moves(
     scratch: &mut Scratch,
 ) -> Tally
     requires { length ws.old ≤ 65535 }
-    ensures { (length ws.new ≡ length ws.old) × (length m.new ≡ length m.old) × (length out.new ≡ length out.old) × SameArrays scratch.old scratch.new × Runs numbers.now functions.now.words.now functions.now.directory.now functions.now.width functions.now.count functions.now.cells n ws.old m.old out.old scratch.old.path.now ws.new m.new out.new result }
+    ensures words { length ws.new ≡ length ws.old }
+    ensures store { length m.new ≡ length m.old }
+    ensures bytes { length out.new ≡ length out.old }
+    ensures arrays { SameArrays scratch.old scratch.new }
+    ensures run { Runs numbers.now functions.now.words.now functions.now.directory.now functions.now.width functions.now.count functions.now.cells n ws.old m.old out.old scratch.old.path.now ws.new m.new out.new result }
 {
     let mut tally = Tally {
         size: n,

@@ -1,5 +1,6 @@
 // The memory machine run by a list of numbers, its term held in few words over the start's unfolding, which has no masks (document 01, "Memory and the history
-// machine"; "Operations": Run). A number costs the parts in front of its move, and a few words written.
+// machine"; "Operations": Run). A number costs the parts before its move, and a few words written.
+// Stays: that words are at most 65,535 is a clause of each function here, for the reason in successors (docs/DESIGN-PASS.md, "A struct for words").
 ghost use Rattle.std.specs.Prelude.{◌≡◌, ◌≤◌, ◌<◌, length};
 ghost use Rattle.runs.specs.Arrays.{SameArrays};
 ghost use Rattle.runs.specs.Sharing.{StepsShared, RunsShared};
@@ -7,14 +8,12 @@ ghost use Rattle.runs.specs.Sharing.{StepsShared, RunsShared};
 use super::scratch::Scratch;
 use super::{Done, Tally, counted, number_at};
 use cells::Functions;
+use derivation::PASSED;
 use sharing::step;
 use steps::renewing::renew;
 
-// From here on an answer of a step says that there is no such move.
-// Stays: measured in `sharing`, whose answer this is (docs/DESIGN-PASS.md, "Answers in one number").
-const PASSED: usize = 1099511627776;
-
 // Move k of the shared term in the first n words of d; the cells are renewed.
+// Stays: the answer of `step` is one number, measured in sharing, which is taken apart here; and n beside d, as in lib.rt.
 fn step_shared(
     functions: &Functions,
     u: &[u16],
@@ -25,7 +24,10 @@ fn step_shared(
     scratch: &mut Scratch,
 ) -> Option<Done>
     requires { (length u.now ≤ 65503) × (length d.old ≤ 65535) × (k < 65536) }
-    ensures { (length d.new ≡ length d.old) × (length m.new ≡ length m.old) × SameArrays scratch.old scratch.new × StepsShared functions.now.words.now functions.now.directory.now functions.now.width functions.now.count functions.now.cells u.now n k d.old m.old (length scratch.old.path.now) (length scratch.old.acts.now) (length scratch.old.mid.now) d.new m.new result }
+    ensures words { length d.new ≡ length d.old }
+    ensures store { length m.new ≡ length m.old }
+    ensures arrays { SameArrays scratch.old scratch.new }
+    ensures stepped { StepsShared functions.now.words.now functions.now.directory.now functions.now.width functions.now.count functions.now.cells u.now n k d.old m.old (length scratch.old.path.now) (length scratch.old.acts.now) (length scratch.old.mid.now) d.new m.new result }
 {
     let r = step(u, d, n, m, k, scratch.path, scratch.acts, scratch.mid);
     if PASSED <= r {
@@ -41,7 +43,7 @@ fn step_shared(
 
 // From the shared term in the first n words of d and the cells in the store, by all numbers of the list; an odd last byte is ignored.
 // Stays: this is the loop of run_moves around another step. A step lent as a closure would have to be callable in every state of the arrays that it borrows
-// and writes, so their lengths would stand in the contract once more, and that contract would be longer than these four lines; the proofs share theirs.
+// and writes, so their lengths would be in the contract once more, and that contract would be longer than these four lines; the proofs share theirs.
 pub fn run_shared(
     numbers: &[u8],
     functions: &Functions,
@@ -52,7 +54,10 @@ pub fn run_shared(
     scratch: &mut Scratch,
 ) -> Tally
     requires { (length u.now ≤ 65503) × (length d.old ≤ 65535) }
-    ensures { (length d.new ≡ length d.old) × (length m.new ≡ length m.old) × SameArrays scratch.old scratch.new × RunsShared numbers.now functions.now.words.now functions.now.directory.now functions.now.width functions.now.count functions.now.cells u.now n d.old m.old (length scratch.old.path.now) (length scratch.old.acts.now) (length scratch.old.mid.now) d.new m.new result }
+    ensures words { length d.new ≡ length d.old }
+    ensures store { length m.new ≡ length m.old }
+    ensures arrays { SameArrays scratch.old scratch.new }
+    ensures run { RunsShared numbers.now functions.now.words.now functions.now.directory.now functions.now.width functions.now.count functions.now.cells u.now n d.old m.old (length scratch.old.path.now) (length scratch.old.acts.now) (length scratch.old.mid.now) d.new m.new result }
 {
     let mut tally = Tally {
         size: n,

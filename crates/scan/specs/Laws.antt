@@ -33,7 +33,7 @@ back_rest s t k =
 pub behind_len : (s t : List ℕ) → t ≡ drop 1 s → length t ≡ length s - 1
 behind_len s t e = ap length e ∙ length-drop 1 s
 
--- Where a word stands in front, the words behind it are fewer.
+-- Where there is a first word, the words after it are fewer.
 pub behind_fewer : (s t : List ℕ) (w : ℕ) → t ≡ drop 1 s → get_or s 0 0 ≡ w → 1 ≤ w → 1 + length t ≤ length s
 behind_fewer [] t w e h k = absurd (omega arith)
 behind_fewer (v ∷ s) t w e h k = omega (arith, ap length e)
@@ -105,11 +105,11 @@ tail_at t s p = go (dec_le p.0 (length s))
         let k : length s - length t ≡ length s = omega (arith, l) in
         ap (λ j. drop j s) k ∙ drop-length s ∙ sym (p.1 ∙ drop_of_length-le s {i = p.0} (omega arith))
 
--- The last words, as many as what stands behind others.
+-- The last words, as many as those after others.
 pub last_behind : (a r : List ℕ) → last_of (length r) (a ++ r) ≡ r
 last_behind a r = tail_at r (a ++ r) (length a, sym (drop-append_seam a r))
 
--- What stands behind a part is the last so many words.
+-- What comes after a part is the last n words, where it has n.
 pub behind_part : (a b t : List ℕ) (n : ℕ) → t ≡ a ++ b → n ≡ length b → last_of n t ≡ b
 behind_part a b t n e h = ap (λ k. last_of k t) h ∙ ap (last_of (length b)) e ∙ last_behind a b
 

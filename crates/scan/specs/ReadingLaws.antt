@@ -1,12 +1,15 @@
--- What an answer of a check says of the reading: `..-refused`, that it was refused; `..-taken`, what was read and the words behind it. And readers in
+-- What an answer of a check says of the reading: `..-refused`, that it was refused; `..-taken`, what was read and the words after it. And readers in
 -- a row, by what each read (document 01, "Operations": 4, 5 and 6 by the first offending word of the stream).
-use Rattle.std.specs.Prelude.{ℕ, ◌≤◌, ◌<◌, ◌≡◌, refl, Bool, true, false, List, [], ◌∷◌, length, get_or, ltb, Result, Ok, Err, IsErr, IsErrAnd}
+use Rattle.std.specs.Prelude.{ℕ, ◌≤◌, ◌<◌, ◌≡◌, refl, Bool, true, false, T, List, [], ◌∷◌, length, get_or, ltb, Result, Ok, Err, IsErr, IsErrAnd}
 use Rattle.std.proofs.Common.{arith, sym, ap, ◌∙◌, ltb-true}
 use Rattle.eb3.specs.Reading.{Read, refused, taken, Reader, pick, giving, then, both, number_of, by_number}
-use Rattle.scan.specs.Checking.{checked, last_of}
+use Rattle.eb3.specs.Refusal as named
+use Rattle.eb3.specs.Generic.Lists.{one_of}
+use Rattle.scan.specs.Checking.{checked, numbered, number_or, last_of}
 use Rattle.scan.specs.Laws.{Fine, tail_at, tail_short, number_word}
 use Rattle.refusals.specs.declared.Refusal.{Refusal}
-use Rattle.refusals.specs.Numbers.{refusal}
+use Rattle.refusals.specs.declared.Refusal.TheVariants.{Form}
+use Rattle.refusals.specs.Numbers.{refusal, number, refusal_number, number_refusal}
 
 -- What was read: n words are left, and they are the last of the words given.
 pub record Taken {A : Type 0} (t : List ℕ) (n : ℕ) (r : Read A) : Type 0 where
@@ -27,6 +30,17 @@ pub checked_refused : {A : Type 0} (r : Read A) (k : Refusal) → Err k ≡ chec
 unfolding checked
 checked_refused (refused j) k e = record { code = j; read = refl; named = cc }
 checked_refused (taken a u) k e = absurd (let z : ◌≡◌ {A = ℕ} 0 1 = cc in omega arith)
+
+-- By the number itself, where the reading refuses by refusals' numbers only.
+pub checked_refused_by : {A : Type 0} (r : Read A) (k : Refusal) → ((j : ℕ) → r ≡ refused j → T (one_of named.of_present j)) → Err k ≡ checked r → r ≡ refused (number k)
+checked_refused_by r k within e =
+    let h = checked_refused r k e in
+    h.read ∙ ap refused (sym (ap number h.named ∙ number_refusal h.code (within h.code h.read)))
+
+pub numbered_refused : {A : Type 0} (r : Read A) (k : ℕ) → Err k ≡ numbered r → r ≡ refused k
+unfolding numbered
+numbered_refused (refused j) k e = cc
+numbered_refused (taken a u) k e = absurd (let z : ◌≡◌ {A = ℕ} 0 1 = cc in omega arith)
 
 pub refused_checked : {A : Type 0} (r : Read A) (k : Refusal) → RefusedAs k r → Err k ≡ checked r
 unfolding checked
@@ -114,6 +128,14 @@ module _ {B : Type 0} (k limit : ℕ) (g : ℕ → Reader B) (t : List ℕ) wher
   unfolding by_number
   by_number_refused j e = then_refused_as (number_of k limit t) g j (checked_refused (number_of k limit t) j e)
 
+  pub by_number_refused_by : (j : Refusal) → ((i : ℕ) → number_of k limit t ≡ refused i → T (one_of named.of_present i)) → Err j ≡ checked (number_of k limit t) → by_number k limit g t ≡ refused (number j)
+  unfolding by_number
+  by_number_refused_by j within e = then_refused (number_of k limit t) g (number j) (checked_refused_by (number_of k limit t) j within e)
+
+  pub by_number_numbered : (j : ℕ) → Err j ≡ numbered (number_of k limit t) → by_number k limit g t ≡ refused j
+  unfolding by_number
+  by_number_numbered j e = then_refused (number_of k limit t) g j (numbered_refused (number_of k limit t) j e)
+
   pub by_number_taken : (n : ℕ) → Ok n ≡ checked (number_of k limit t) → by_number k limit g t ≡ g (get_or t 0 0) (last_of n t)
   unfolding by_number
   by_number_taken n e = then_taken (number_of k limit t) g (get_or t 0 0) (last_of n t) (number_word k limit n t e)
@@ -126,3 +148,24 @@ number_below k limit n (w ∷ t) e = go (ltb w limit) refl e
     go : (b : Bool) → ltb w limit ≡ b → Ok n ≡ checked (pick b (taken w t) (refused k)) → w < limit
     go true l f = ltb-true w limit l
     go false l f = absurd (let z : ◌≡◌ {A = ℕ} 0 1 = cc in omega arith)
+
+-- ── a number, with any two errors ──
+
+-- With two numbers of refusals it is the reading's answer by number, whatever the second number is.
+pub number_or_numbered : (k limit : ℕ) (t : List ℕ) → number_or 4 k limit t ≡ numbered (number_of k limit t)
+unfolding number_or number_of numbered
+number_or_numbered k limit [] = refl
+number_or_numbered k limit (w ∷ t) = go (ltb w limit)
+  where
+    go : (b : Bool) → pick b (Ok (length t)) (Err k) ≡ numbered (pick b (taken w t) (refused k))
+    go true = refl
+    go false = refl
+
+pub number_or_checked : (r : Refusal) (limit : ℕ) (t : List ℕ) → number_or Form r limit t ≡ checked (number_of (number r) limit t)
+unfolding number_or number_of checked refusal
+number_or_checked r limit [] = refl
+number_or_checked r limit (w ∷ t) = go (ltb w limit)
+  where
+    go : (b : Bool) → pick b (Ok (length t)) (Err r) ≡ checked (pick b (taken w t) (refused (number r)))
+    go true = refl
+    go false = ap Err (sym (refusal_number r))

@@ -108,7 +108,7 @@ pub for_each_next : {A B : Type 0} (b : B) (bs : List B) (f : B → Reader A) (t
 unfolding for_each
 for_each_next b bs f t = checked_giving (λ p. p.0 ∷ p.1) (both (f b) (for_each bs f) t)
 
--- over words, each read as the code reads a list: the first word and those behind it
+-- over words, each read as the code reads a list: the first word and those after it
 module _ {A : Type 0} (ds : List ℕ) (f : ℕ → Reader A) (t : List ℕ) where
   pub for_each_none : length ds ≡ 0 → Ok (length t) ≡ checked (for_each ds f t)
   unfolding for_each checked

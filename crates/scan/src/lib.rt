@@ -1,11 +1,13 @@
-// Reading words from the front: how many words are left behind what was read, or a refusal
+// Reading words from the front: how many words are left after what was read, or a refusal
 // (document 01, "Operations": 4, 5 and 6 by the first offending word of the stream).
 #![tactic(auto)]
 
 ghost use Rattle.std.specs.Prelude.{◌≡◌, ℕ, ◌<◌, ◌≤◌, List, drop, get_or, length, take};
 ghost use Rattle.eb3.specs.Reading.{number_of, count_of};
 ghost use Rattle.refusals.specs.Numbers.{number};
-ghost use Rattle.scan.specs.Checking.{checked, last_of};
+ghost use Rattle.scan.specs.Checking.{checked, last_of, number_or};
+
+pub mod repeats;
 
 use refusals::Refusal;
 
@@ -16,72 +18,62 @@ pub fn wide(x: u16) -> usize
     x as usize
 }
 
-// The word in front, or 0 where there is none.
+// The first word, or 0 where there is none.
 pub fn first(s: &[u16]) -> usize
     ensures { (result ≡ get_or s.now 0 0) × (result < 65536) }
 {
-    if 0 < s.len() {
-        return wide(s[0]);
-    }
-    0
+    s.first().map_or(0, |&w| w as usize)
 }
 
 // The last n words; all of them where there are fewer.
+#[tactic(auto, using(crate::specs::Laws::part), unfolding(crate::specs::Checking::last_of))]
 pub fn last(s: &[u16], n: usize) -> &[u16]
     ensures { result.now ≡ last_of n s.now }
 {
-    if n <= s.len() {
-        let k = s.len() - n;
-        return &s[k..];
-    }
-    &s[0..]
+    &s[s.len().saturating_sub(n)..]
 }
 
-// The first n words.
+// The first n words; all of them where there are fewer.
 pub fn front(s: &[u16], n: usize) -> &[u16]
     ensures { result.now ≡ take n s.now }
 {
-    if n <= s.len() {
-        return &s[0..n];
-    }
-    s
+    &s[..n.min(s.len())]
 }
 
-// The words behind the first.
+// The words after the first.
 pub fn behind(s: &[u16]) -> &[u16]
     ensures { result.now ≡ drop 1 s.now }
 {
-    if 1 <= s.len() {
-        return &s[1..];
+    &s[s.len().min(1)..]
+}
+
+// One number below a limit; the first error where there is no word, and the second where the number is not below.
+#[tactic(auto, using(crate::proofs::Cases::cases))]
+pub fn number_or<E: Drop>(t: &[u16], missing: E, wrong: E, limit: usize) -> Result<usize, E>
+    ensures { result ≡ number_or missing wrong limit t.now }
+{
+    match t {
+        [] => Err(missing),
+        [w, rest @ ..] if (*w as usize) < limit => Ok(rest.len()),
+        _ => Err(wrong),
     }
-    &s[0..]
 }
 
 // One number below a limit, else this refusal.
+#[tactic(auto, using(crate::specs::ReadingLaws::number_or_checked))]
 pub fn number(t: &[u16], refusal: Refusal, limit: usize) -> Result<usize, Refusal>
     ensures { result ≡ checked (number_of (number refusal) limit t.now) }
 {
-    if t.len() == 0 {
-        return Err(Refusal::Form);
-    }
-    if wide(t[0]) < limit {
-        return Ok(t.len() - 1);
-    }
-    Err(refusal)
+    number_or(t, Refusal::Form, refusal, limit)
 }
 
 // A number from lo to hi, else refused 4.
+#[tactic(auto, using(crate::proofs::Cases::cases))]
 pub fn count(t: &[u16], lo: usize, hi: usize) -> Result<usize, Refusal>
     ensures { result ≡ checked (count_of lo hi t.now) }
 {
-    if t.len() == 0 {
-        return Err(Refusal::Form);
+    match t {
+        [w, rest @ ..] if lo <= *w as usize && *w as usize <= hi => Ok(rest.len()),
+        _ => Err(Refusal::Form),
     }
-    let w = wide(t[0]);
-    if lo <= w {
-        if w <= hi {
-            return Ok(t.len() - 1);
-        }
-    }
-    Err(Refusal::Form)
 }

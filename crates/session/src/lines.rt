@@ -1,4 +1,4 @@
-// Text on its way to standard output. It is gathered in a page, and a page is written at once: when it is full, and when a choice or
+// Text on its way to standard output (document 01, "Examples"). It is gathered in a page, and a page is written at once: when it is full, and when a choice or
 // a state is whole, so that whoever sends the numbers one by one sees each answer.
 ghost use Rattle.std.specs.Prelude.{◌≡◌, ◌≤◌};
 

@@ -39,6 +39,7 @@ impl Position {
         }
     }
 
+    // Stays, and `memory` with it: each names two fields of its own, and says so in a clause of its own.
     fn term(&self) -> &[u8]
         ensures { result.now ≡ term_of self.now }
     {

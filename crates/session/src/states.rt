@@ -2,11 +2,11 @@
 // "Examples").
 use super::lines::{Page, Refused, print_refusal};
 use super::positions::Position;
-use engine::stepping::Step;
+use engine::stepping::Visible;
 use std::fmt::{self, Display, Formatter};
 use std::io::{self, Write};
 
-// The cells of a memory, each after a space.
+// The cells of a memory, each after a space; the word 65,535 is an undefined cell.
 #[derive(Clone, Copy, Drop)]
 struct Cells<'a>(&'a [u8]);
 
@@ -25,26 +25,29 @@ impl Display for Cells<'_> {
 
 // The action of a move: after a space, `i` for the internal action; else the label and the arguments, each after a space.
 #[derive(Clone, Copy)]
-struct Action(Step);
+struct Action(Option<Visible>);
 
 impl Display for Action {
     fn fmt<W: fmt::Write>(&self, f: &mut Formatter<W>) -> fmt::Result {
-        let Step {
-            visible,
-            label,
-            arguments,
-            first,
-            second,
-            ..
-        } = self.0;
-        if visible == 0 {
+        let Some(
+            Visible {
+                label,
+                arguments,
+                first,
+                second,
+            },
+        ) = self.0
+        else {
             return write!(f, " i");
+        };
+        write!(f, " {label}")?;
+        if 0 < arguments {
+            write!(f, " {first}")?;
         }
-        match arguments {
-            0 => write!(f, " {label}"),
-            1 => write!(f, " {label} {first}"),
-            _ => write!(f, " {label} {first} {second}"),
+        if 1 < arguments {
+            write!(f, " {second}")?;
         }
+        Ok(())
     }
 }
 
@@ -69,7 +72,7 @@ pub fn print_state(
     for k in 0..moves {
         write!(page, "\n{k}")?;
         match here.step(rules, k as usize, other) {
-            Ok(step) => write!(page, "{}", Action(step))?,
+            Ok(step) => write!(page, "{}", Action(step.action))?,
             Err(refusal) => write!(page, " {}", Refused(refusal))?,
         }
     }

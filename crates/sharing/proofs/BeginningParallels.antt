@@ -1,4 +1,4 @@
--- A case for each way that the beginning of a parallel's successor returns (document 01, "Moves, in order"). The premises have the form of what the code tells there.
+-- A case for each way that the beginning of a parallel's successor returns (document 01, "Moves, in order"). The premises have the form of what the code says there.
 use mathlib.Core.Path.{◌≡◌, refl, sym, ap, ◌∙◌, subst}
 use mathlib.Core.Bool.{Bool, true, false, cond}
 use mathlib.Core.List.{List, [], ◌∷◌, ◌++◌}
@@ -18,7 +18,7 @@ use Rattle.actions.specs.Codes.{action_code}
 use Rattle.listing.specs.Positions.{TwoAt, second_at}
 use Rattle.paths.specs.Paths.{Followed, followed, within, follow, marked}
 use Rattle.sharing.specs.Shared.{Beside, no_mask, term_of, shared_words, Unmasked}
-use Rattle.sharing.specs.SharedLaws.{size_some, shared_short}
+use Rattle.sharing.specs.SharedLaws.{size_some, shared_short, shared_some}
 use Rattle.sharing.specs.Beginning.{began, BeganRight, Beginning, EndPut, TwoRight, LeftBegun, BothBegun}
 use Rattle.successors.specs.FollowLaws.{rest_of_path, rest_short, parallel_end_follows, parallel_left_follows, parallel_left_marked, parallel_right_follows, parallel_right_marked, parallel_both_follows, parallel_both_marked, size_marked}
 use Rattle.sharing.proofs.BeginningPuts.{put_one, one_put, put_behind}
@@ -27,13 +27,13 @@ use Rattle.successors.specs.TermLaws.{parallel_two, parallel_long, right_there, 
 use Rattle.sharing.proofs.BeginningCodes.{began_at, began_left, began_action, began_both}
 use Rattle.sharing.proofs.BeginningGiven.{Skipped, lent, Given, begun, by_parallel, ended}
 
--- The word of what stands at the front of v.
+-- The word of what is at the front of v.
 abbrev pub word_of : List ℕ → ℕ
 word_of v = cond (eqb (get_or v 0 0) 30) 30 (32 + length v)
 
 -- ── the left operand moves ──
 
--- What a successor's words take is what its term takes at most, so its answer tells where they end.
+-- What a successor's words take is what its term takes at most, so its answer says where they end.
 module _ {u : List ℕ} {P : Scope} (E : Term) (p : List ℕ) {at : ℕ} {x y : List ℕ} {r : ℕ} (few : length x ≤ 65535) (short : length p ≤ 65535) (room : at + size 1 (follow E p).successor ≤ length x)
     (b : BeganRight u P (follow E p) at x y r) where
   words_fit : length (shared_words b.shared) ≤ size 1 (follow E p).successor
@@ -59,6 +59,20 @@ module _ (e p x y : List ℕ) (at r : ℕ) (m : Beginning e p at x y r) (few : l
   left_given : {u rest : List ℕ} {P : Scope} {E F : Term} → length u ≤ 65503 → length e ≤ length u → e ≡ last_of (length e) u → TwoAt e P E F rest → Unmasked E → marked E p ≡ true → length p ≤ 65535
       → Given u e P E (words 1 F ++ rest) p
   left_given l a b t c d s = record { few = l; under = record { fewer = a; end = b }; there = t.first; bare = c; led = d; short = s }
+
+  -- Where something is written the answer is not 0.
+  lost : {u rest : List ℕ} {P : Scope} (E : Term) → Given u e P E rest p → at + size 1 (follow E p).successor ≤ length x → r ≡ 0 → ⊥
+  lost {u} {rest} {P} E g k z =
+      let b = begun m u P rest E g k in
+      let i : r % 65536 ≡ at + length (shared_words b.shared) = (where_ends E p few g.short k b).0 in
+      omega (arith, i, z, shared_some b.shared)
+
+  pub left_lost : r ≡ 0 → LeftBegun e p at x y 0
+  left_lost z = record {
+    same_length = m.same_length;
+    bounded = omega arith;
+    right = λ u P E F rest l a b t c f d s k. absurd (lost E (left_given l a b t c d s) (omega (arith, k)) z);
+  }
 
   pub left_full : length y ≤ r % 65536 → LeftBegun e p at x y 0
   left_full h = record {
@@ -95,16 +109,29 @@ module _ (e p x y : List ℕ) (at r : ℕ) (m : Beginning e p at x y r) (few : l
         };
   }
 
+-- The same where the place, the words left of the path and the action's number are known one by one.
+module _ (e p x y : List ℕ) (at i left a : ℕ) (m : Beginning e p at x y (began i left a)) (few : length x ≤ 65535) (place : i ≤ 65535) where
+  place_is : began i left a % 65536 ≡ i
+  place_is = began_at (began i left a) i left a refl place
+
+  pub left_without_room : length y ≤ i → LeftBegun e p at x y 0
+  left_without_room h = left_full e p x y at (began i left a) m few (omega (arith, h, place_is))
+
+  pub left_written : (n : ℕ) (v : List ℕ) (w : ℕ) → i < length y → Skipped e n → v ≡ last_of n e → w ≡ word_of v → LeftBegun e p at x (set y i w) (began (i + 1) left a)
+  unfolding began
+  left_written n v w h skip is fw =
+      let next : began i left a + 1 ≡ began (i + 1) left a = omega arith in
+      subst (λ j. LeftBegun e p at x (set y j w) (began (i + 1) left a)) place_is
+      (subst (λ r. LeftBegun e p at x (set y (began i left a % 65536) w) r) next (left_begun e p x y at (began i left a) m few n v w (omega (arith, h, place_is)) skip is fw))
+
 -- ── both operands move ──
 
-pub both_full : (e p x y : List ℕ) (n at r : ℕ) → Beginning e p at x y r → length x ≤ 65535 → length y < r % 65536 → BothBegun e n p at x y 0
-both_full e p x y n at r m few h = record {
+pub both_lost : (e p x y : List ℕ) (n at : ℕ) → Beginning e p at x y 0 → length x ≤ 65535 → BothBegun e n p at x y 0
+both_lost e p x y n at m few = record {
   same_length = m.same_length;
   bounded = omega arith;
   right = λ u P E F rest l a b t is c f d j s k.
-      let z : at + size 1 (follow E p).successor ≤ length x = omega (arith, k) in
-      let g = begun m u P (words 1 F ++ rest) E (record { few = l; under = record { fewer = a; end = b }; there = t.first; bare = c; led = d; short = s }) z in
-      absurd (omega (arith, h, k, m.same_length, (where_ends E p few s z g).1));
+      absurd (lost e p x y at 0 m few E (record { few = l; under = record { fewer = a; end = b }; there = t.first; bare = c; led = d; short = s }) (omega (arith, k)) refl);
 }
 
 module _ (e p q x y z : List ℕ) (n at r o : ℕ) (m : Beginning e p at x y r) (few : length x ≤ 65535) (is : q ≡ last_of (r / 65536 % 65536) p) (given : Beginning (lent n e) q (r % 65536) y z o) where
@@ -155,7 +182,39 @@ module _ (e p q x y z : List ℕ) (n at r o : ℕ) (m : Beginning e p at x y r) 
         };
   }
 
--- ── behind the code of a parallel ──
+  pub second_lost : o ≡ 0 → BothBegun e n p at x z 0
+  unfolding began
+  second_lost none = record {
+    same_length = there.same_length ∙ m.same_length;
+    bounded = omega arith;
+    right = λ u P E F rest l a b t isn c f d j s k.
+        let T = both_begun.right u P E F rest l a b t isn c f d j s k in
+        let X = shared_words T.X in
+        let Y = shared_words T.Y in
+        let fx : length X ≤ size 1 (follow E p).successor = subst (λ G. length X ≤ size 1 G) T.X_is (shared_short T.X) in
+        let fy : length Y ≤ size 1 (follow F (follow E p).rest).successor = subst (λ G. length Y ≤ size 1 G) T.Y_is (shared_short T.Y) in
+        absurd (omega (arith, T.answered, none, length-append X Y, shared_some T.X, fx, fy, k, few));
+  }
+
+-- The same where the place, the words left of the path and the action's number are known one by one.
+module _ (e p q x y z : List ℕ) (n at i left a o : ℕ) (m : Beginning e p at x y (began i left a)) (few : length x ≤ 65535) (place : i ≤ 65535) (short : left ≤ 65535) (is : q ≡ last_of left p) (given : Beginning (lent n e) q i y z o) where
+  rest_is : q ≡ last_of (began i left a / 65536 % 65536) p
+  rest_is = is ∙ ap (λ j. last_of j p) (sym (began_left (began i left a) i left a refl place short))
+
+  from_there : Beginning (lent n e) q (began i left a % 65536) y z o
+  from_there = subst (λ j. Beginning (lent n e) q j y z o) (sym (began_at (began i left a) i left a refl place)) given
+
+  pub both_lost_second : o ≡ 0 → BothBegun e n p at x z 0
+  both_lost_second = second_lost e p q x y z n at (began i left a) o m few rest_is from_there
+
+  pub both_written : (i' left' b : ℕ) → o ≡ began i' left' b → i' ≤ 65535 → left' ≤ 65535 → BothBegun e n p at x z (began i' left' a)
+  unfolding began
+  both_written i' left' b f h k =
+      let r : o % 4294967296 ≡ i' + 65536 * left' = began_both o i' left' b f h k in
+      let l : began i left a / 4294967296 ≡ a = began_action (began i left a) i left a refl place short in
+      subst (BothBegun e n p at x z) (omega (arith, r, l)) (both_begun e p q x y z n at (began i left a) o m few rest_is from_there)
+
+-- ── after the code of a parallel ──
 
 beside : {u : List ℕ} {P : Scope} {at : ℕ} {x y : List ℕ} {r : ℕ} (Δ : Mask) (E F : Term) (ρ : Action) (rest : List ℕ) → Δ ≡ no_mask → at < length x → TwoRight u P E F ρ rest (at + 1) (set x at 25) y r
     → BeganRight u P (followed ρ (Parallel Δ E F) rest) at x y r
@@ -201,7 +260,7 @@ module _ (s p x : List ℕ) (at : ℕ) (code : get_or s 0 0 ≡ 25) where
   pub parallel_full : (get_or p 0 0 ≡ 0 → ⊥) → length x < at + 2 → Beginning s p at x x 0
   parallel_full d h = by_parallel refl (omega arith) code (λ u P rest Δ E F g k. absurd (omega (arith, h, k, moving_size p Δ E F d)))
 
-  -- Its operands stand behind five words.
+  -- Its operands come after five words.
   module _ (e : List ℕ) (cut : e ≡ drop 5 s) where
     sides : {u rest : List ℕ} {P : Scope} {Δ : Mask} {E F : Term} → Given u s P (Parallel Δ E F) rest p → TwoAt e P E F rest
     sides {u} {rest} {P} {Δ} {E} {F} g = subst (λ z. TwoAt z P E F rest) (sym cut) (parallel_two s P rest Δ E F g.there)

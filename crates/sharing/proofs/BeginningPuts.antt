@@ -1,7 +1,7 @@
--- Words written into an array from a place on: one word, and words behind others (document 01, "Moves, in order").
+-- Words written into an array from a place on: one word, and words after others (document 01, "Moves, in order").
 use mathlib.Core.Path.{◌≡◌, refl, sym, ap, ◌∙◌}
 use mathlib.Core.List.{List, [], ◌∷◌, ◌++◌, append_assoc}
-use Prim.Native.Nat.{ℕ, suc, ◌+◌, ◌*◌, ◌≤◌, ◌<◌}
+use Prim.Native.Nat.{ℕ, suc, ◌+◌, ◌≤◌, ◌<◌}
 use native.Mathlib.Omega.{arith}
 use lib.ListN.{length, take, drop, set, length-append, length-drop, length-set}
 use lib.Seq.{length-take-le, take_at, drop_at, drop-drop, set_split}
@@ -22,7 +22,7 @@ put_length at w d h = omega (arith, length-append (take at d) (w ++ drop (at + l
 head_length : (x v : List ℕ) (i : ℕ) → i + length v ≤ length x → length (take i x ++ v) ≡ i + length v
 head_length x v i h = omega (arith, length-append (take i x) v, length-take-le i x (omega arith))
 
--- Words behind those that were written are written with them.
+-- Words after those that were written are written with them.
 put_then : (x v w : List ℕ) (i : ℕ) → i + length v ≤ length x → put_at (i + length v) w (put_at i v x) ≡ put_at i (v ++ w) x
 put_then x v w i h =
     let k = i + length v in
@@ -37,7 +37,7 @@ put_then x v w i h =
     ∙ (append_assoc (take i x) v (w ++ drop (k + length w) (put_at i v x))
     ∙ ap (λ z. take i x ++ z) (sym (append_assoc v w (drop (k + length w) (put_at i v x))) ∙ ap (λ z. (v ++ w) ++ z) (b ∙ ap (λ j. drop j x) n)))
 
--- The same by what stands there and where.
+-- The same by what is there and where.
 pub put_behind : (x v w y z : List ℕ) (i k : ℕ) → i + length v ≤ length x → k ≡ i + length v → y ≡ put_at i v x → z ≡ put_at k w y → z ≡ put_at i (v ++ w) x
 put_behind x v w y z i k h e f g = g ∙ (ap (λ j. put_at j w y) e ∙ (ap (put_at (i + length v) w) f ∙ put_then x v w i h))
 
@@ -50,6 +50,6 @@ put_two x i c d h =
 
 -- ── done ──
 
-pub end_put : (x : List ℕ) (i left a : ℕ) → i < length x → length x ≤ 65535 → left ≤ 65535 → a < 1048576 → EndPut x (set x i 30) i left a (i + 1 + 65536 * (left + 65536 * a))
+pub end_put : (x : List ℕ) (i left a : ℕ) → i < length x → length x ≤ 65535 → left ≤ 65535 → a < 1048576 → EndPut x (set x i 30) i left a (began (i + 1) left a)
 unfolding began
 end_put x i left a h l m n = record { same_length = length-set x i 30; bounded = omega arith; right = λ k. (put_one x i 30 h, refl) }

@@ -16,7 +16,9 @@ use Rattle.actions.specs.Codes.{action_code}
 use Rattle.paths.specs.Paths.{Followed, follow, followed, marked}
 use Rattle.sharing.specs.Shared.{Shared, Ended, term_of, part_word, shared_words, PartAt}
 use Rattle.sharing.specs.Beginning.{began, put_at, BeganRight, Beginning}
+use Rattle.sharing.specs.SharedLaws.{shared_some}
 use Rattle.sharing.specs.Splicing.{Spliced}
+use Rattle.sharing.proofs.BeginningCodes.{began_at, began_action}
 use Rattle.sharing.specs.Changing.{RoomFor, ChangedRight, Joined, PartChanged}
 
 -- The words at the front of an array where others were put there.
@@ -86,8 +88,8 @@ began_is : (at left a : ℕ) → began at left a ≡ at + 65536 * (left + 65536 
 unfolding began
 began_is at left a = refl
 
-module _ {u d : List ℕ} {n i e w : ℕ} {p mid mid1 d' mid2 s : List ℕ} {r k : ℕ} (within : n ≤ length d) (ie : i ≤ e) (en : e ≤ n) (short_u : length u ≤ 65503) (short_d : length d ≤ 65535)
-    (short_p : length p ≤ 65535) (short_mid : length mid ≤ 65535) (is : s ≡ last_of (w - 32) u) (b : Beginning s p 0 mid mid1 r) (c : Spliced d mid1 n i e (r % 65536) d' mid2 k) where
+module _ (d : List ℕ) {u : List ℕ} {n i e w : ℕ} {p mid mid1 s : List ℕ} {r : ℕ} (within : n ≤ length d) (ie : i ≤ e) (en : e ≤ n) (short_u : length u ≤ 65503) (short_d : length d ≤ 65535)
+    (short_p : length p ≤ 65535) (short_mid : length mid ≤ 65535) (is : s ≡ last_of (w - 32) u) (b : Beginning s p 0 mid mid1 r) where
   module _ (P : Scope) (l : ℕ) (E : Term) (ρ : Action) (T : Term) (g : w ≡ part_word l) (a : PartAt u P l E) (f : follow E p ≡ followed ρ T []) (m : marked E p ≡ true)
       (room : RoomFor T i (n - e) (length d) (length mid)) where
     there : s ≡ last_of l u
@@ -121,38 +123,62 @@ module _ {u d : List ℕ} {n i e w : ℕ} {p mid mid1 d' mid2 s : List ℕ} {r k
     few : length (shared_words X) ≤ 65535
     few = omega (arith, room.moved X is_X)
 
-    written_count : r % 65536 ≡ length (shared_words X)
-    written_count = omega (arith, told, few)
+    something : r ≡ 0 → ⊥
+    something z = omega (arith, told, z, shared_some X)
 
-    action_number : r / 4294967296 ≡ action_code ρ
-    action_number = omega (arith, told, few)
+    module _ {d' mid2 : List ℕ} {k : ℕ} (c : Spliced d mid1 n i e (r % 65536) d' mid2 k) where
+      written_count : r % 65536 ≡ length (shared_words X)
+      written_count = omega (arith, told, few)
 
-    moved : length (shared_words X) + (n - e) ≤ length mid1
-    moved = omega (arith, room.moved X is_X, b.same_length)
+      action_number : r / 4294967296 ≡ action_code ρ
+      action_number = omega (arith, told, few)
 
-    put : take (length (shared_words X)) mid1 ≡ shared_words X
-    put = put_front (shared_words X) mid mid1 begun.written
+      moved : length (shared_words X) + (n - e) ≤ length mid1
+      moved = omega (arith, room.moved X is_X, b.same_length)
 
-    pub answer_low : k ≤ length d
-    answer_low = splice_low within ie en c X written_count put (room.whole X is_X) moved
+      put : take (length (shared_words X)) mid1 ≡ shared_words X
+      put = put_front (shared_words X) mid mid1 begun.written
 
-    pub part_right : ChangedRight u P ρ T (take i d) (slice e n d) d' (k + 65536 * (r / 4294967296))
-    part_right = record {
-      shared = X;
-      stands = begun.stands;
-      is_successor = is_X;
-      held = splice_held within ie en c X written_count put (room.whole X is_X) moved;
-      answered = omega (arith, splice_length within ie en c X written_count put (room.whole X is_X) moved, action_number);
-      low = omega (arith, answer_low, b.bounded);
+      pub answer_low : k ≤ length d
+      answer_low = splice_low within ie en c X written_count put (room.whole X is_X) moved
+
+      pub part_right : ChangedRight u P ρ T (take i d) (slice e n d) d' (k + 65536 * (r / 4294967296))
+      part_right = record {
+        shared = X;
+        stands = begun.stands;
+        is_successor = is_X;
+        held = splice_held within ie en c X written_count put (room.whole X is_X) moved;
+        answered = omega (arith, splice_length within ie en c X written_count put (room.whole X is_X) moved, action_number);
+        low = omega (arith, answer_low, b.bounded);
+      }
+
+  module _ {d' mid2 : List ℕ} {k : ℕ} (c : Spliced d mid1 n i e (r % 65536) d' mid2 k) where
+    part_made : PartChanged u d n i e w p mid d' mid2 (k + 65536 * (r / 4294967296))
+    part_made = record { same_length = c.same_length; mid_same_length = c.mid_same_length ∙ b.same_length; right = λ P l E ρ T g a f m room. part_right P l E ρ T g a f m room c }
+
+    -- There are never more words than 65,535.
+    part_long : {z : ℕ} → 65535 < k → PartChanged u d n i e w p mid d' mid2 z
+    part_long h = record {
+      same_length = c.same_length;
+      mid_same_length = c.mid_same_length ∙ b.same_length;
+      right = λ P l E ρ T g a f m room. absurd (omega (arith, answer_low P l E ρ T g a f m room c));
     }
 
-  pub part_made : PartChanged u d n i e w p mid d' mid2 (k + 65536 * (r / 4294967296))
-  part_made = record { same_length = c.same_length; mid_same_length = c.mid_same_length ∙ b.same_length; right = part_right }
+  -- Nothing was begun.
+  pub part_lost : {z : ℕ} → r ≡ 0 → PartChanged u d n i e w p mid d mid1 z
+  part_lost z = record { same_length = refl; mid_same_length = b.same_length; right = λ P l E ρ T g a f m room. absurd (something P l E ρ T g a f m room z) }
 
-  -- Never so many words.
-  pub part_long : {z : ℕ} → 65535 < k → PartChanged u d n i e w p mid d' mid2 z
-  part_long h = record {
-    same_length = c.same_length;
-    mid_same_length = c.mid_same_length ∙ b.same_length;
-    right = λ P l E ρ T g a f m room. absurd (omega (arith, answer_low P l E ρ T g a f m room));
-  }
+-- The same where the number of words, the words left of the path and the action's number are known one by one.
+module _ (at left a : ℕ) {u d : List ℕ} {n i e w : ℕ} {p mid mid1 s d' mid2 : List ℕ} {k : ℕ} (within : n ≤ length d) (ie : i ≤ e) (en : e ≤ n) (short_u : length u ≤ 65503) (short_d : length d ≤ 65535)
+    (short_p : length p ≤ 65535) (short_mid : length mid ≤ 65535) (is : s ≡ last_of (w - 32) u) (b : Beginning s p 0 mid mid1 (began at left a)) (place : at ≤ 65535) (few : left ≤ 65535)
+    (c : Spliced d mid1 n i e at d' mid2 k) where
+  pub part_written : PartChanged u d n i e w p mid d' mid2 (k + 65536 * a)
+  part_written =
+      let cut : Spliced d mid1 n i e (began at left a % 65536) d' mid2 k = subst (λ j. Spliced d mid1 n i e j d' mid2 k) (sym (began_at (began at left a) at left a refl place)) c in
+      let q : began at left a / 4294967296 ≡ a = began_action (began at left a) at left a refl place few in
+      subst (λ j. PartChanged u d n i e w p mid d' mid2 (k + 65536 * j)) q (part_made d within ie en short_u short_d short_p short_mid is b cut)
+
+  pub part_beyond : {z : ℕ} → 65535 < k → PartChanged u d n i e w p mid d' mid2 z
+  part_beyond h =
+      let cut : Spliced d mid1 n i e (began at left a % 65536) d' mid2 k = subst (λ j. Spliced d mid1 n i e j d' mid2 k) (sym (began_at (began at left a) at left a refl place)) c in
+      part_long d within ie en short_u short_d short_p short_mid is b cut h

@@ -1,5 +1,5 @@
 -- A parallel of shared terms: its one move where both sides are done, else the left side's moves and then the right side's (document 01, "Moves, in order").
-use mathlib.Core.Path.{◌≡◌, refl, sym, ap, ◌∙◌}
+use mathlib.Core.Path.{◌≡◌, refl, sym, ap, ◌∙◌, subst}
 use mathlib.Core.Bool.{Bool, true, false, ◌&&◌}
 use mathlib.Core.List.{List, ◌∷◌, ◌++◌, append_assoc}
 use Prim.Native.Nat.{ℕ, ◌+◌, ◌-◌, ◌/◌, ◌%◌, ◌≤◌, ◌<◌}
@@ -155,3 +155,7 @@ module _ (u t M : List ℕ) (k : ℕ) (entry mid : List ℕ) (n l : ℕ) (apart 
               let w : (l - passed) / 65536 - move_count M (term_of T) ≡ k - move_count M (term_of (Beside S T)) = omega (arith, co, both) in
               h.none_found P T rest e st.1 p q (omega (arith, co, c.0, both)) ∙ ap (λ j. passed + answer (length rest) j) w,
         )))
+
+-- Of a store that is the same.
+pub at_store : {u s M N : List ℕ} {k : ℕ} {entry exit : List ℕ} {n r : ℕ} → N ≡ M → Found u s N k entry exit n r → Found u s M k entry exit n r
+at_store {u} {s} {M} {N} {k} {entry} {exit} {n} {r} e h = subst (λ m. Found u s m k entry exit n r) e h

@@ -19,9 +19,10 @@ use Rattle.sharing.specs.Shared.{Shared, term_of, shared_words, Stands}
 use Rattle.sharing.specs.Finding.{Place, FoundRight, Found}
 use Rattle.sharing.specs.Changing.{Changes, RoomFor, ChangedRight, Changed}
 use Rattle.sharing.specs.Stepping.{StepTaken, Stepped}
-use Rattle.sharing.proofs.SteppingPlaces.{shared_some, moves_here, place_room, place_taken}
+use Rattle.sharing.specs.SharedLaws.{shared_some}
+use Rattle.sharing.proofs.SteppingPlaces.{moves_here, place_room, place_taken}
 
--- No term that stands there has a move k.
+-- No term that is there has a move k.
 abbrev Never : List ℕ → List ℕ → ℕ → List ℕ → ℕ → ℕ → ℕ → Type 0
 Never u d n M k paths numbers = (P : Scope) (S : Shared) → n ≤ length d → take n d ≡ shared_words S → Stands u P S → length u ≤ paths → length u ≤ numbers
     → (x : Move) → get_elem? (moves (holding M) (term_of S)) k ≡ some x → ⊥

@@ -15,7 +15,7 @@ use Rattle.listing.specs.Listing.{holding}
 use Rattle.paths.specs.Paths.{path, follow, followed, marked}
 use Rattle.paths.proofs.PathLaws.{follow_path}
 use Rattle.derivation.specs.FitLaws.{small_actions}
-use Rattle.sharing.specs.Shared.{Shared, Ended, Part, Then, Beside, term_of, shared_words, PartAt}
+use Rattle.sharing.specs.Shared.{Shared, Part, term_of, shared_words, PartAt}
 use Rattle.sharing.specs.SharedLaws.{shared_short}
 use Rattle.sharing.specs.Finding.{Moving, part, resumed, joined, Place}
 use Rattle.sharing.specs.Changing.{Changes, RoomFor, ChangedRight}
@@ -27,16 +27,9 @@ entry_within [] k h = absurd (omega arith)
 entry_within (y ∷ l) zero h = (y, refl)
 entry_within (y ∷ l) (suc k) h = entry_within l k (omega arith)
 
-pub shared_some : (S : Shared) → 1 ≤ length (shared_words S)
-unfolding shared_words
-shared_some Ended = omega arith
-shared_some (Part l E) = omega arith
-shared_some (Then S l F) = omega arith
-shared_some (Beside S T) = omega arith
-
 -- ── the move that is made at the place ──
 
--- Move j of what stands there, and that it changes so.
+-- Move j of what is there, and that it changes so.
 pub record MovesHere (u : List ℕ) (P : Scope) (M p : List ℕ) (here : Shared) (j : ℕ) : Type 0 where
   pub made : Move
   pub entry : get_elem? (moves (holding M) (term_of here)) j ≡ some made
@@ -72,7 +65,7 @@ module _ {u : List ℕ} {P : Scope} {M p : List ℕ} {S : Shared} {k : ℕ} (a :
   abbrev made_here : MovesHere u P M p a.here a.j
   made_here = moves_here a.moving
 
-  -- The move of the whole, where X stands for the successor of what is there.
+  -- The move of the whole, where X is the successor of what is there.
   whole_move : (X : Shared) → term_of X ≡ made_here.made.successor → x ≡ move made_here.made.action (term_of (a.around X))
   whole_move X h = some-injective x _ (sym e ∙ a.move_here X made_here.made made_here.entry (sym h))
 

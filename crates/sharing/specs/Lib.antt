@@ -1,4 +1,4 @@
--- Terms that share parts with the start's unfolding: what stands, what finding, building, splicing and spelling out answer.
+-- Terms that share parts with the start's unfolding: what is held, what finding, building, splicing and spelling out answer.
 -- Document 01, "Moves, in order"; "Operations": Run.
 pub mod Shared
 pub mod SharedLaws
@@ -6,6 +6,7 @@ pub mod RoomLaws
 pub mod Seeking
 pub mod Finding
 pub mod Beginning
+pub mod Writing
 pub mod Splicing
 pub mod Changing
 pub mod Stepping

@@ -23,3 +23,10 @@ shared_short Ended = omega arith
 shared_short (Part l E) = size_some E
 shared_short (Then S l F) = omega (arith, shared_short S, size_some F)
 shared_short (Beside S T) = omega (arith, shared_short S, shared_short T, length-append (shared_words S) (shared_words T))
+
+pub shared_some : (S : Shared) → 1 ≤ length (shared_words S)
+unfolding shared_words
+shared_some Ended = omega arith
+shared_some (Part l E) = omega arith
+shared_some (Then S l F) = omega arith
+shared_some (Beside S T) = omega arith

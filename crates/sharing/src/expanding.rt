@@ -1,4 +1,5 @@
 // A shared term spelled out whole (document 01, "Operations": Run writes the last term).
+// Stays: that words are at most 65,535 is a clause of each function here, for the reason in successors (docs/DESIGN-PASS.md, "A struct for words").
 ghost use Rattle.std.specs.Prelude.{◌≡◌, [], ◌∷◌, ◌+◌, ◌≤◌, ◌<◌, length};
 ghost use Rattle.sharing.specs.Splicing.{Expanded, PartExpanded, DoneExpanded};
 
@@ -7,7 +8,7 @@ use code_numbers::{DONE, PARALLEL, SEQUENCE};
 use listing::skip;
 use scan::{behind, first, last};
 
-// The part with this word, from its place in the unfolding; so many words are left behind it.
+// The part with this word, from its place in the unfolding; `left` words are left after it.
 fn expand_part(u: &[u16], w: usize, left: usize, out: &mut [u16], at: usize) -> usize
     requires { (length u.now ≤ 65503) × (left ≤ 65535) × (length out.old ≤ 65535) }
     ensures { PartExpanded u.now w left at out.old out.new result }
@@ -24,8 +25,9 @@ fn expand_part(u: &[u16], w: usize, left: usize, out: &mut [u16], at: usize) -> 
     left + 65536 * (at + n)
 }
 
-// How many words of s are left behind the term, and 65,536 times the word behind those written.
+// How many words of s are left after the term, and 65,536 times the place after the words written.
 // Stays: measured, as an Option of both numbers in a struct each level takes a frame of 160 bytes for 64 (docs/DESIGN-PASS.md, "Answers in one number").
+// Stays, with out and at side by side: it is public, and what is public keeps its promise.
 #[cycle(expanding)]
 pub fn expand(u: &[u16], s: &[u16], out: &mut [u16], at: usize) -> usize
     requires { (length u.now ≤ 65503) × (length s.now ≤ 65535) × (length out.old ≤ 65535) }
@@ -52,7 +54,7 @@ fn expand_done(left: usize, out: &mut [u16], at: usize) -> usize
     left + 65536 * (at + 1)
 }
 
-// What is followed stands behind the place of what follows.
+// What is followed comes after the place of what follows.
 #[cycle(expanding)]
 fn expand_then(u: &[u16], t: &[u16], out: &mut [u16], at: usize) -> usize
     requires { (length u.now ≤ 65503) × (length t.now < 65535) × (length out.old ≤ 65535) }

@@ -1,6 +1,7 @@
 // The term of a run held in few words over the start's unfolding, and moved (document 01, "Moves, in order"; "Memory and the history machine"). Parts that
-// have not begun are told by their places in the unfolding, so that a move neither passes over them nor copies them: that is what a run over many
+// have not begun are held by their places in the unfolding, so that a move neither passes over them nor copies them: that is what a run over many
 // numbers costs. It serves terms without masks; whether the unfolding is one is asked once.
+// Stays: that words are at most 65,535 is a clause of each function here, for the reason in successors (docs/DESIGN-PASS.md, "A struct for words").
 #![tactic(auto)]
 
 ghost use Rattle.std.specs.Prelude.{◌≡◌, ◌≤◌, ◌<◌, length};
@@ -13,16 +14,20 @@ pub mod finding;
 pub mod masks;
 pub mod seeking;
 pub mod splicing;
+pub mod writer;
 
-use beginning::begin;
 use code_numbers::{DONE, PARALLEL, SEQUENCE};
+use derivation::{Arrays, PASSED};
 use finding::find;
 use scan::{front, last};
-use seeking::PASSED;
 use splicing::splice;
 use std::ops::Range;
+use writer::Writer;
 
-// The place that begins in word i of the first n gives way to the successor: of a part, of a part behind done, or done where two that are done
+// Stays: the answers are one number, measured together with seek (seeking.rt); 0 of `splice`, where there was no room, is a part of them. The term is the first
+// n words of d: it grows and shrinks within one array of a fixed size, since there is no heap.
+
+// The place that begins in word i of the first n gives way to the successor: of a part, of a part after done, or done where two that are done
 // stood in parallel.
 fn change(u: &[u16], d: &mut [u16], n: usize, i: usize, path: &[u16], mid: &mut [u16]) -> usize
     requires { (n ≤ length d.old) × (i < n) × (length u.now ≤ 65503) × (length d.old ≤ 65535) × (length path.now ≤ 65535) × (length mid.old ≤ 65535) }
@@ -70,15 +75,25 @@ fn change_part(
     if w < 32 {
         return PASSED;
     }
-    let r = begin(last(u, w as usize - 32), path, mid, 0);
-    let k = splice(d, n, place.start, place.end, mid, r % 65536);
+    let mut writer = Writer {
+        out: mid,
+        at: 0,
+        action: 0,
+    };
+    let Some(_) = writer.begin(last(u, w as usize - 32), path) else {
+        return PASSED;
+    };
+    let at = writer.at;
+    let action = writer.action;
+    let k = splice(d, n, place.start, place.end, mid, at);
     // never: d has no more words
     if 65535 < k {
         return PASSED;
     }
-    k + 65536 * (r / 4294967296)
+    k + 65536 * action
 }
 
+// Stays: the arrays are lent one by one, which are parts of a run's Scratch: a struct would serve this call only.
 // Move k of the shared term in the first n words of d: how many words it has then, and 65,536 times the action's number; or PASSED where there is no such move.
 pub fn step(
     u: &[u16],
@@ -96,7 +111,12 @@ pub fn step(
     if d.len() < n {
         return PASSED;
     }
-    let r = find(u, front(d, n), m, k, path, acts);
+    let mut arrays = Arrays {
+        store: m,
+        path,
+        acts,
+    };
+    let r = find(u, front(d, n), k, &mut arrays);
     if PASSED <= r {
         return PASSED;
     }

@@ -1,4 +1,5 @@
 // Whether a running term is without masks (document 01, "Moves, in order": labels in a parallel's mask move together).
+// Stays: that words are at most 65,535 is a clause of each function here, for the reason in successors (docs/DESIGN-PASS.md, "A struct for words").
 ghost use Rattle.std.specs.Prelude.{◌≡◌, true, false, ◌≤◌, length, take, IfSome};
 ghost use Rattle.eb3.specs.Sizes.{zero_mask};
 ghost use Rattle.sharing.specs.Masks.{Bare, Shareable};
@@ -9,7 +10,7 @@ use listing::behind_mask;
 use scan::{behind, first, front, last};
 use successors::conditions::behind_condition;
 
-// Operands that stand deeper to the left in sequences and parallels are not shared. Where such an operand moves for the first time its end is looked for at
+// Operands that are deeper to the left in sequences and parallels are not shared. Where such an operand moves for the first time its end is looked for at
 // every level, which must not cost the square of a depth that nothing else bounds.
 const DEEPEST: usize = 16;
 
@@ -21,8 +22,8 @@ pub fn shareable(s: &[u16]) -> bool
     bare(s, DEEPEST).is_some()
 }
 
-// The words left behind the term at the front, where no label stands in a mask of it and its operands stand no deeper to the left than so many levels. The last
-// operand is gone through by the loop, so that however many stand one behind the other, they cost no stack.
+// The words left after the term at the front, where no label is in a mask of it and its operands are no deeper to the left than `levels` levels. The last
+// operand is gone through by the loop, so that however many follow one another, they cost no stack.
 fn bare(mut s: &[u16], levels: usize) -> Option<usize>
     requires { length s.now ≤ 65535 }
     ensures { IfSome result (Bare s.now) }
@@ -50,7 +51,7 @@ fn bare(mut s: &[u16], levels: usize) -> Option<usize>
     }
 }
 
-// Whether a label stands in the mask in front.
+// Whether a label is in the mask at the front.
 fn has_label(d: &[u16]) -> bool
     ensures { result ≡ false → zero_mask (take 4 d.now) ≡ true }
 {

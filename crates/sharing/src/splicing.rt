@@ -1,9 +1,11 @@
 // Words put in the place of others within the first words of an array (document 01, "Moves, in order": the term of the next state).
+// Stays: that words are at most 65,535 is a clause of each function here, for the reason in successors (docs/DESIGN-PASS.md, "A struct for words").
 ghost use Rattle.std.specs.Prelude.{◌≡◌, ◌+◌, ◌≤◌, length};
 ghost use Rattle.sharing.specs.Beginning.{put_at};
 ghost use Rattle.sharing.specs.Splicing.{Spliced};
 
 // All words of one array into another, from a place on.
+// Stays: the place is beside the array, since the contract says of the whole array what it is then.
 // Stays word by word: copy_from_slice calls memmove, and the library promises C hosts to call memcpy and memset only (host/eb3.h, Linking).
 pub fn copy_words(src: &[u16], dst: &mut [u16], at: usize)
     requires { at + length src.now ≤ length dst.old }
@@ -14,8 +16,9 @@ pub fn copy_words(src: &[u16], dst: &mut [u16], at: usize)
     }
 }
 
-// Of the first n words of d those from i to e, by the first k words of mid; what stands behind them moves by way of mid, if it moves at all.
+// Of the first n words of d those from i to e, by the first k words of mid; what comes after them moves by way of mid, if it moves at all.
 // Stays by way of mid: copy_within calls memmove, as above.
+// Stays 0 where there was no room: `change` makes one number of it (lib.rt).
 pub fn splice(d: &mut [u16], n: usize, i: usize, e: usize, mid: &mut [u16], k: usize) -> usize
     requires { (length d.old ≤ 65535) × (length mid.old ≤ 65535) × (n ≤ 65535) × (e ≤ 65535) × (i ≤ 65535) × (k ≤ 65535) }
     ensures { Spliced d.old mid.old n i e k d.new mid.new result }

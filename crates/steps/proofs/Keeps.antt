@@ -1,48 +1,15 @@
--- Cells copied one by one behind themselves, and an action's arguments given as variables (document 01, "Memory and the history machine").
-use mathlib.Core.Path.{◌≡◌, refl, sym, ap, ◌∙◌}
-use mathlib.Core.List.{List, [], ◌∷◌}
+-- An action's arguments given as variables (document 01, "Memory and the history machine").
+use mathlib.Core.Path.{◌≡◌, ◌∙◌}
+use mathlib.Core.List.{List}
 use Prim.Native.Nat.{ℕ, zero, suc, ◌+◌, ◌%◌, ◌≤◌, ◌<◌}
 use native.Mathlib.Omega.{arith}
-use native.Mathlib.Decide.{ℕ_discrete}
 use lib.ListN.{length, get_or, set, length-set}
 use Rattle.eb3.specs.Generic.AllLists.{all_at}
 use Rattle.eb3.specs.Terms.{VisibleAction, visible}
-use Rattle.expressions.specs.Stores.{stored, now_place}
+use Rattle.expressions.specs.Stores.{stored}
 use Rattle.actions.specs.Codes.{action_code, Small}
 use Rattle.cells.specs.TurnLaws.{stored_there, stored_else}
-use Rattle.steps.specs.Keeping.{Kept, Given}
-
--- ── cells kept ──
-
--- The first i of c cells.
-pub record Keeping (M M' : List ℕ) (c i : ℕ) : Type 0 where
-  pub copied : (k : ℕ) → k < i → stored M' (now_place + c + k) ≡ stored M (now_place + k)
-  pub kept_below : (k : ℕ) → k < now_place + c → stored M' k ≡ stored M k
-
-read_there : (M : List ℕ) (i : ℕ) → i < length M → get_or M i 0 ≡ stored M i
-unfolding stored
-read_there [] i h = absurd (let z : ⊥ = omega arith in z)
-read_there (x ∷ M) zero h = refl
-read_there (x ∷ M) (suc i) h = read_there M i (omega arith)
-
-module _ (M : List ℕ) (c : ℕ) where
-  pub keeping_start : Keeping M M c 0
-  keeping_start = record { copied = λ k h. absurd (let z : ⊥ = omega arith in z); kept_below = λ k h. refl }
-
-  pub keeping_next : (M' : List ℕ) (i : ℕ) → i < c → now_place + c + i < length M' → Keeping M M' c i → Keeping M (set M' (now_place + c + i) (get_or M' (now_place + i) 0)) c (i + 1)
-  keeping_next M' i h l r = record {
-    copied = λ k q. go k q (ℕ_discrete k i);
-    kept_below = λ k q. stored_else M' (36 + c + i) k _ (λ e. let z : ⊥ = omega arith in z) ∙ r.kept_below k q;
-  }
-    where
-      go : (k : ℕ) → k < i + 1 → Dec (k ≡ i) → stored (set M' (36 + c + i) (get_or M' (36 + i) 0)) (36 + c + k) ≡ stored M (36 + k)
-      go k q (yes e) =
-          ap (λ n. stored (set M' (36 + c + i) (get_or M' (36 + i) 0)) (36 + c + n)) e ∙ stored_there M' (36 + c + i) _ l
-          ∙ read_there M' (36 + i) (omega arith) ∙ r.kept_below (36 + i) (omega arith) ∙ ap (λ n. stored M (36 + n)) (sym e)
-      go k q (no n) = stored_else M' (36 + c + i) (36 + c + k) _ (λ e. n (omega arith)) ∙ r.copied k (omega arith)
-
-  pub keeping_end : (M' : List ℕ) (i : ℕ) → c ≤ i → Keeping M M' c i → Kept M M' c
-  keeping_end M' i h r = record { copied = λ k q. r.copied k (omega arith); kept_below = r.kept_below }
+use Rattle.steps.specs.Keeping.{Given}
 
 -- ── arguments given ──
 

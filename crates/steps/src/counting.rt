@@ -1,6 +1,7 @@
 // How many moves a running term has, and which is the first with a given action (document 01, "Operations": Count, Present). A list
 // of moves takes at most twice the breadth, but mostly far less: few numbers are tried first, so that a small term does not pay
 // for clearing a large array.
+// Stays: that words are at most 65,535 is a clause of each function here, for the reason in successors (docs/DESIGN-PASS.md, "A struct for words").
 ghost use Rattle.std.specs.Prelude.{◌≡◌, ℕ, ◌≤◌, ◌==◌, length};
 ghost use Rattle.std.specs.List.{position};
 ghost use Rattle.eb3.specs.Scopes.{Scope};
@@ -10,14 +11,10 @@ ghost use Rattle.actions.specs.Codes.{action_code, Small};
 ghost use Rattle.listing.specs.Listing.{holding};
 ghost use Rattle.steps.specs.Counting.{Whole, Tallied, found_at, FirstSought};
 
-use listing::list;
+use listing::{FULL, list};
 
-// Listing answers this where there was no room.
-// Stays: a listing's answer is one number, which holds how many moves there are and how many words are left.
-const FULL: usize = 1099511627776;
-
-// How many moves there are, or None where they take more than N numbers. It is not put into its caller, so that a call with few
-// numbers does not pay for a frame with many.
+// How many moves there are, or None where they take more than N numbers. A listing's answer is one number (measured in `listing`), taken apart here.
+// Stays a function that only makes an array and asks: not put into its caller, so that a call with few numbers does not pay for a frame with many.
 #[inline(never)]
 fn tally<const N: usize>(s: &[u16], m: &[u16]) -> Option<usize>
     requires { (length s.now ≤ 65535) × (N ≤ 131072) }
@@ -39,7 +36,7 @@ pub fn count_moves(s: &[u16], m: &[u16]) -> usize
     if let Some(count) = tally::<4096>(s, m) {
         return count;
     }
-    // within the limits there is always room for so many
+    // within the limits there is always room for all of them
     tally::<131072>(s, m).unwrap_or(0)
 }
 
@@ -76,6 +73,6 @@ pub fn first_move(s: &[u16], m: &[u16], code: u32) -> Option<usize>
     if let Some(found) = first_in::<4096>(s, m, code) {
         return found;
     }
-    // within the limits there is always room for so many
+    // within the limits there is always room for all of them
     first_in::<131072>(s, m, code).unwrap_or(None)
 }

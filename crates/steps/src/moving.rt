@@ -1,6 +1,7 @@
 // Move k of a running term: the path of the move is found, then the successor built along it in a lent buffer (document 01, "Moves, in
 // order"; "Operations"). The path has at most as many words as the term; the numbers that finding it takes are tried as
 // in counting.
+// Stays: that words are at most 65,535 is a clause of each function here, for the reason in successors (docs/DESIGN-PASS.md, "A struct for words").
 ghost use Rattle.std.specs.Prelude.{◌≡◌, ℕ, ◌≤◌, ◌<◌, length, MatchOption};
 ghost use Rattle.std.proofs.Math.ListN.{get_elem?};
 ghost use Rattle.eb3.specs.Scopes.{Scope};
@@ -12,7 +13,7 @@ ghost use Rattle.listing.specs.Listing.{holding};
 ghost use Rattle.steps.specs.Counting.{Whole};
 ghost use Rattle.steps.specs.Taking.{PathSought, PathFound, SuccessorFits, Took};
 
-use derivation::derive;
+use derivation::{FULL, PASSED, derive};
 use successors::build;
 
 /// A move that was taken.
@@ -24,16 +25,10 @@ pub struct Taken {
     pub size: usize,
 }
 
-// From here on an answer of a derivation says that there is no such move; from FULL on, that there was no room.
-// Stays: a derivation's answer is one number, which `place` makes an Option of.
-const PASSED: usize = 1099511627776;
-
-const FULL: usize = 2199023255552;
-
 // ── the path ──
 
-// Move k's path sought with room for N numbers, answered as a derivation does. It is not put into its caller, so that a call with
-// few numbers does not pay for a frame with many.
+// Move k's path sought with room for N numbers, answered as a derivation does: one number (measured in `derivation`), which `place` makes an Option of.
+// Stays a function that only makes an array and asks: not put into its caller, so that a call with few numbers does not pay for a frame with many.
 #[inline(never)]
 fn path_in<const N: usize>(s: &[u16], m: &[u16], k: usize, path: &mut [u16]) -> usize
     requires { (length s.now ≤ 65535) × (k < 65536) × (length path.old ≤ 65535) × (N ≤ 131072) }
@@ -64,7 +59,7 @@ fn find_path(s: &[u16], m: &[u16], k: usize, path: &mut [u16], acts: &mut [u32])
     if more < FULL {
         return place(more);
     }
-    // within the limits there is always room for so many
+    // within the limits there is always room for all of them
     let most = path_in::<131072>(s, m, k, path);
     place(most)
 }
@@ -73,6 +68,7 @@ fn find_path(s: &[u16], m: &[u16], k: usize, path: &mut [u16], acts: &mut [u32])
 
 // Move k, its successor in a buffer that has room for it. The arrays for the path and for the numbers that finding it takes are lent, so that a
 // run clears them once and not at every move: what they hold before does not count. No term within the limits has a move 65536.
+// Stays: the arrays are lent one by one. Here they are local, in a run parts of its Scratch, and out is the host's: a struct would serve one call only.
 pub fn take_move_in(
     s: &[u16],
     m: &[u16],
@@ -96,6 +92,7 @@ pub fn take_move_in(
 }
 
 // The same with arrays of its own, for a path of N words.
+// Stays: it only makes arrays, of a size that its caller picks, since there is no heap.
 fn take_sized<const N: usize>(s: &[u16], m: &[u16], k: usize, out: &mut [u8]) -> Option<Taken>
     requires { (length s.now ≤ 65535) × (N ≤ 65535) }
     ensures { (P : Scope) (E : Term) → Whole s.now P E → size 1 E ≤ N → SuccessorFits (get_elem? (moves (holding m.now) E) k) out.old → Took (get_elem? (moves (holding m.now) E) k) out.old out.new result }

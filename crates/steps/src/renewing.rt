@@ -1,4 +1,4 @@
-// The cells of a store renewed by an action: the old ones are kept behind, the action's arguments become variables, and all
+// The cells of a store renewed by an action: the old ones are kept after the new ones, the action's arguments become variables, and all
 // cells are computed anew by the expressions for its label (document 01, "Memory and the history machine": now reads new cells, before
 // reads old ones).
 ghost use Rattle.std.specs.Prelude.{◌≡◌, ◌+◌, ◌*◌, ◌≤◌, length};
@@ -6,20 +6,15 @@ ghost use Rattle.steps.specs.Storing.{StoreRenewed};
 ghost use Rattle.steps.specs.Keeping.{Kept, Given};
 
 use actions::{argument_at, label_of};
-use cells::{Functions, fill};
+use cells::{Functions, copy_cells, fill};
+use expressions::store;
 
-// Where the cells of a store begin.
-const NOW: usize = 36;
-
-// The c cells copied behind themselves, where before reads them.
-// Stays word by word: copy_from_slice calls memmove, and the library promises C hosts to call memcpy and memset only (host/eb3.h, Linking).
+// The c cells copied after themselves, where before reads them.
 fn keep(m: &mut [u16], c: usize)
     requires { 36 + 2 * c ≤ length m.old }
     ensures { (length m.new ≡ length m.old) × Kept m.old m.new c }
 {
-    for i in 0..c {
-        m[NOW + c + i] = m[NOW + i];
-    }
+    copy_cells(m, store::CELLS, store::CELLS + c, c);
 }
 
 // The arguments of an action as variables 1 and 2; variable 0 is a function's parameter.
@@ -27,8 +22,8 @@ fn give(m: &mut [u16], code: u32)
     requires { 36 ≤ length m.old }
     ensures { (length m.new ≡ length m.old) × Given m.old m.new code }
 {
-    m[1] = (argument_at(code, 0) % 65536) as u16;
-    m[2] = (argument_at(code, 1) % 65536) as u16;
+    m[store::FIRST_ARGUMENT] = (argument_at(code, 0) % 65536) as u16;
+    m[store::SECOND_ARGUMENT] = (argument_at(code, 1) % 65536) as u16;
 }
 
 // All cells, by the action with this number.
@@ -39,7 +34,7 @@ pub fn renew(functions: &Functions, m: &mut [u16], code: u32)
         return;
     }
     // never in a store with room for old cells and new ones
-    if m.len() < NOW + 2 * functions.cells {
+    if m.len() < store::CELLS + 2 * functions.cells {
         return;
     }
     keep(m, functions.cells);

@@ -3,16 +3,14 @@ ghost use Rattle.std.specs.Prelude.{◌≡◌, length};
 ghost use Rattle.steps.specs.Storing.{StoreLoaded, StoreStarted};
 
 use cells::{Functions, fill, lay, load};
-
-// Where the cells of a store begin.
-const NOW: usize = 36;
+use expressions::store;
 
 // The cells that a memory gives.
 pub fn load_store(functions: &Functions, m: &mut [u16], memory: &[u8])
     ensures { (length m.new ≡ length m.old) × StoreLoaded functions.now.directory.now memory.now m.old m.new functions.now.width functions.now.count functions.now.cells }
 {
     lay(functions, m);
-    load(memory, m, NOW, functions.cells);
+    load(memory, m, store::CELLS, functions.cells);
 }
 
 // The cells by the expressions for the empty trace.

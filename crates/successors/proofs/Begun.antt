@@ -18,11 +18,11 @@ use Rattle.listing.specs.Positions.{term_front}
 use Rattle.listing.specs.ByCode.{by_perform as of_perform, by_sequence as of_sequence, by_choice as of_choice, by_star as of_star, by_parallel as of_parallel, by_guard as of_guard}
 use Rattle.paths.specs.Paths.{follow, marked}
 use Rattle.successors.specs.Building.{built_words, Building}
-use Rattle.successors.specs.Parts.{Bounded, Unbuilt, Made, Whole, Going, Begun, BegunOf, Beginning, Behind, After, with_right, Closed}
+use Rattle.successors.specs.Parts.{Bounded, Made, Whole, Going, Begun, BegunOf, Beginning, Behind, After, with_right, Closed}
 use Rattle.successors.specs.Unchanged.{Unchanged}
 use Rattle.successors.specs.declared.Built.{Built}
 use Rattle.successors.proofs.Ends.{last_within, last_none}
-use Rattle.successors.proofs.Writes.{never, written_behind, lent, back, back_length}
+use Rattle.successors.proofs.Writes.{written_behind, lent, back, back_length}
 use Rattle.successors.proofs.Made.{bounded_within}
 
 -- ── one beginning out of another ──
@@ -30,9 +30,6 @@ use Rattle.successors.proofs.Made.{bounded_within}
 row_longer : (Es : List Term) (F : Term) (rest : List ℕ) → terms_words Es ++ (words 1 F ++ rest) ≡ terms_words (Es ++ (F ∷ [])) ++ rest
 row_longer Es F rest =
     sym (append_assoc (terms_words Es) (words 1 F) rest) ∙ ap (λ l. l ++ rest) (sym (terms_append Es (F ∷ []) ∙ ap (λ l. terms_words Es ++ l) (append-nil (words 1 F))))
-
-pub unbuilt_begun : {P : Scope} {s o rest : List ℕ} {a m : ℕ} {x y : List ℕ} {r : Built} → (2 * length o ≤ length x → ⊥) → Unbuilt r → Begun P s o rest a m x y r
-unbuilt_begun f u = record { going = record { has_room = λ h. absurd (f h); right = λ k. absurd (never k u.ok) }; stands = λ k. absurd (never k u.ok) }
 
 -- What goes on with the last words of an end of s goes on with those of s.
 pub begun_within : {P : Scope} {s u o rest : List ℕ} {a m : ℕ} {x y : List ℕ} {r : Built} → Tail u s → r.left ≤ length u → Begun P u o rest a m x y r → Begun P s o rest a m x y r

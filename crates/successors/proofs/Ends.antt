@@ -3,8 +3,8 @@ use mathlib.Core.Path.{◌≡◌, refl, sym, ap, ◌∙◌}
 use mathlib.Core.List.{List, [], ◌++◌, append_assoc}
 use Prim.Native.Nat.{ℕ, ◌+◌, ◌-◌, ◌≤◌}
 use native.Mathlib.Omega.{arith}
-use lib.ListN.{length, take, drop, get_or, length-append, length-drop, take-append-drop}
-use lib.Seq.{take_at, drop_at, drop-drop, drop-length, get_or-drop}
+use lib.ListN.{length, take, drop, length-append, length-drop, take-append-drop}
+use lib.Seq.{take_at, drop_at, drop-drop, drop-length}
 use Rattle.scan.specs.Checking.{last_of}
 use Rattle.scan.specs.Laws.{Tail, tail_on, tail_at, last_length, last_tail, behind_part}
 
@@ -62,9 +62,3 @@ pub take_past : (s : List ℕ) (m n : ℕ) (a b : List ℕ) → m ≤ length s �
 take_past s m n a b l e h =
     let k : length (take m s ++ a) ≡ m + n = omega (arith, length-append (take m s) a, ap length e, length-append a b, length-drop m s, ap length (take-append-drop m s), length-append (take m s) (drop m s)) in
     ap (take (m + n)) (sym (take-append-drop m s) ∙ (ap (λ z. take m s ++ z) e ∙ sym (append_assoc (take m s) a b))) ∙ take_at (take m s ++ a) b (m + n) k
-
-pub second_word : (p : List ℕ) → get_or (drop 1 p) 0 0 ≡ get_or p 1 0
-second_word p = get_or-drop 1 p 0 0
-
-pub two_behind : (p : List ℕ) → drop 1 (drop 1 p) ≡ drop 2 p
-two_behind p = drop-drop 1 1 p

@@ -1,7 +1,6 @@
 -- The laws that the proofs of the building share.
 mod Ends
 mod Writes
-mod Passes
 mod Made
 mod Begun
 mod Cases

@@ -60,13 +60,6 @@ module _ (o x y : List ℕ) (a n m : ℕ) (b : Bool) (h : Wrote o x y b) where
 
 -- ── words behind others ──
 
-pub added_none : (w : List ℕ) (X : Built) (x : List ℕ) (f : Built) → X.ok ≡ false → Unbuilt f → Added w X x x f
-added_none w X x f e u = record {
-  bounds = unbuilt_bounded X.left X.path_left refl u;
-  has_room = λ k _. absurd (never k e);
-  right = λ k. absurd (never k u.ok);
-}
-
 module _ (w : List ℕ) (X : Built) (x z : List ℕ) (b : Bool) (room : 2 * X.words ≤ length x) (ok : X.ok ≡ true) (given : Wrote w (lent (2 * X.words) x) z b) where
   here : Wrote w (drop (2 * X.words) x) z b
   here = subst (λ l. Wrote w l z b) (part (2 * X.words) x) given

@@ -1,6 +1,9 @@
 // The successor of a move, built along its path within a part of the lent buffer (document 01, "Operations"; "Moves, in order"). What
-// stands behind the moving operand and stays, stands in the same order in the successor: so only the successor's beginning is
+// comes after the moving operand and stays is in the same order in the successor: so only the successor's beginning is
 // written on the way, with the number of words at the end of the term that go on from there, and these are copied at once.
+// Stays: words are a slice, with the clause that they are at most 65,535. A struct of the slice with that fact in a ghost field was proved in this file, and the
+// library was the same byte for byte. It is no plainer: 13 clauses go, but each ensures says s.entry.words.now for s.now, and the file is 16 lines longer; with a
+// model, by which a clause says s.now again, begin takes 352 bytes a level for 304 (docs/DESIGN-PASS.md, "A struct for words").
 #![tactic(auto)]
 
 ghost use Rattle.std.specs.Prelude.{◌≡◌, true, false, ◌+◌, ◌*◌, ◌≤◌, [], ◌∷◌, length, get_or};
@@ -11,6 +14,7 @@ use actions::{behind_action, code_at};
 use code_numbers::{ACTION, CHOICE, DONE, GUARD, PARALLEL, SEQUENCE, STAR};
 use conditions::behind_condition;
 use listing::{skip, skip_row};
+use paths::{BOTH_DONE, CHOOSE_LEFT, END, LEFT_MOVES, RIGHT_MOVES};
 use scan::{behind, first, last};
 use unchanged::{behind_size, size_word, unchanged};
 use writing::{put_word, put_words};
@@ -20,7 +24,7 @@ pub mod unchanged;
 
 // Whether there was room; the action's number, the words written, the words at the end of the term that go on from there, how many
 // whole terms at the beginning of these are still the successor's, and what is left of the path.
-// Stays: `ok` beside the numbers, in the room in front of `action`. An Option of the other five numbers takes 48 bytes where this takes 40, in each
+// Stays: `ok` beside the numbers, in the room before `action`. An Option of the other five numbers takes 48 bytes where this takes 40, in each
 // frame of a recursion as deep as the term.
 #[derive(Clone, Copy, Default)]
 pub struct Built {
@@ -73,8 +77,9 @@ fn put_head(h: &[u16], out: &mut [u8]) -> Built
     unbuilt()
 }
 
-// Words behind those that x wrote.
-#[tactic(auto, using(crate::proofs::Made::added, crate::proofs::Made::added_lost, crate::proofs::Made::added_none))]
+// Words after those that x wrote.
+// Stays: that out has the words that x wrote is a fact of two values, which only this function and two more are handed together.
+#[tactic(auto, using(crate::proofs::Made::added, crate::proofs::Made::added_lost))]
 fn put_behind(x: Built, w: &[u16], out: &mut [u8]) -> Built
     requires { 2 * x.words ≤ length out.old }
     ensures { Added w.now x out.old out.new result }
@@ -112,7 +117,11 @@ fn close(t: &[u16], x: Built, e: usize, out: &mut [u8]) -> Built
 
 // ── the beginning of the successor ──
 
-// Behind the words that x wrote.
+// Stays: that s begins with a code is a fact of its own for each function of a code: a type for it would be one for each code.
+// Stays: s, path and out are three parameters. Every call is handed another s, most another path, and those that follow words written another out, so that
+// a struct of them would be made anew at every level; and n, how many words of s stay, is one word where a second slice would be two.
+
+// After the words that x wrote.
 #[cycle(building)]
 fn begin_behind(x: Built, u: &[u16], path: &[u16], out: &mut [u8]) -> Built
     requires { (length u.now ≤ 65535) × (2 * x.words ≤ length out.old) }
@@ -129,7 +138,7 @@ fn begin_behind(x: Built, u: &[u16], path: &[u16], out: &mut [u8]) -> Built
     }
 }
 
-// Behind the first n words of s, as they are.
+// After the first n words of s, as they are.
 #[cycle(building)]
 fn begin_after(s: &[u16], n: usize, path: &[u16], out: &mut [u8]) -> Built
     requires { (length s.now ≤ 65535) × (n ≤ length s.now) }
@@ -139,7 +148,7 @@ fn begin_after(s: &[u16], n: usize, path: &[u16], out: &mut [u8]) -> Built
     begin_behind(x, &s[n..], path, out)
 }
 
-// What the left operand's successor began, and the right operand, which stands behind it and stays.
+// What the left operand's successor began, and the right operand, which comes after it and stays.
 fn with_right(x: Built) -> Built
     requires { x.due ≤ 65535 }
     ensures { result ≡ with_right x }
@@ -168,7 +177,7 @@ fn begin_choice(s: &[u16], path: &[u16], out: &mut [u8]) -> Built
     requires { (length s.now ≤ 65535) × (get_or s.now 0 0 ≡ 23) }
     ensures { Beginning s.now path.now out.old out.new result }
 {
-    if first(path) == 0 {
+    if first(path) == CHOOSE_LEFT {
         return begin_chosen(s, path, out);
     }
     let n = 1 + size_word(path);
@@ -178,8 +187,8 @@ fn begin_choice(s: &[u16], path: &[u16], out: &mut [u8]) -> Built
     begin(&s[n..], behind_size(path), out)
 }
 
-// The left operand's successor without the right operand, which stands behind it and is passed over. Where the left operand ends is told
-// by the terms that still stand of it: to scan the whole of it anew would cost the square of the depth of choices within choices.
+// The left operand's successor without the right operand, which comes after it and is passed over. Where the left operand ends is said by
+// the terms that are left of it: to scan the whole of it anew would cost the square of the depth of choices within choices.
 #[tactic(auto, using(scan::specs::Laws::last_len, scan::specs::Laws::behind_len))]
 #[cycle(building)]
 fn begin_chosen(s: &[u16], path: &[u16], out: &mut [u8]) -> Built
@@ -199,7 +208,7 @@ fn begin_star(s: &[u16], path: &[u16], out: &mut [u8]) -> Built
     requires { (length s.now ≤ 65535) × (get_or s.now 0 0 ≡ 24) }
     ensures { Beginning s.now path.now out.old out.new result }
 {
-    if first(path) == 0 {
+    if first(path) == END {
         return put_one(DONE as u16, 0, skip(behind(s)), behind(path).len(), out);
     }
     begin_round(s, path, out)
@@ -231,17 +240,19 @@ fn begin_parallel(s: &[u16], path: &[u16], out: &mut [u8]) -> Built
         return unbuilt();
     }
     match first(path) {
-        0 => {
+        BOTH_DONE => {
             let n = skip(&s[5..]);
             put_one(DONE as u16, 0, skip(last(s, n)), behind(path).len(), out)
         }
-        1 => with_right(begin_after(s, 5, behind(path), out)),
+        LEFT_MOVES => with_right(begin_after(s, 5, behind(path), out)),
         _ => begin_right(s, path, out),
     }
 }
 
-// The right operand moves, alone or together with the left one.
+// The right operand moves, alone or together with the left one. Out of line, since within begin it takes each level of the recursion 112 bytes more
+// stack, 320 for 208; with it a level here has 352.
 #[cycle(building)]
+#[inline(never)]
 fn begin_right(s: &[u16], path: &[u16], out: &mut [u8]) -> Built
     requires { (length s.now ≤ 65535) × (get_or s.now 0 0 ≡ 25) × (5 ≤ length s.now) × (get_or path.now 0 0 ≡ 0 → ⊥) × (get_or path.now 0 0 ≡ 1 → ⊥) }
     ensures { Beginning s.now path.now out.old out.new result }
@@ -250,13 +261,13 @@ fn begin_right(s: &[u16], path: &[u16], out: &mut [u8]) -> Built
     if s.len() < n {
         return unbuilt();
     }
-    if first(path) == 2 {
+    if first(path) == RIGHT_MOVES {
         return begin_after(s, n, behind_size(path), out);
     }
     begin_both(s, n, behind_size(path), out)
 }
 
-// The left operand's successor is closed before the right one's begins behind it.
+// The left operand's successor is closed before the right one's begins after it.
 #[cycle(building)]
 fn begin_both(s: &[u16], n: usize, path: &[u16], out: &mut [u8]) -> Built
     requires { (length s.now ≤ 65535) × (5 ≤ n) × (n ≤ length s.now) }
@@ -308,8 +319,8 @@ fn begin(s: &[u16], path: &[u16], out: &mut [u8]) -> Built
 
 // ── the whole ──
 
-// Of a whole term, behind which nothing stands. The words at its front that stay are copied at once, and the beginning is made behind them: how many
-// terms are due is not told of those passed there, nor asked, since all words that are left belong to the successor.
+// Of a whole term, which nothing follows. The words at its front that stay are copied at once, and the beginning is made after them: how many
+// terms are due is not counted of those passed there, nor asked, since all words that are left belong to the successor.
 pub fn build(s: &[u16], path: &[u16], out: &mut [u8]) -> Built
     requires { length s.now ≤ 65535 }
     ensures { Building s.now path.now out.old out.new result }

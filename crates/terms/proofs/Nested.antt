@@ -1,63 +1,29 @@
--- Stars in front: how many a loop counts, and that the words behind them are read under as many stars.
+-- Stars at the front: the words after them are read under as many stars.
 -- Document 01, "Unfolding, size and breadth"; refusal 10.
-use Prim.Native.Nat.{ℕ, zero, suc, ◌+◌, ◌-◌, ◌%◌, ◌≤◌, ◌<◌}
+use Prim.Native.Nat.{ℕ, zero, suc, ◌+◌, ◌-◌, ◌%◌, ◌≤◌}
 use native.Mathlib.Numerals.{add-one}
 use native.Mathlib.Omega.{arith}
 use mathlib.Core.Path.{◌≡◌, refl, sym, ap, ◌∙◌}
 use mathlib.Core.Bool.{Bool, true, false}
 use mathlib.Core.List.{List, [], ◌∷◌}
 use lib.Dec.{eqb}
-use lib.ListN.{length, drop, get_or, length-drop, drop_of_length-le}
-use lib.Seq.{drop-cons}
-use borrow.Author.Tests.{ne_eqb, eqb-true}
+use lib.ListN.{length, drop, length-drop}
+use borrow.Author.Tests.{eqb-true}
 use Rattle.eb3.specs.Terms.{Term, Star}
 use Rattle.eb3.specs.RuleSets.{RuleSet}
 use Rattle.eb3.specs.Measures.{sat, star_of, measure_running}
 use Rattle.eb3.specs.Reading.{Read, taken, pick, giving}
 use Rattle.eb3.specs.TermReading.{TermKind, term_kind, read_term}
 use Rattle.scan.specs.Checking.{last_of}
-use Rattle.weights.specs.Weighing.{cap}
+use Rattle.weights.specs.Weighing.{cap, stars_of}
 use Rattle.arguments.specs.Tables.{declared}
 use Rattle.scan.specs.ReadingLaws.{giving_refused_as, same_refused, RefusedAs}
-use native.Mathlib.Nat.{le_refl}
 use Rattle.terms.specs.Given.{wrong, weighed_running}
-use Rattle.terms.specs.Answers.{packed, unpacked, Answer, stars_of, starred_of, stars_in_front, InFront}
+use Rattle.scan.specs.Repeats.{leading, leading_short}
+use Rattle.terms.specs.Answers.{packed, unpacked, Answer, starred_of}
 use Rattle.terms.specs.Laws.{term_case}
 use Rattle.terms.specs.AnswerLaws.{refused_wrong, Got, got, none_read}
 use Rattle.refusals.specs.declared.Refusal.{Refusal}
-
--- ── counting ──
-
--- i of the stars are counted.
-pub record Counted (t : List ℕ) (i : ℕ) : Type 0 where
-  pub within : i ≤ length t
-  pub front : stars_in_front t ≡ i + stars_in_front (drop i t)
-
-pub front_start : (t : List ℕ) → Counted t 0
-front_start t = record { within = omega arith; front = omega arith }
-
-module _ (t : List ℕ) (i : ℕ) (c : Counted t i) where
-  pub front_next : i < length t → get_or t i 0 ≡ 24 → Counted t (i + 1)
-  unfolding stars_in_front
-  front_next l e =
-      let a : stars_in_front (drop i t) ≡ suc (stars_in_front (drop (suc i) t)) = ap stars_in_front (drop-cons t i 0 l ∙ ap (λ w. w ∷ drop (suc i) t) e) in
-      let b : stars_in_front (drop (i + 1) t) ≡ stars_in_front (drop (suc i) t) = ap (λ j. stars_in_front (drop j t)) (add-one i) in
-      record { within = omega arith; front = omega (arith, a, b, c.front) }
-
-  pub front_stop : i < length t → (get_or t i 0 ≡ 24 → ⊥) → InFront t i
-  unfolding stars_in_front
-  front_stop l e =
-      let b : stars_in_front (get_or t i 0 ∷ drop (suc i) t) ≡ 0 = rw (ne_eqb (get_or t i 0) 24 e) in
-      let a : stars_in_front (drop i t) ≡ 0 = ap stars_in_front (drop-cons t i 0 l) ∙ b in
-      record { front = omega (arith, a, c.front); short = c.within }
-
-  pub front_end : length t ≤ i → InFront t (length t)
-  unfolding stars_in_front
-  front_end l =
-      let a : stars_in_front (drop i t) ≡ 0 = ap stars_in_front (drop_of_length-le t {i = i} l) in
-      record { front = omega (arith, a, c.front, c.within); short = le_refl (length t) }
-
-pub ruleset counting = (front_start, front_next, front_stop, front_end)
 
 -- ── reading ──
 
@@ -69,13 +35,13 @@ unfoldable stars_around : ℕ → Term → Term
 stars_around zero E = E
 stars_around (suc k) E = Star (stars_around k E)
 
-stars_read : (R : RuleSet) (t : List ℕ) → read_term R t ≡ stars_over (stars_in_front t) (read_term R (drop (stars_in_front t) t))
-unfolding stars_in_front stars_over
+stars_read : (R : RuleSet) (t : List ℕ) → read_term R t ≡ stars_over (leading 24 t) (read_term R (drop (leading 24 t) t))
+unfolding leading stars_over
 stars_read R [] = refl
 stars_read R (w ∷ t) = go (stars_read R t) (eqb w 24) refl
   where
-    go : read_term R t ≡ stars_over (stars_in_front t) (read_term R (drop (stars_in_front t) t)) → (b : Bool) → eqb w 24 ≡ b
-        → read_term R (w ∷ t) ≡ stars_over (pick b (suc (stars_in_front t)) 0) (read_term R (drop (pick b (suc (stars_in_front t)) 0) (w ∷ t)))
+    go : read_term R t ≡ stars_over (leading 24 t) (read_term R (drop (leading 24 t) t)) → (b : Bool) → eqb w 24 ≡ b
+        → read_term R (w ∷ t) ≡ stars_over (pick b (suc (leading 24 t)) 0) (read_term R (drop (pick b (suc (leading 24 t)) 0) (w ∷ t)))
     go h true e = term_case R (w ∷ t) TermKind.star (λ z. omega arith) (ap term_kind (eqb-true w 24 e)) ∙ ap (giving Star) h
     go h false e = refl
 
@@ -94,15 +60,12 @@ unfolding stars_around stars_of measure_running
 stars_measured zero E = refl
 stars_measured (suc k) E = ap (star_of (sat cap)) (stars_measured k E)
 
--- k stars stand in front of t, and r is what stands behind them
-module _ (T t : List ℕ) (k : ℕ) (r : List ℕ) (p : ℕ) (fits : length t ≤ 8192) (i : InFront t k) (l : r ≡ last_of (length t - k) t) (e : p ≡ weighed_running (read_term (declared T) r)) where
-  f : k ≡ stars_in_front t
-  f = i.front
-
+-- k stars are at the front of t, and r is what is after them
+module _ (T t : List ℕ) (k : ℕ) (r : List ℕ) (p : ℕ) (fits : length t ≤ 8192) (f : k ≡ leading 24 t) (l : r ≡ last_of (length t - k) t) (e : p ≡ weighed_running (read_term (declared T) r)) where
   behind_stars : r ≡ drop k t
   unfolding last_of
   behind_stars =
-      let n : length t - (length t - k) ≡ k = omega arith in
+      let n : length t - (length t - k) ≡ k = omega (arith, f, leading_short 24 t) in
       l ∙ ap (λ j. drop j t) n
 
   long : length r ≡ length t - k
@@ -132,4 +95,7 @@ module _ (T t : List ℕ) (k : ℕ) (r : List ℕ) (p : ℕ) (fits : length t �
         let z : giving Star (read_term (declared T) t) ≡ taken (stars_around (suc k) o.value) o.rest = all_read ∙ ap (stars_over (suc k)) o.read ∙ stars_taken (suc k) o.value o.rest in
         g ∙ (λ j. packed (o.left j) (stars_of (add-one k j) (m j))) ∙ (λ j. packed (length o.rest) (sym (stars_measured (suc k) o.value) j)) ∙ sym (ap weighed_running z)
 
-pub ruleset starred_terms = (star_none, star_fits, star_in)
+pub stars_short : (t : List ℕ) (k : ℕ) → k ≡ leading 24 t → k ≤ length t
+stars_short t k e = rw e (leading_short 24 t)
+
+pub ruleset starred_terms = (star_none, star_fits, star_in, stars_short)

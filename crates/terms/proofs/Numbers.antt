@@ -1,37 +1,21 @@
--- Answers made of answers: what the functions on numbers return, and that what they pack fits. The premises have the form of what the code tells
+-- Answers made of answers: what the functions on numbers return, and that what they pack fits. The premises have the form of what the code has
 -- there, so that `search` finds them.
 -- Document 01, "Unfolding, size and breadth"; refusal 10.
-use Prim.Native.Nat.{ℕ, ◌+◌, ◌-◌, ◌/◌, ◌%◌, ◌≤◌, ◌<◌}
-use native.Mathlib.Numerals.{add-one}
+use Prim.Native.Nat.{ℕ, zero, suc, ◌-◌, ◌/◌, ◌%◌, ◌≤◌}
 use native.Mathlib.Omega.{arith}
-use mathlib.Core.Path.{◌≡◌, refl, sym, ap, ◌∙◌}
+use mathlib.Core.Path.{◌≡◌, ap, ◌∙◌}
 use mathlib.Core.Bool.{Bool, true, false}
-use Rattle.eb3.specs.Measures.{sat, Measure, sequence_of, choice_of, star_of, guard_of}
+use Rattle.eb3.specs.Measures.{sat, Measure, guard_of}
 use Rattle.weights.specs.declared.Weight.{Weight}
-use Rattle.weights.specs.Weighing.{cap, measure, parallel_by}
-use Rattle.terms.specs.declared.Pair.{Pair}
-use Rattle.terms.specs.declared.Pair.TheVariants.{Sequence, Choice, Parallel}
-use Rattle.terms.specs.Answers.{packed, unpacked, Answer, Packs, Operands, Operand, join_of, joined_of, guarded_of, stars_of, starred_of}
+use Rattle.weights.specs.Weighing.{cap, measure, parallel_by, joint_of, stars_of}
+use Rattle.weights.specs.declared.Joint.{Joint}
+use Rattle.weights.specs.declared.Joint.TheVariants.{Sequence, Choice, Parallel}
+use Rattle.terms.specs.Answers.{packed, unpacked, Answer, Packs, Operands, Operand, joined_of, guarded_of, starred_of}
 
 pub weigh_in : (n p g b : ℕ) → g ≡ p / 65536 % 131072 → b ≡ p / 8589934592 → ◌≡◌ {A = Measure} (record { size = n; reach = g; breadth = b }) (unpacked n p)
 weigh_in n p g b e f = λ j. record { size = n; reach = e j; breadth = f j }
 
 -- ── two operands ──
-
-module _ (c : Pair) (a b x : Weight) where
-  pub join_sequence : c ≡ Sequence → measure x ≡ sequence_of (sat cap) (measure a) (measure b) → measure x ≡ join_of c (measure a) (measure b)
-  unfolding join_of
-  join_sequence e h = h ∙ ap (λ k. join_of k (measure a) (measure b)) (sym e)
-
-  pub join_choice : c ≡ Choice → measure x ≡ choice_of (sat cap) (measure a) (measure b) → measure x ≡ join_of c (measure a) (measure b)
-  unfolding join_of
-  join_choice e h = h ∙ ap (λ k. join_of k (measure a) (measure b)) (sym e)
-
-  pub join_parallel : (z : Bool) → c ≡ Parallel z → measure x ≡ parallel_by z (measure a) (measure b) → measure x ≡ join_of c (measure a) (measure b)
-  unfolding join_of
-  join_parallel z e h = h ∙ ap (λ k. join_of k (measure a) (measure b)) (sym e)
-
-pub ruleset joins = (join_sequence, join_choice, join_parallel)
 
 -- Reach and breadth are cut off.
 record Small (m : Measure) : Type 0 where
@@ -42,8 +26,8 @@ small_parallel : (b : Bool) (l r : Measure) → Small (parallel_by b l r)
 small_parallel true l r = record { small_reach = omega arith; small_breadth = omega arith }
 small_parallel false l r = record { small_reach = omega arith; small_breadth = omega arith }
 
-join_small : (c : Pair) (l r : Measure) → Small l → Small r → Small (join_of c l r)
-unfolding join_of
+join_small : (c : Joint) (l r : Measure) → Small l → Small r → Small (joint_of c l r)
+unfolding joint_of
 join_small Sequence l r p q = record { small_reach = omega arith; small_breadth = omega arith }
 join_small Choice l r p q = record { small_reach = omega arith; small_breadth = omega arith }
 join_small (Parallel z) l r p q = small_parallel z l r
@@ -57,9 +41,9 @@ fits_small n w m h e s =
     let b : w.breadth ≡ m.breadth = ap (λ (x : Measure). x.breadth) e in
     record { few = h; cut_reach = omega arith; cut_breadth = omega arith }
 
-module _ (c : Pair) (n p q m k : ℕ) (a b x : Weight) (i : m ≡ p % 65536) (j : k ≡ q % 65536) (f : measure a ≡ unpacked (n - m) p) (g : measure b ≡ unpacked (m - k) q) (h : measure x ≡ join_of c (measure a) (measure b)) where
-  joint : measure x ≡ join_of c (unpacked (n - m) p) (unpacked (m - k) q)
-  joint = h ∙ (λ l. join_of c (f l) (g l))
+module _ (c : Joint) (n p q m k : ℕ) (a b x : Weight) (i : m ≡ p % 65536) (j : k ≡ q % 65536) (f : measure a ≡ unpacked (n - m) p) (g : measure b ≡ unpacked (m - k) q) (h : measure x ≡ joint_of c (measure a) (measure b)) where
+  joint : measure x ≡ joint_of c (unpacked (n - m) p) (unpacked (m - k) q)
+  joint = h ∙ (λ l. joint_of c (f l) (g l))
 
   pub joined_fits : Operands n p q → Packs k (measure x)
   joined_fits o =
@@ -69,7 +53,7 @@ module _ (c : Pair) (n p q m k : ℕ) (a b x : Weight) (i : m ≡ p % 65536) (j 
 
   pub joined_in : (y : ℕ) → y ≡ packed k (measure x) → y ≡ joined_of c n p q
   unfolding joined_of
-  joined_in y e = e ∙ (λ l. packed (j l) (joint l)) ∙ (λ l. packed (q % 65536) (join_of c (unpacked (n - i l) p) (unpacked (i l - j l) q)))
+  joined_in y e = e ∙ (λ l. packed (j l) (joint l)) ∙ (λ l. packed (q % 65536) (joint_of c (unpacked (n - i l) p) (unpacked (i l - j l) q)))
 
 pub ruleset joining = (joined_fits, joined_in)
 
@@ -92,32 +76,21 @@ pub ruleset guarding = (guard_fits, guard_in)
 
 -- ── stars ──
 
--- w is v under i of the k stars.
-pub record Starred (k i : ℕ) (v w : Measure) : Type 0 where
-  pub within : i ≤ k
-  pub nested : w ≡ stars_of i v
-  pub low_reach : w.reach ≤ 65536
-  pub low_breadth : w.breadth ≤ 65536
-
-pub stars_start : (k n p m : ℕ) (w : Weight) → Answer n p → measure w ≡ unpacked (n - m) p → Starred k 0 (measure w) (measure w)
+stars_small : (k : ℕ) (m : Measure) → Small m → Small (stars_of k m)
 unfolding stars_of
-stars_start k n p m w a e =
-    let s : Packs 0 (measure w) = fits_small 0 w (unpacked (n - m) p) (omega arith) e (unpacked_small n (n - m) p a) in
-    record { within = omega arith; nested = refl; low_reach = s.cut_reach; low_breadth = s.cut_breadth }
+stars_small zero m s = s
+stars_small (suc k) m s = record { small_reach = omega arith; small_breadth = omega arith }
 
-pub stars_next : (k i : ℕ) (v : Measure) (w x : Weight) → Starred k i v (measure w) → i < k → measure x ≡ star_of (sat cap) (measure w) → Starred k (i + 1) v (measure x)
-unfolding stars_of
-stars_next k i v w x s l e =
-    let f : Packs 0 (measure x) = fits_small 0 x (star_of (sat cap) (measure w)) (omega arith) e (record { small_reach = omega arith; small_breadth = omega arith }) in
-    record { within = omega arith; nested = e ∙ ap (star_of (sat cap)) s.nested ∙ ap (λ j. stars_of j v) (sym (add-one i)); low_reach = f.cut_reach; low_breadth = f.cut_breadth }
+-- v is what p says of n - m words, and w that under k stars
+module _ (k n p m : ℕ) (v w : Weight) (i : m ≡ p % 65536) (f : measure v ≡ unpacked (n - m) p) (h : measure w ≡ stars_of k (measure v)) where
+  around : measure w ≡ stars_of k (unpacked (n - m) p)
+  around = h ∙ ap (stars_of k) f
 
-pub stars_fit : (k n p m i : ℕ) (v : Measure) (w : Weight) → m ≡ p % 65536 → Answer n p → Starred k i v (measure w) → Packs m (measure w)
-stars_fit k n p m i v w e a s = record { few = omega (arith, a.short, a.left); cut_reach = s.low_reach; cut_breadth = s.low_breadth }
+  pub stars_fit : Answer n p → Packs m (measure w)
+  stars_fit a = fits_small m w _ (omega (arith, a.short, a.left)) around (stars_small k _ (unpacked_small n (n - m) p a))
 
-pub stars_in : (k n p m i : ℕ) (v w : Weight) (y : ℕ) → m ≡ p % 65536 → measure v ≡ unpacked (n - m) p → Starred k i (measure v) (measure w) → k ≤ i → y ≡ packed m (measure w) → y ≡ starred_of k n p
-unfolding starred_of
-stars_in k n p m i v w y e f s l g =
-    let o : i ≡ k = omega (arith, s.within) in
-    g ∙ (λ j. packed (e j) (s.nested j)) ∙ (λ j. packed (p % 65536) (stars_of (o j) (f j))) ∙ (λ j. packed (p % 65536) (stars_of k (unpacked (n - e j) p)))
+  pub stars_in : (y : ℕ) → y ≡ packed m (measure w) → y ≡ starred_of k n p
+  unfolding starred_of
+  stars_in y e = e ∙ (λ j. packed (i j) (around j)) ∙ (λ j. packed (p % 65536) (stars_of k (unpacked (n - i j) p)))
 
-pub ruleset starring = (stars_start, stars_next, stars_fit, stars_in)
+pub ruleset starring = (stars_fit, stars_in)

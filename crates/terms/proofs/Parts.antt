@@ -1,4 +1,4 @@
--- A case for each way that the checks of two terms, a parallel and a guard return. The premises have the form of what the code tells there, so that
+-- A case for each way that the checks of two terms, a parallel and a guard return. The premises have the form of what the code has there, so that
 -- `search` finds them.
 -- Document 01, "Unfolding, size and breadth"; refusal 10.
 use Prim.Native.Nat.{ℕ, ◌-◌, ◌%◌, ◌≤◌}
@@ -25,13 +25,13 @@ use Rattle.scan.specs.Checking.{checked, last_of, Checked}
 use Rattle.scan.specs.Laws.{last_len}
 use Rattle.scan.specs.ReadingLaws.{Taken, checked_refused, checked_taken, giving_refused_as, giving_taken, both_first_as, both_second_as, both_taken, both_behind, same_refused}
 use Rattle.grammar.specs.Laws.{cond_ends}
-use Rattle.weights.specs.Weighing.{cap, parallel_by}
+use Rattle.weights.specs.Weighing.{cap, parallel_by, joint_of}
 use Rattle.arguments.specs.Tables.{declared}
 use Rattle.arguments.specs.TableLaws.{labels_length, guard_declared, mask_ends, mask_read}
-use Rattle.terms.specs.declared.Pair.{Pair}
-use Rattle.terms.specs.declared.Pair.TheVariants.{Parallel}
+use Rattle.weights.specs.declared.Joint.{Joint}
+use Rattle.weights.specs.declared.Joint.TheVariants.{Parallel}
 use Rattle.terms.specs.Given.{wrong, weighed_running}
-use Rattle.terms.specs.Answers.{packed, unpacked, Answer, Operands, Operand, join_of, joined_of, weighed_pair, guarded_of}
+use Rattle.terms.specs.Answers.{packed, unpacked, Answer, Operands, Operand, joined_of, weighed_pair, guarded_of}
 use Rattle.terms.specs.AnswerLaws.{refused_wrong, Got, got, none_read}
 use Rattle.std.specs.Prelude.{Ok, Err}
 use Rattle.refusals.specs.declared.Refusal.{Refusal}
@@ -41,7 +41,7 @@ reads T = read_term (declared T)
 
 -- ── two terms ──
 
-module _ (T t : List ℕ) (c : Pair) (p : ℕ) (fits : length t ≤ 8192) (e : p ≡ weighed_running (read_term (declared T) t)) where
+module _ (T t : List ℕ) (c : Joint) (p : ℕ) (fits : length t ≤ 8192) (e : p ≡ weighed_running (read_term (declared T) t)) where
   pub pair_first : p ≡ wrong → wrong ≡ weighed_pair c (both (read_term (declared T)) (read_term (declared T)) t)
   unfolding weighed_pair
   pair_first h =
@@ -49,7 +49,7 @@ module _ (T t : List ℕ) (c : Pair) (p : ℕ) (fits : length t ≤ 8192) (e : p
       let m = both_first_as (reads T) (reads T) t g.0 g.1 in
       rw m.read
 
-  -- n words are left behind the first, r is these
+  -- n words are left after the first, r is these
   module _ (n q : ℕ) (r : List ℕ) (h : p ≡ wrong → ⊥) (i : n ≡ p % 65536) (l : r ≡ last_of n t) (f : q ≡ weighed_running (read_term (declared T) r)) where
     first : Got T t p
     first = got T t p fits e h
@@ -84,7 +84,7 @@ module _ (T t : List ℕ) (c : Pair) (p : ℕ) (fits : length t ≤ 8192) (e : p
           let b = second in
           let m : unpacked (p % 65536 - q % 65536) q ≡ measure_running (sat cap) 1 b.value = (λ j. unpacked (sym long j - q % 65536) q) ∙ b.measured in
           let z : both (reads T) (reads T) t ≡ taken (a.value, b.value) b.rest = both_taken (reads T) (reads T) t a.value a.rest b.value b.rest a.read (ap (reads T) rest_is ∙ b.read) in
-          g ∙ (λ j. packed (b.left j) (join_of c (a.measured j) (m j))) ∙ sym (ap (weighed_pair c) z)
+          g ∙ (λ j. packed (b.left j) (joint_of c (a.measured j) (m j))) ∙ sym (ap (weighed_pair c) z)
 
 pub ruleset pairs = (pair_first, pair_second, pair_fits, pair_in)
 
@@ -95,7 +95,7 @@ unfolding giving
 giving_giving f g (refused k) = refl
 giving_giving f g (taken a t) = refl
 
-weighed_parallel : (c : Pair) (Δ : Mask) → ((l r : Measure) → join_of c l r ≡ parallel_of (sat cap) Δ l r) → (s : Read (Term × Term)) → weighed_pair c s ≡ weighed_running (giving (λ p. Terms.Parallel Δ p.0 p.1) s)
+weighed_parallel : (c : Joint) (Δ : Mask) → ((l r : Measure) → joint_of c l r ≡ parallel_of (sat cap) Δ l r) → (s : Read (Term × Term)) → weighed_pair c s ≡ weighed_running (giving (λ p. Terms.Parallel Δ p.0 p.1) s)
 unfolding weighed_pair weighed_running giving measure_running
 weighed_parallel c Δ h (refused k) = refl
 weighed_parallel c Δ h (taken s t) = λ j. packed (length t) (h (measure_running (sat cap) 1 s.0) (measure_running (sat cap) 1 s.1) j)
@@ -120,7 +120,7 @@ module _ (T t : List ℕ) (b : ℕ) (p : Checked) (i : b ≡ get_or T 17 0) (e :
     mask_zero = o ∙ ap zero_mask (sym (mask_read 4 (length (declared T).labels) t mask.value mask.rest mask.read))
 
     pub parallel_in : x ≡ weighed_pair (Parallel z) (both (read_term (declared T)) (read_term (declared T)) r) → x ≡ weighed_running (term_by (declared T) (read_term (declared T)) TermKind.parallel t)
-    unfolding join_of
+    unfolding joint_of
     parallel_in f =
         let k : both masks (both (reads T) (reads T)) t ≡ giving (λ s. (mask.value, s)) (both (reads T) (reads T) r) =
         both_behind masks (both (reads T) (reads T)) t mask.value mask.rest mask.read ∙ ap (λ u. giving (λ s. (mask.value, s)) (both (reads T) (reads T) u)) (sym mask.words ∙ sym l) in

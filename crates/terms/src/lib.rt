@@ -1,7 +1,10 @@
 // The check of a given running term, with its reach and breadth in the same pass (document 01, "Unfolding, size and breadth";
 // refusal 10). An answer is one number, so that no level of nested terms stores one in memory.
 // Stays: measured, an Option of a struct takes 1.07 to 1.29 of the instructions (1,000 guards, 1,000 parallels), and the frame
-// of a level grows from 112 bytes to 192 (check_running), and from 80 to 128 (two_terms).
+// of a level grows from 112 bytes to 192 (check_running), and from 80 to 128 (two_terms). So it is with `WRONG` and each test for
+// it, with `left`, `reach`, `breadth`, `weigh` and `pack`, and with each function here that answers such a number.
+// Stays: six functions ask that they are given at most 8,192 words, by which an answer fits into one number. Each is given another
+// part of the words, and as a struct with this fact every part would be made one anew, with the same proof at the same places.
 #![tactic(auto)]
 
 ghost use Rattle.std.specs.Prelude.{◌≡◌, ◌/◌, ◌%◌, ◌≤◌, length, get_or};
@@ -12,13 +15,15 @@ ghost use Rattle.eb3.specs.TermReading.{elements_of, TermKind, action_of, term_b
 ghost use Rattle.weights.specs.Weighing.{measure};
 ghost use Rattle.arguments.specs.Tables.{declared};
 ghost use Rattle.terms.specs.Given.{weighed_running, given};
-ghost use Rattle.terms.specs.Answers.{left_of, packed, unpacked, Answer, Packs, Operands, Operand, join_of, joined_of, weighed_pair, guarded_of, starred_of, InFront};
+ghost use Rattle.terms.specs.Answers.{left_of, packed, unpacked, Answer, Packs, Operands, Operand, joined_of, weighed_pair, guarded_of, starred_of};
 
-use arguments::{check_mask, functions, labels, mask_zero, row_at, size_of};
+use arguments::layout::{LABEL_ROWS, LABEL_WORDS};
+use arguments::{MASK_WORDS, check_mask, functions, labels, mask_zero, row_at, size_of};
 use code_numbers::{ACTION, CHOICE, CONSTANT, DONE, GUARD, INTERNAL, PARALLEL, SEQUENCE, STAR};
 use grammar::{Scope, check_cond};
+use scan::repeats::leading;
 use scan::{behind, last};
-use weights::{Limits, Weight, choice, empty, guard, narrow, parallel, sequence, single, star};
+use weights::{Joint, Limits, Weight, empty, guard, narrow, single, stars};
 
 // Above every answer that says what was read.
 const WRONG: usize = 1152921504606846976;
@@ -28,14 +33,6 @@ const WRONG: usize = 1152921504606846976;
 pub struct Given {
     pub reach: u32,
     pub breadth: u32,
-}
-
-// Two operands in a row: of a parallel, whether its mask is zero.
-#[derive(Clone, Copy)]
-enum Pair {
-    Sequence,
-    Choice,
-    Parallel(bool),
 }
 
 // ── answers ──
@@ -59,7 +56,8 @@ fn breadth(p: usize) -> u32
     (p / 8589934592) as u32
 }
 
-// What an answer tells of a term of n words.
+// What an answer says of a term of n words.
+#[tactic(auto, using(crate::proofs::Numbers::weigh_in))]
 fn weigh(n: usize, p: usize) -> Weight
     requires { n ≤ 8192 }
     ensures { measure result ≡ unpacked n p }
@@ -78,27 +76,17 @@ fn pack(n: usize, w: Weight) -> usize
     n + 65536 * (w.reach as usize + 131072 * (w.breadth as usize))
 }
 
-fn join(pair: Pair, a: Weight, b: Weight) -> Weight
-    ensures { measure result ≡ join_of pair (measure a) (measure b) }
-{
-    match pair {
-        Pair::Sequence => sequence(a, b),
-        Pair::Choice => choice(a, b),
-        Pair::Parallel(zero) => parallel(zero, a, b),
-    }
-}
-
 // The answer of two operands from that of the first, which had n words before it, and of the second.
-fn joined(pair: Pair, n: usize, p: usize, q: usize) -> usize
+fn joined(joint: Joint, n: usize, p: usize, q: usize) -> usize
     requires { Operands n p q }
-    ensures { result ≡ joined_of pair n p q }
+    ensures { result ≡ joined_of joint n p q }
 {
     let m = left(p);
     let k = left(q);
-    pack(k, join(pair, weigh(n - m, p), weigh(m - k, q)))
+    pack(k, weights::joined(joint, weigh(n - m, p), weigh(m - k, q)))
 }
 
-// The answer of a guard of n words, m of them behind its condition, from that of its operand.
+// The answer of a guard of n words, m of them after its condition, from that of its operand.
 fn under_guard(n: usize, m: usize, p: usize) -> usize
     requires { Operand n m p }
     ensures { result ≡ guarded_of n m p }
@@ -107,22 +95,19 @@ fn under_guard(n: usize, m: usize, p: usize) -> usize
     pack(k, guard(narrow(n - m), weigh(m - k, p)))
 }
 
-// The answer of n words under k stars, from that of the words: a loop, so that nested stars cost no recursion.
+// The answer of n words under k stars, from that of the words.
 fn under_stars(k: usize, n: usize, p: usize) -> usize
     requires { Answer n p }
     ensures { result ≡ starred_of k n p }
 {
     let m = left(p);
-    let mut w = weigh(n - m, p);
-    for _ in 0..k {
-        w = star(w);
-    }
-    pack(m, w)
+    pack(m, stars(k, weigh(n - m, p)))
 }
 
 // ── terms ──
 
 // An element of each of some domains, code 1 and a value: how many words are left.
+#[tactic(auto, using(crate::proofs::Values::some_elements))]
 fn elements(t: &[u16], tb: &[u32], ds: &[u32]) -> usize
     ensures { result ≡ left_of (elements_of 1 (sizes_of (declared tb.now) ds.now) t.now) }
 {
@@ -141,6 +126,7 @@ fn elements(t: &[u16], tb: &[u32], ds: &[u32]) -> usize
 }
 
 // A label and its arguments.
+#[tactic(auto, using(crate::proofs::Leaves::actions))]
 fn action(t: &[u16], tb: &[u32]) -> usize
     requires { length t.now ≤ 8192 }
     ensures { result ≡ weighed_running (action_of (declared tb.now) t.now) }
@@ -152,7 +138,7 @@ fn action(t: &[u16], tb: &[u32]) -> usize
     if labels(tb) <= l {
         return WRONG;
     }
-    let ds = row_at(tb, 18 + 3 * l);
+    let ds = row_at(tb, LABEL_ROWS + LABEL_WORDS * l);
     let m = elements(behind(t), tb, ds);
     if m == WRONG {
         return WRONG;
@@ -160,25 +146,14 @@ fn action(t: &[u16], tb: &[u32]) -> usize
     pack(m, single(2 + 2 * narrow(ds.len())))
 }
 
-// How many stars stand in front.
-fn stars(t: &[u16]) -> usize
-    ensures { InFront t.now result }
-{
-    for i in 0..t.len() {
-        if t[i] as usize != STAR {
-            return i;
-        }
-    }
-    t.len()
-}
-
-// A term with a star in front: the words behind that star.
+// A term under a star, of the words after that star's code: the other stars before it are counted and not descended into.
 #[cycle(running)]
+#[tactic(auto, using(crate::proofs::Nested::starred_terms))]
 fn starred(t: &[u16], tb: &[u32]) -> usize
     requires { length t.now ≤ 8192 }
     ensures { result ≡ weighed_running (giving Star (read_term (declared tb.now) t.now)) }
 {
-    let k = stars(t);
+    let k = leading(t, STAR);
     let n = t.len() - k;
     let p = check_running(last(t, n), tb);
     if p == WRONG {
@@ -189,9 +164,10 @@ fn starred(t: &[u16], tb: &[u32]) -> usize
 
 // Two terms in a row.
 #[cycle(running)]
-fn two_terms(t: &[u16], tb: &[u32], sort: Pair) -> usize
+#[tactic(auto, using(crate::proofs::Parts::pairs))]
+fn two_terms(t: &[u16], tb: &[u32], joint: Joint) -> usize
     requires { length t.now ≤ 8192 }
-    ensures { result ≡ weighed_pair sort (both (read_term (declared tb.now)) (read_term (declared tb.now)) t.now) }
+    ensures { result ≡ weighed_pair joint (both (read_term (declared tb.now)) (read_term (declared tb.now)) t.now) }
 {
     let p = check_running(t, tb);
     if p == WRONG {
@@ -202,23 +178,25 @@ fn two_terms(t: &[u16], tb: &[u32], sort: Pair) -> usize
     if q == WRONG {
         return WRONG;
     }
-    joined(sort, t.len(), p, q)
+    joined(joint, t.len(), p, q)
 }
 
 // A mask and two terms.
 #[cycle(running)]
+#[tactic(auto, using(crate::proofs::Parts::parallels))]
 fn in_parallel(t: &[u16], tb: &[u32]) -> usize
     requires { length t.now ≤ 8192 }
     ensures { result ≡ weighed_running (term_by (declared tb.now) (read_term (declared tb.now)) TermKind.parallel t.now) }
 {
-    let Ok(n) = check_mask(t, 4, labels(tb)) else {
+    let Ok(n) = check_mask(t, MASK_WORDS, labels(tb)) else {
         return WRONG;
     };
-    two_terms(last(t, n), tb, Pair::Parallel(mask_zero(t)))
+    two_terms(last(t, n), tb, Joint::Parallel(mask_zero(t)))
 }
 
 // A condition, whose size is the words that it took, and a term.
 #[cycle(running)]
+#[tactic(auto, using(crate::proofs::Parts::guards))]
 fn guarded(t: &[u16], tb: &[u32]) -> usize
     requires { length t.now ≤ 8192 }
     ensures { result ≡ weighed_running (term_by (declared tb.now) (read_term (declared tb.now)) TermKind.guard t.now) }
@@ -240,6 +218,7 @@ fn guarded(t: &[u16], tb: &[u32]) -> usize
 
 // The running term at the front.
 #[cycle(running)]
+#[tactic(auto, using(crate::proofs::Codes::codes))]
 fn check_running(s: &[u16], tb: &[u32]) -> usize
     requires { length s.now ≤ 8192 }
     ensures { result ≡ weighed_running (read_term (declared tb.now) s.now) }
@@ -251,8 +230,8 @@ fn check_running(s: &[u16], tb: &[u32]) -> usize
     match s[0] as usize {
         INTERNAL => pack(t.len(), single(1)),
         ACTION => action(t, tb),
-        SEQUENCE => two_terms(t, tb, Pair::Sequence),
-        CHOICE => two_terms(t, tb, Pair::Choice),
+        SEQUENCE => two_terms(t, tb, Joint::Sequence),
+        CHOICE => two_terms(t, tb, Joint::Choice),
         STAR => starred(t, tb),
         PARALLEL => in_parallel(t, tb),
         GUARD => guarded(t, tb),

@@ -1,28 +1,47 @@
--- A case for each way that main's unfolding returns. The premises have the form of what the code tells there.
+-- A case for each way that main's unfolding returns. The premises have the form of what the code says there.
 -- Document 01, "Unfolding, size and breadth".
 use mathlib.Core.Path.{◌≡◌, refl, sym, ap, ◌∙◌, subst}
-use mathlib.Core.List.{List, []}
-use Prim.Native.Nat.{ℕ, ◌+◌, ◌-◌, ◌*◌, ◌/◌, ◌≤◌, ◌<◌}
-use native.Mathlib.Nat.{zero-add}
+use mathlib.Core.List.{List, [], ◌++◌, append_assoc}
+use Prim.Native.Nat.{ℕ, ◌+◌, ◌-◌, ◌*◌, ◌≤◌, ◌<◌, min}
 use native.Mathlib.Omega.{arith}
-use lib.ListN.{length, get_or}
-use Rattle.eb3.specs.Bytes.{written}
+use lib.ListN.{length, get_or, take, drop, length-append, length-drop}
+use lib.Seq.{drop-append-le, length-take-le}
+use Rattle.std.proofs.lemmas.List.{take-append-drop}
+use Rattle.std.specs.Prelude.{Option, Some, None, MatchOption, unwrap_or}
+use Rattle.eb3.specs.Bytes.{bytes_of, written}
 use Rattle.eb3.specs.Generic.Lists.{Within}
 use Rattle.eb3.specs.RuleSets.{RuleSet, sizes_of, process, main_process}
 use Rattle.eb3.specs.Spelling.{words}
 use Rattle.eb3.specs.Unfolding.{unfold_main}
-use Rattle.unfold.specs.Unfolded.{Ready, RuleTermAt, Unfolding}
+use Rattle.unfold.specs.declared.writer.Writer.{Writer}
+use Rattle.unfold.specs.Written.{written_from}
+use Rattle.unfold.specs.Unfolded.{Ready, RuleTermAt, unfolded_words, Unfolding, UnfoldedInto}
 use Rattle.unfold.specs.PutsLaws.{from_start}
 use Rattle.unfold.proofs.RuleFacts.{process_count, body_stands}
 
--- e is the number of processes as it stands in the tables, and k as the code has it
+-- Words written into the first m bytes of a buffer.
+front_written : (ws x : List ℕ) (m : ℕ) → 2 * length ws ≤ m → m ≤ length x → written ws (take m x) ++ drop m x ≡ written ws x
+unfolding written
+front_written ws x m h l =
+    append_assoc (bytes_of ws) (drop (2 * length ws) (take m x)) (drop m x)
+    ∙ ap (λ z. bytes_of ws ++ z) (sym (drop-append-le (2 * length ws) (take m x) (drop m x) (omega (arith, length-take-le m x l))) ∙ ap (λ z. drop (2 * length ws) z) (take-append-drop m x))
+
+-- From the writer a at the first word of x to the writer b, whose buffer is y.
+pub into_put : (t T : List ℕ) (n i : ℕ) (σ : List ℕ) (a b : Writer) (y : List ℕ) (left : ℕ) → a.at ≡ 0 → y ≡ b.bytes.now → Unfolding t T n i σ a b (Some left) → UnfoldedInto t T n i σ a.bytes.now y (Some b.at)
+into_put t T n i σ a b y left z e u = record {
+  same_length = ap length e ∙ u.same_length;
+  unfolded = λ R Γ E rest ready there. let d = u.unfolded R Γ E rest ready there in
+      (omega (arith, d.ends), e ∙ d.written_there ∙ ap (λ k. written_from k (unfolded_words R i E σ) a.bytes.now) z ∙ from_start (unfolded_words R i E σ) a.bytes.now);
+}
+
+-- k is the number of processes
 module _ (t T x : List ℕ) where
   abbrev Main : List ℕ → ℕ → Type 0
   Main y w = (length y ≡ length x) × ((R : RuleSet) → Ready t T R → length (words 1 (unfold_main R)) ≤ 65535 → 2 * length (words 1 (unfold_main R)) ≤ length x → (w ≡ length (words 1 (unfold_main R))) × (y ≡ written (words 1 (unfold_main R)) x))
 
-  module _ (e k : ℕ) (is_e : e ≡ get_or T 211 0) (is_k : k ≡ e) where
+  module _ (k : ℕ) (is_k : k ≡ get_or T 211 0) where
     counted : (R : RuleSet) → Ready t T R → k ≡ length R.processes
-    counted R ready = is_k ∙ is_e ∙ process_count t T R ready
+    counted R ready = is_k ∙ process_count t T R ready
 
     pub main_none : k ≡ 0 → Main x 0
     main_none z = (refl, λ R ready few room. absurd (let f : ⊥ = omega (arith, counted R ready, ready.form.process_count.0) in f))
@@ -30,27 +49,36 @@ module _ (t T x : List ℕ) where
     pub main_many : 32 < k → Main x 0
     main_many h = (refl, λ R ready few room. absurd (let f : ⊥ = omega (arith, counted R ready, ready.form.process_count.1) in f))
 
-    pub main_put : (f start : ℕ) (y : List ℕ) (q : ℕ) → f ≡ get_or T (212 + 9 * (k - 1) + 8) 0 → start ≡ f → Unfolding t T start (k - 1) [] 0 x y q → Main y (q / 65536)
-    unfolding unfold_main
-    main_put f start y q is_f is_start u = (
-      u.same_length,
-      λ R ready few room.
-          let p = main_process R in
-          let n : 0 + length (words 1 (unfold_main R)) ≡ length (words 1 (unfold_main R)) = zero-add (length (words 1 (unfold_main R))) in
-          let some = ready.form.process_count.0 in
-          let below : p < length R.processes = omega arith in
-          let p_is : k - 1 ≡ p = omega (arith, counted R ready) in
-          let stands = body_stands t T R ready p below in
-          let start_is : start ≡ get_or T (212 + 9 * p + 8) 0 = is_start ∙ is_f ∙ ap (λ j. get_or T (212 + 9 * j + 8) 0) p_is in
-          let v : Unfolding t T (get_or T (212 + 9 * p + 8) 0) p [] 0 x y q = subst (λ j. Unfolding t T j p [] 0 x y q) start_is (subst (λ j. Unfolding t T start j [] 0 x y q) p_is u) in
-          let there : RuleTermAt t (get_or T (212 + 9 * p + 8) 0) R p (process R p).parameters [] (process R p).term stands.0 = record {
-            process_there = omega arith;
-            fits = ready.form.process_terms p below;
-            values = subst (λ ds. Within (sizes_of R ds) []) (sym ready.form.main_parameters) tt;
-            few = omega (arith, (ready.form.process_heads p below).0);
-            spelled = stands.1;
-          } in
-          let d = v.right R (process R p).parameters (process R p).term stands.0 ready there
-          (v.has_room R (process R p).parameters (process R p).term stands.0 ready there (subst (λ j. j ≤ 65535) (sym n) few) (subst (λ j. 2 * j ≤ length x) (sym n) room)) in
-          (d.ends ∙ n, d.written_there ∙ from_start (words 1 (unfold_main R)) x),
-    )
+    -- m is how long the front of the buffer is that is lent on, and z the front after
+    module _ (f start m : ℕ) (is_f : f ≡ get_or T (212 + 9 * (k - 1) + 8) 0) (is_start : start ≡ f) (is_m : m ≡ min (length x) 131070) (z : List ℕ) where
+      long : length z ≡ length (take m x) → length (z ++ drop m x) ≡ length x
+      long h = omega (arith, length-append z (drop m x), h, length-take-le m x (omega arith), length-drop m x)
+
+      pub main_put : (r : Option ℕ) (w : ℕ) → UnfoldedInto t T start (k - 1) [] (take m x) z r → w ≡ unwrap_or r 0 → Main (z ++ drop m x) w
+      unfolding unfold_main
+      main_put r w u is_w = (
+        long u.same_length,
+        λ R ready few room.
+            let p = main_process R in
+            let ws = words 1 (unfold_main R) in
+            let some = ready.form.process_count.0 in
+            let below : p < length R.processes = omega arith in
+            let p_is : k - 1 ≡ p = omega (arith, counted R ready) in
+            let stands = body_stands t T R ready p below in
+            let start_is : start ≡ get_or T (212 + 9 * p + 8) 0 = is_start ∙ is_f ∙ ap (λ j. get_or T (212 + 9 * j + 8) 0) p_is in
+            let v : UnfoldedInto t T (get_or T (212 + 9 * p + 8) 0) p [] (take m x) z r = subst (λ j. UnfoldedInto t T j p [] (take m x) z r) start_is (subst (λ j. UnfoldedInto t T start j [] (take m x) z r) p_is u) in
+            let there : RuleTermAt t (get_or T (212 + 9 * p + 8) 0) R p (process R p).parameters [] (process R p).term stands.0 = record {
+              process_there = omega arith;
+              fits = ready.form.process_terms p below;
+              values = subst (λ ds. Within (sizes_of R ds) []) (sym ready.form.main_parameters) tt;
+              few = omega (arith, (ready.form.process_heads p below).0);
+              spelled = stands.1;
+            } in
+            let d = by_answer ws r w is_w (omega (arith, length-take-le m x (omega arith))) (v.unfolded R (process R p).parameters (process R p).term stands.0 ready there) in
+            (d.0, ap (λ y. y ++ drop m x) d.1 ∙ front_written ws x m (omega arith) (omega arith)),
+      )
+        where
+          by_answer : (ws : List ℕ) (r : Option ℕ) (w : ℕ) → w ≡ unwrap_or r 0 → 2 * length ws ≤ length (take m x) → MatchOption r (length (take m x) < 2 * length ws) (λ k. (k ≡ length ws) × (z ≡ written ws (take m x)))
+              → (w ≡ length ws) × (z ≡ written ws (take m x))
+          by_answer ws None w e room h = absurd (let l : ⊥ = omega arith in l)
+          by_answer ws (Some q) w e room h = (e ∙ h.0, h.1)

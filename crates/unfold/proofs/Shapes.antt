@@ -1,4 +1,4 @@
--- A term's words by its code: what the part of the unfolding that stands for the code says.
+-- A term's words by its code: what the part of the unfolding that is for the code says.
 use mathlib.Core.Path.{◌≡◌, refl, sym, ap, ◌∙◌, subst}
 use mathlib.Core.Bool.{Bool, true, false}
 use mathlib.Core.List.{List, [], ◌∷◌, ◌++◌, map, append_assoc, append-nil}
@@ -58,7 +58,7 @@ arguments_long [] = refl
 arguments_long (constant_argument v ∷ rs) = omega (arith, arguments_long rs)
 arguments_long (variable_argument i ∷ rs) = omega (arith, arguments_long rs)
 
--- j arguments stand before these
+-- j arguments are before these
 values_from : (σ s rest : List ℕ) (rs : List Argument) (j : ℕ) → drop (2 * j) s ≡ concat_map (argument_words 1) rs ++ rest → from j (length rs) (argument_at σ s) ≡ map (argument_value σ) rs
 unfolding from argument_words number_words argument_value argument_at
 values_from σ s rest [] j e = refl
@@ -98,7 +98,7 @@ abbrev Either : Bool → Type 0 → Type 0 → Type 0
 Either true A B = A
 Either false A B = B
 
--- m words are left behind the code
+-- m words are left after the code
 abbrev pub Shape : List ℕ → List ℕ → ℕ → ℕ → List ℕ → ℕ → List ℕ → List ℕ → Type 0
 Shape t T m i σ c ws rest =
     Either (eqb c 20) (Exactly (20 ∷ []) m ws rest)
@@ -112,7 +112,7 @@ Shape t T m i σ c ws rest =
     (Either (eqb c 28) (Overs t T m i σ 25 4 ws rest)
     (Either (eqb c 29) (Calls t T m i σ ws rest) ⊥)))))))))
 
--- A term where n words are left; u is the words behind its code c.
+-- A term where n words are left; u is the words after its code c.
 module _ (t T : List ℕ) (n m i : ℕ) (σ : List ℕ) (R : RuleSet) (ready : Ready t T R) (there : i ≤ length R.processes) (Γ : List ℕ) (values : Within (sizes_of R Γ) σ) (few : length Γ ≤ 8) (is_m : m ≡ length (last_of n t) - 1) where
   module _ (c : ℕ) (u : List ℕ) (e : last_of n t ≡ c ∷ u) where
     m_long : m ≡ length u
@@ -121,7 +121,7 @@ module _ (t T : List ℕ) (n m i : ℕ) (σ : List ℕ) (R : RuleSet) (ready : R
     behind : last_of m t ≡ u
     behind = ap (λ k. last_of k t) m_long ∙ last_behind t u (c ∷ []) n e
 
-    -- a part of it, behind some words
+    -- a part of it, after some words
     part_of : (E : RuleTerm) (v rest : List ℕ) → u ≡ v ++ (rule_words 1 E ++ rest) → Allowed R i Γ E → Unfolds t T (length (rule_words 1 E ++ rest)) i σ (unfolded_words R i E σ) rest
     part_of E v rest f a = record {
       rules = R;
@@ -216,7 +216,7 @@ module _ (t T : List ℕ) (n m i : ℕ) (σ : List ℕ) (R : RuleSet) (ready : R
           };
         }
 
-    -- w is the words of a quantifier's term and those behind it
+    -- w is the words of a quantifier's term and those after it
     module _ (E : RuleTerm) (d k : ℕ) (Δ rest : List ℕ) (l : length Δ ≡ k) (f : u ≡ d ∷ (Δ ++ (rule_words 1 E ++ rest))) (defined : d < length R.domains) (free : length Γ < 8) (a : Allowed R i (Γ ++ (d ∷ [])) E) where
       abbrev w : List ℕ
       w = rule_words 1 E ++ rest
@@ -238,7 +238,7 @@ module _ (t T : List ℕ) (n m i : ℕ) (σ : List ℕ) (R : RuleSet) (ready : R
       }
 
       module _ (head : List ℕ) (join : Term → Term → Term) (joined_words : (A B : Term) → words 1 (join A B) ≡ head ++ (words 1 A ++ words 1 B)) where
-        -- the copies for x and the N elements behind it
+        -- the copies for x and the N elements after it
         nest : (N x : ℕ) (copy : ℕ → Term) → ((y : ℕ) → y ≤ N → Unfolds t T (length w) i (σ ++ ((x + y) ∷ [])) (words 1 (copy y)) rest) → Copies t T (length w) i σ head x N (words 1 (right_nest Done join (suc N) copy)) rest
         unfolding Copies right_nest
         nest zero x copy h = subst (λ y. Unfolds t T (length w) i (σ ++ (y ∷ [])) (words 1 (copy 0)) rest) (let z : x + 0 ≡ x = omega arith in z) (h 0 (omega arith))

@@ -1,6 +1,6 @@
 -- Expressions in a row with their variables become constants (document 01, "Unfolding, size and breadth"): the arguments of an action, and a guard's
 -- condition. Each variable's two words become a constant's two words, so the words are gone through from the front: the first word or two of an
--- expression, and as many expressions behind them as its code has operands.
+-- expression, and as many expressions after them as its code has operands.
 use Rattle.std.specs.Prelude.{◌≡◌, List, [], ◌∷◌, ◌++◌, map, ℕ, eqb, length, take, get_or}
 use Rattle.eb3.specs.Generic.Lists.{concat_map}
 use Rattle.eb3.specs.Generic.AllLists.{All}
@@ -54,7 +54,7 @@ abbrev pub PlainExpression : Expression → Type 0
 PlainExpression (value a) = PlainData a
 PlainExpression (test c) = PlainCond c
 
--- Where n words of t are left stand k expressions in a row; their variables have the values σ.
+-- Where n words of t are left there are k expressions in a row; their variables have the values σ.
 pub record Instantiates (t σ : List ℕ) (k n : ℕ) (ws rest : List ℕ) : Type 0 where
   pub row : List Expression
   pub counted : length row ≡ k
@@ -64,7 +64,7 @@ pub record Instantiates (t σ : List ℕ) (k n : ℕ) (ws rest : List ℕ) : Typ
 
 -- ── the front of an expression, by its code ──
 
--- How many words it has, and how many expressions stand behind them.
+-- How many words it has, and how many expressions follow them.
 unfoldable pub front_width : ℕ → ℕ
 front_width c = pick (eqb c 1) 2 (pick (eqb c 2) 2 (pick (eqb c 6) 2 (pick (eqb c 7) 2 1)))
 

@@ -22,7 +22,7 @@ all_words es = concat_map expression_words es
 abbrev all_put : List ℕ → List Expression → List ℕ
 all_put σ es = concat_map expression_words (map (instantiate σ) es)
 
--- An expression's code, the word behind the code if it has one, and the expressions behind those.
+-- An expression's code, the word after the code if it has one, and the expressions after those.
 record Front (σ : List ℕ) (e : Expression) : Type 0 where
   code : ℕ
   operand : List ℕ
@@ -42,7 +42,7 @@ three : (a b c : List ℕ) → a ++ (b ++ c) ≡ a ++ (b ++ (c ++ []))
 three a b c = ap (λ z. a ++ z) (two b c)
 
 module _ (σ : List ℕ) where
-  -- a code with no word behind it, and some expressions
+  -- a code with no word after it, and some expressions
   bare : (e : Expression) (c : ℕ) (ps : List Expression) → expression_words e ≡ c ∷ all_words ps → expression_words (instantiate σ e) ≡ c ∷ all_put σ ps → All PlainExpression ps → front_width c ≡ 1 → length ps ≡ operands c
       → ((u : List ℕ) → front_words σ (c ∷ u) 1 ≡ c ∷ []) → Front σ e
   bare e c ps s i a w n f = record { code = c; operand = []; put = c ∷ []; parts = ps; spelled = s; instantiated = i; all_plain = a; width = w; counted = n; same_put = f }
@@ -91,7 +91,7 @@ plain_append : (es fs : List Expression) → All PlainExpression es → All Plai
 plain_append [] fs h k = k
 plain_append (e ∷ es) fs h k = (h.0, plain_append es fs h.1 k)
 
--- the words behind others, where those are told by how many are left
+-- the words after others, given by how many are left
 pub last_behind : (t u v : List ℕ) (n : ℕ) → last_of n t ≡ v ++ u → last_of (length u) t ≡ u
 unfolding last_of
 last_behind t u v n e = tail_at u t (tail_on u (v ++ u) t (length t - n, sym e) (length v, sym (drop-append_seam v u)))

@@ -1,4 +1,4 @@
--- What joins two terms: its code, and how many words of a mask stand behind the code (document 01, "Unfolding, size and breadth").
+-- What joins two terms: its code, and how many words of a mask follow the code (document 01, "Unfolding, size and breadth").
 use Rattle.std.specs.Prelude.{ℕ}
 use Rattle.unfold.specs.declared.Joint.{Joint}
 use Rattle.unfold.specs.declared.Joint.TheVariants.{Sequence, Choice, Parallel}

@@ -1,14 +1,26 @@
--- What a part of the unfolding puts into the buffer that it is lent, from its word `at` on, whatever it is that it says: `S ws rest` says that the words
--- to be put are `ws` and that the words behind those read are `rest`. The contracts of all parts have this form, so that they are joined by the same laws.
+-- What a part of the unfolding puts into the buffer of a writer that it is lent, whatever it is that it says: `S ws rest` says that the words
+-- to be put are `ws` and that the words after those read are `rest`. The contracts of all parts have this form, so that they are joined by the same laws.
 -- Document 01, "Unfolding, size and breadth".
-use Rattle.std.specs.Prelude.{◌≡◌, List, ◌++◌, ℕ, ◌+◌, ◌*◌, ◌/◌, ◌≤◌, ◌<◌, length}
-use Rattle.unfold.specs.Unfolded.{written_from, UnfoldedRight}
+use Rattle.std.specs.Prelude.{◌≡◌, List, ◌++◌, ℕ, ◌+◌, ◌*◌, ◌<◌, length, Option, MatchOption, ⊤}
+use Rattle.unfold.specs.declared.writer.Writer.{Writer}
+use Rattle.unfold.specs.Written.{written_from}
+use Rattle.unfold.specs.Unfolded.{UnfoldedRight}
 
-pub record Puts (S : List ℕ → List ℕ → Type 0) (at : ℕ) (entry exit : List ℕ) (q : ℕ) : Type 0 where
-  pub same_length : length exit ≡ length entry
-  pub end_bounded : q < 4294967296 → 2 * (q / 65536) ≤ length entry
-  pub has_room : (ws rest : List ℕ) → S ws rest → at + length ws ≤ 65535 → 2 * (at + length ws) ≤ length entry → q < 4294967296
-  pub right : (ws rest : List ℕ) → S ws rest → q < 4294967296 → UnfoldedRight ws rest at entry exit q
+-- The writer is x before and y after, and the answer r is how many words are left, or none where there is no room.
+pub record Puts (S : List ℕ → List ℕ → Type 0) (x y : Writer) (r : Option ℕ) : Type 0 where
+  pub same_buffer : y.bytes.ghost_name ≡ x.bytes.ghost_name
+  pub same_length : length y.bytes.now ≡ length x.bytes.now
+  pub put : (ws rest : List ℕ) → S ws rest → MatchOption r (length x.bytes.now < 2 * (x.at + length ws)) (UnfoldedRight ws rest x y)
+
+-- These words are put, or none where there is no room.
+pub record HeadPut (ms : List ℕ) (x y : Writer) : Type 0 where
+  pub ends : y.at ≡ x.at + length ms
+  pub written_there : y.bytes.now ≡ written_from x.at ms x.bytes.now
+
+pub record Heads (ms : List ℕ) (x y : Writer) (r : Option ⊤) : Type 0 where
+  pub same_buffer : y.bytes.ghost_name ≡ x.bytes.ghost_name
+  pub same_length : length y.bytes.now ≡ length x.bytes.now
+  pub put : MatchOption r (length x.bytes.now < 2 * (x.at + length ms)) (λ _. HeadPut ms x y)
 
 -- These words, where n words are left.
 pub record Exactly (ms : List ℕ) (n : ℕ) (ws rest : List ℕ) : Type 0 where
@@ -24,17 +36,17 @@ pub record Then (S : List ℕ → List ℕ → Type 0) (S' : ℕ → List ℕ �
   pub two : S' (length between) back rest
   pub joined : ws ≡ front ++ back
 
--- In a row: from word `at` on words are put so far up to word w, and what G says is to come.
-pub record SoFar (G : List ℕ → List ℕ → Type 0) (ws rest : List ℕ) (at w : ℕ) (entry exit : List ℕ) : Type 0 where
+-- In a row: words are put so far from the writer x up to the writer y, and what G says is to come.
+pub record SoFar (G : List ℕ → List ℕ → Type 0) (ws rest : List ℕ) (x y : Writer) : Type 0 where
   pub put : List ℕ
   pub come : List ℕ
   pub joined : ws ≡ put ++ come
-  pub size : w ≡ at + length put
-  pub written_there : exit ≡ written_from at put entry
+  pub size : y.at ≡ x.at + length put
+  pub written_there : y.bytes.now ≡ written_from x.at put x.bytes.now
   pub says : G come rest
 
 -- Of the words that S says.
-pub record Putting (S G : List ℕ → List ℕ → Type 0) (at w : ℕ) (entry exit : List ℕ) : Type 0 where
-  pub same_length : length exit ≡ length entry
-  pub end_bounded : (2 * w ≤ length entry) × (w ≤ 65535)
-  pub so_far : (ws rest : List ℕ) → S ws rest → SoFar G ws rest at w entry exit
+pub record Putting (S G : List ℕ → List ℕ → Type 0) (x y : Writer) : Type 0 where
+  pub same_buffer : y.bytes.ghost_name ≡ x.bytes.ghost_name
+  pub same_length : length y.bytes.now ≡ length x.bytes.now
+  pub so_far : (ws rest : List ℕ) → S ws rest → SoFar G ws rest x y

@@ -1,5 +1,5 @@
--- What each part of the unfolding says is to be put, by the code that it stands for (document 01, "Unfolding, size and breadth"). All are of the words
--- that are left where the part begins: behind the code.
+-- What each part of the unfolding says is to be put, by the code that it is for (document 01, "Unfolding, size and breadth"). All are of the words
+-- that are left where the part begins: after the code.
 use Rattle.std.specs.Prelude.{◌≡◌, List, [], ◌∷◌, ◌++◌, ℕ, zero, suc, ◌+◌, ◌-◌, ◌*◌, ◌≤◌, ◌<◌, eqb, length, take, drop, get_or}
 use Rattle.eb3.specs.Reading.{pick}
 use Rattle.eb3.specs.RuleSets.{RuleTerm, RuleSet, domain_size}
@@ -49,12 +49,12 @@ module _ (t T : List ℕ) (n : ℕ) where
     abbrev pub Headed : List ℕ → ℕ → List ℕ → List ℕ → Type 0
     Headed h x = Then (Exactly h n) (λ m. Unfolds t T m i (σ ++ (x ∷ [])))
 
-    -- The copies for x and the k elements behind it.
+    -- The copies for x and the k elements after it.
     unfoldable pub Copies : List ℕ → ℕ → ℕ → List ℕ → List ℕ → Type 0
     Copies h x zero = Copy x
     Copies h x (suc k) = Then (Headed h x) (λ m. Copies h (suc x) k)
 
--- Two terms behind a head: a code, and k words of a mask.
+-- Two terms after a head: a code, and k words of a mask.
 abbrev pub Joins : List ℕ → List ℕ → ℕ → ℕ → List ℕ → ℕ → ℕ → List ℕ → List ℕ → Type 0
 Joins t T n i σ c k = Where (k ≤ length (last_of n t)) (Then (Exactly (c ∷ take k (last_of n t)) (length (last_of n t) - k)) (λ m. TwoTerms t T m i σ))
 
@@ -68,7 +68,7 @@ Overs t T n i σ c k =
 unfoldable pub argument_at : List ℕ → List ℕ → ℕ → ℕ
 argument_at σ s j = pick (eqb (get_or s (2 * j) 0) 2) (get_or σ (get_or s (2 * j + 1) 0) 0) (get_or s (2 * j + 1) 0)
 
--- A process's body, where the tables say that it stands; behind k arguments as many words are left as the whole leaves.
+-- A process's body, where the tables say that it is; after k arguments as many words are left as the whole leaves.
 pub record Body (t T : List ℕ) (n p : ℕ) (σ : List ℕ) (k : ℕ) (ws rest : List ℕ) : Type 0 where
   pub behind : List ℕ
   pub unfolds : Unfolds t T (get_or T (212 + 9 * p + 8) 0) p (from 0 k (argument_at σ (last_of n t))) ws behind

@@ -1,6 +1,6 @@
 -- The unfolding of a process term, written into a lent buffer (document 01, "Unfolding, size and breadth": calls are replaced by bodies; 27 and 28
 -- become choices or parallels of the copies, nested to the right; each variable becomes a constant).
-use Rattle.std.specs.Prelude.{◌≡◌, Bool, ◌&&◌, List, ◌++◌, ℕ, ◌+◌, ◌*◌, ◌/◌, ◌%◌, ◌≤◌, ◌<◌, leb, length, take, drop}
+use Rattle.std.specs.Prelude.{◌≡◌, List, ◌++◌, ℕ, ◌+◌, ◌*◌, ◌≤◌, ◌<◌, length, Option, MatchOption}
 use Rattle.eb3.specs.Generic.Lists.{Within}
 use Rattle.eb3.specs.RuleSets.{RuleTerm, RuleSet, sizes_of}
 use Rattle.eb3.specs.RuleSpelling.{rule_words}
@@ -11,6 +11,9 @@ use Rattle.eb3.specs.Bytes.{written}
 use Rattle.scan.specs.Checking.{last_of}
 use Rattle.declarations.specs.Declaring.{Declares}
 use Rattle.declarations.specs.Directory.{ProcessRows}
+use Rattle.unfold.specs.declared.scope.Scope.{Scope}
+use Rattle.unfold.specs.declared.writer.Writer.{Writer}
+use Rattle.unfold.specs.Written.{written_from}
 
 -- The stream t and the tables T say of a rule set what its terms are unfolded by.
 pub record Ready (t T : List ℕ) (R : RuleSet) : Type 0 where
@@ -18,7 +21,7 @@ pub record Ready (t T : List ℕ) (R : RuleSet) : Type 0 where
   pub declares : Declares T R
   pub processes : ProcessRows t T 0 R.processes
 
--- Where n words of t are left stands a term of process i; its variables have the domains Γ and the values σ.
+-- Where n words of t are left is a term of process i; its variables have the domains Γ and the values σ.
 pub record RuleTermAt (t : List ℕ) (n : ℕ) (R : RuleSet) (i : ℕ) (Γ σ : List ℕ) (E : RuleTerm) (rest : List ℕ) : Type 0 where
   pub process_there : i ≤ length R.processes
   pub fits : Allowed R i Γ E
@@ -29,24 +32,25 @@ pub record RuleTermAt (t : List ℕ) (n : ℕ) (R : RuleSet) (i : ℕ) (Γ σ : 
 abbrev pub unfolded_words : RuleSet → ℕ → RuleTerm → List ℕ → List ℕ
 unfolded_words R i E σ = words 1 (unfold_in R i E σ)
 
--- Words written into a buffer from its word `at` on.
-unfoldable pub written_from : ℕ → List ℕ → List ℕ → List ℕ
-written_from at ws B = take (2 * at) B ++ written ws (drop (2 * at) B)
+-- What D says of the words, the tables, how many words are left, the process and the values of its variables.
+abbrev pub Here : {A : Type 1} → (List ℕ → List ℕ → ℕ → ℕ → List ℕ → A) → Scope → ℕ → A
+Here D s n = D s.words.now s.context.tables.now n s.process s.context.variables.now
 
--- There is room up to word `end`, and no more words than an unfolding may have by far.
-unfoldable pub room_to : ℕ → List ℕ → Bool
-room_to end B = leb end 65535 && leb (2 * end) (length B)
+-- The writer x became y by putting these words, and as many words are left as `rest` has.
+pub record UnfoldedRight (ws rest : List ℕ) (x y : Writer) (left : ℕ) : Type 0 where
+  pub ends : y.at ≡ x.at + length ws
+  pub left_is : left ≡ length rest
+  pub written_there : y.bytes.now ≡ written_from x.at ws x.bytes.now
 
--- An answer below 4,294,967,296 tells the word behind those written and how many words are left behind those read; every other one, that there was no
--- room or not what should stand there. Where there was room:
-pub record UnfoldedRight (ws rest : List ℕ) (at : ℕ) (entry exit : List ℕ) (q : ℕ) : Type 0 where
-  pub ends : q / 65536 ≡ at + length ws
-  pub left : q % 65536 ≡ length rest
-  pub written_there : exit ≡ written_from at ws entry
+-- The answer is how many words are left, where there is a term and room for its unfolding; it is none where there is no room.
+pub record Unfolding (t T : List ℕ) (n i : ℕ) (σ : List ℕ) (x y : Writer) (r : Option ℕ) : Type 0 where
+  pub same_buffer : y.bytes.ghost_name ≡ x.bytes.ghost_name
+  pub same_length : length y.bytes.now ≡ length x.bytes.now
+  pub unfolded : (R : RuleSet) (Γ : List ℕ) (E : RuleTerm) (rest : List ℕ) → Ready t T R → RuleTermAt t n R i Γ σ E rest
+      → MatchOption r (length x.bytes.now < 2 * (x.at + length (unfolded_words R i E σ))) (UnfoldedRight (unfolded_words R i E σ) rest x y)
 
-pub record Unfolding (t T : List ℕ) (n i : ℕ) (σ : List ℕ) (at : ℕ) (entry exit : List ℕ) (q : ℕ) : Type 0 where
-  pub same_length : length exit ≡ length entry
-  pub end_bounded : q < 4294967296 → 2 * (q / 65536) ≤ length entry
-  pub has_room : (R : RuleSet) (Γ : List ℕ) (E : RuleTerm) (rest : List ℕ) → Ready t T R → RuleTermAt t n R i Γ σ E rest
-      → at + length (unfolded_words R i E σ) ≤ 65535 → 2 * (at + length (unfolded_words R i E σ)) ≤ length entry → q < 4294967296
-  pub right : (R : RuleSet) (Γ : List ℕ) (E : RuleTerm) (rest : List ℕ) → Ready t T R → RuleTermAt t n R i Γ σ E rest → q < 4294967296 → UnfoldedRight (unfolded_words R i E σ) rest at entry exit q
+-- The same at the front of a buffer: the answer is how many words are written.
+pub record UnfoldedInto (t T : List ℕ) (n i : ℕ) (σ x y : List ℕ) (r : Option ℕ) : Type 0 where
+  pub same_length : length y ≡ length x
+  pub unfolded : (R : RuleSet) (Γ : List ℕ) (E : RuleTerm) (rest : List ℕ) → Ready t T R → RuleTermAt t n R i Γ σ E rest
+      → MatchOption r (length x < 2 * length (unfolded_words R i E σ)) (λ k. (k ≡ length (unfolded_words R i E σ)) × (y ≡ written (unfolded_words R i E σ) x))

@@ -1,51 +1,20 @@
-// Codes with the words that go with them, and rows of expressions whose variables become constants: an action's arguments
-// and a guard's condition (document 01, "Unfolding, size and breadth").
-ghost use Rattle.std.specs.Prelude.{◌≡◌, ◌+◌, ◌-◌, ◌*◌, ◌%◌, ◌≤◌, ◌<◌, [], ◌∷◌, length};
-ghost use Rattle.unfold.specs.Unfolded.{written_from, room_to};
-ghost use Rattle.unfold.specs.Puts.{Puts, Exactly};
+// Rows of expressions whose variables become constants: an action's arguments and a guard's condition (document 01, "Unfolding, size and
+// breadth").
+ghost use Rattle.std.specs.Prelude.{◌≡◌, ◌≤◌, length, IfSome};
+ghost use Rattle.unfold.specs.Puts.{Puts, Heads};
 ghost use Rattle.unfold.specs.Instantiation.{Instantiates, front_width, operands, front_words};
 ghost use Rattle.unfold.specs.Saying.{Performs, Conditions};
 
-use super::NONE;
-use super::values::value_of;
+use super::scope::Scope;
+use super::writer::Writer;
+use arguments::layout::{LABEL_ROWS, LABEL_WORDS};
 use arguments::row_at;
 use code_numbers::{ACTION, BEFORE, CONSTANT, GUARD, IF, NOT, NOW, TRUE, UNDEFINED, VARIABLE};
 use scan::{behind, first, last};
 
-// One word at a place with room for it.
-fn put(w: u16, out: &mut [u8], at: usize)
-    requires { (at ≤ 65535) × (2 * at + 2 ≤ length out.old) }
-    ensures { out.new ≡ written_from at (w ∷ []) out.old }
-{
-    let k = 2 * at;
-    out[k..k + 2].copy_from_slice(&w.to_le_bytes());
-}
-
-// Whether there is room up to word `end`; no unfolding within the limits has more than 65,535 words.
-#[tactic(auto, unfolding(crate::specs::Unfolded::room_to))]
-fn has_room(out: &[u8], end: usize) -> bool
-    ensures { result ≡ room_to end out.now }
-{
-    end <= 65535 && end <= out.len() / 2
-}
-
-// A code and the words that go with it; n words are left behind those read.
-pub fn put_head(c: u16, ms: &[u16], n: usize, out: &mut [u8], at: usize) -> usize
-    requires { (n ≤ 65535) × (at ≤ 65535) × (2 * at ≤ length out.old) }
-    ensures { Puts (Exactly (c ∷ ms.now) n) at out.old out.new result }
-{
-    let end = at + 1 + ms.len();
-    if !has_room(out, end) {
-        return NONE;
-    }
-    put(c, out, at);
-    for (i, w) in ms.iter().enumerate() {
-        put(*w, out, at + 1 + i);
-    }
-    65536 * end + n
-}
-
 // How many words the front of an expression has.
+// Stays, and so does operands_of: codes::words_after and codes::operands_after ask for a code up to 30. Any word may come here, so that a test
+// and an answer for a word that is no code would be needed before each.
 #[tactic(auto, unfolding(crate::specs::Instantiation::front_width))]
 fn width_of(c: usize) -> usize
     ensures { (result ≡ front_width c) × (1 ≤ result) × (result ≤ 2) }
@@ -56,7 +25,7 @@ fn width_of(c: usize) -> usize
     }
 }
 
-// How many expressions stand behind its front.
+// How many expressions follow its front.
 #[tactic(auto, unfolding(crate::specs::Instantiation::operands))]
 fn operands_of(c: usize) -> usize
     ensures { (result ≡ operands c) × (result ≤ 3) }
@@ -70,73 +39,60 @@ fn operands_of(c: usize) -> usize
 }
 
 // The front of an expression, of m words; a variable's becomes a constant's.
-fn put_front(s: &[u16], vars: &[u16], m: usize, out: &mut [u8], at: usize) -> usize
-    requires { (1 ≤ m) × (m ≤ length s.now) × (m ≤ 2) × (length s.now ≤ 65535) × (at ≤ 65535) × (2 * at ≤ length out.old) }
-    ensures { Puts (Exactly (front_words vars.now s.now m) (length s.now - m)) at out.old out.new result }
+fn put_front(s: &[u16], vars: &[u16], m: usize, out: &mut Writer) -> Option<()>
+    requires { (1 ≤ m) × (m ≤ length s.now) }
+    ensures { Heads (front_words vars.now s.now m) out.old out.new result }
 {
     let c = s[0];
-    let n = s.len() - m;
     if c as usize == VARIABLE {
-        let v = [value_of(vars, first(behind(s)))];
-        return put_head(CONSTANT as u16, &v, n, out, at);
+        let v = [vars.get(first(behind(s))).copied().unwrap_or(0)];
+        return out.head(CONSTANT as u16, &v);
     }
-    put_head(c, &s[1..m], n, out, at)
+    out.head(c, &s[1..m])
 }
 
-// Expressions in a row, as many as `count` says, their variables become constants.
-pub fn put_row(t: &[u16], vars: &[u16], n: usize, count: usize, out: &mut [u8], at: usize) -> usize
-    requires { (length t.now ≤ 65535) × (count ≤ 2305843009213693952) × (at ≤ 65535) × (2 * at ≤ length out.old) }
-    ensures puts { Puts (Instantiates t.now vars.now count n) at out.old out.new result }
-    ensures left { result < 4294967296 → result % 65536 ≤ n }
+// `count` expressions in a row, their variables become constants.
+// Stays `while`: no index is counted, and a code says how many expressions follow it.
+pub fn put_row(scope: &Scope, n: usize, count: usize, out: &mut Writer) -> Option<usize>
+    requires { count ≤ 2305843009213693952 }
+    ensures puts { Puts (Instantiates scope.now.words.now scope.now.context.variables.now count n) out.old out.new result }
+    ensures left { IfSome result (λ left. left ≤ n) }
 {
-    let mut left = last(t, n).len();
+    let mut left = last(scope.words, n).len();
     let mut k = count;
-    let mut w = at;
     while 0 < k {
-        let s = last(t, left);
+        let s = last(scope.words, left);
         let c = first(s);
         let m = width_of(c);
         if s.len() < m {
-            return NONE;
+            return None;
         }
-        let a = put_front(s, vars, m, out, w);
-        if NONE <= a {
-            return NONE;
-        }
+        put_front(s, scope.context.variables, m, out)?;
         k = k - 1 + operands_of(c);
         left = s.len() - m;
-        w = a / 65536;
     }
-    65536 * w + left
+    Some(left)
 }
 
 // An action: its label, and an argument for each of the label's parameters.
-pub fn action(t: &[u16], tb: &[u32], vars: &[u16], n: usize, out: &mut [u8], at: usize) -> usize
-    requires { (length t.now ≤ 65535) × (at ≤ 65535) × (2 * at ≤ length out.old) }
-    ensures { Puts (Performs t.now tb.now n vars.now) at out.old out.new result }
+pub fn action(scope: &Scope, n: usize, out: &mut Writer) -> Option<usize>
+    ensures { Puts (Performs scope.now.words.now scope.now.context.tables.now n scope.now.context.variables.now) out.old out.new result }
 {
-    let s = last(t, n);
+    let s = last(scope.words, n);
     if s.is_empty() {
-        return NONE;
+        return None;
     }
-    let m = s.len() - 1;
-    let a = put_head(ACTION as u16, &s[..1], m, out, at);
-    if NONE <= a {
-        return NONE;
-    }
-    let k = row_at(tb, 18 + 3 * first(s)).len();
-    put_row(t, vars, m, k, out, a / 65536)
+    out.head(ACTION as u16, &s[..1])?;
+    let row = LABEL_ROWS + LABEL_WORDS * first(s);
+    let k = row_at(scope.context.tables, row).len();
+    put_row(scope, s.len() - 1, k, out)
 }
 
 // A guard's code and its condition.
-pub fn condition(t: &[u16], tb: &[u32], vars: &[u16], n: usize, out: &mut [u8], at: usize) -> usize
-    requires { (length t.now ≤ 65535) × (n ≤ 65535) × (at ≤ 65535) × (2 * at ≤ length out.old) }
-    ensures puts { Puts (Conditions t.now tb.now n vars.now) at out.old out.new result }
-    ensures left { result < 4294967296 → result % 65536 ≤ n }
+pub fn condition(scope: &Scope, n: usize, out: &mut Writer) -> Option<usize>
+    ensures puts { Puts (Conditions scope.now.words.now scope.now.context.tables.now n scope.now.context.variables.now) out.old out.new result }
+    ensures left { IfSome result (λ left. left ≤ n) }
 {
-    let a = put_head(GUARD as u16, &t[..0], n, out, at);
-    if NONE <= a {
-        return NONE;
-    }
-    put_row(t, vars, n, 1, out, a / 65536)
+    out.head(GUARD as u16, &scope.words[..0])?;
+    put_row(scope, n, 1, out)
 }

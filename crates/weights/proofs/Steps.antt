@@ -1,6 +1,6 @@
--- Steps one after the other: equal copies nested to the right, one more in front at each step, and stars laid around a term.
+-- Steps one after the other: equal copies nested to the right, one more at the front each time, and stars laid around a term.
 use mathlib.Core.Path.{◌≡◌, refl, sym, ap, ◌∙◌}
-use Prim.Native.Nat.{ℕ, zero, suc, ◌+◌, ◌-◌, ◌≤◌}
+use Prim.Native.Nat.{ℕ, zero, suc, ◌+◌, ◌-◌}
 use native.Mathlib.Omega.{arith}
 use native.Mathlib.Numerals.{add-one}
 use Rattle.eb3.specs.Unfolding.{right_nest}
@@ -16,11 +16,6 @@ module _ (f : Measure → Measure) (m : Measure) where
   pub next_step : (i : ℕ) {w v : Measure} → w ≡ steps f i m → v ≡ f w → v ≡ steps f (i + 1) m
   unfolding steps
   next_step i e h = h ∙ ap f e ∙ ap (λ k. steps f k m) (sym (add-one i))
-
-  pub all_steps : (n i : ℕ) {w : Measure} → i ≤ n → n ≤ i → w ≡ steps f i m → w ≡ steps f n m
-  all_steps n i h k e =
-      let j : i ≡ n = omega arith in
-      rw j at e
 
 module _ (z : Measure) (join : Measure → Measure → Measure) (m : Measure) where
   nested : (n : ℕ) → steps (join m) n m ≡ right_nest z join (suc n) (λ x. m)

@@ -2,16 +2,26 @@
 // limits (document 01, "Unfolding, size and breadth"; refusals 7 and 8).
 #![tactic(auto)]
 
-ghost use Rattle.std.specs.Prelude.{◌≡◌, Bool, ℕ, ◌+◌, ◌*◌, ◌≤◌, ◌<◌, max, min};
+ghost use Rattle.std.specs.Prelude.{◌≡◌, Bool, ℕ, ◌+◌, ◌*◌, ◌^◌, ◌≤◌, ◌<◌, max, min};
 ghost use Rattle.eb3.specs.Unfolding.{right_nest};
 ghost use Rattle.eb3.specs.Measures.{Measure, sat, leaf, nothing, sequence_of, choice_of, star_of, parallel_breadth_of, guard_of};
-ghost use Rattle.weights.specs.Weighing.{measure, cap, reported, parallel_by, stars_of, steps};
+ghost use Rattle.weights.specs.Weighing.{measure, cap, reported, parallel_by, joint_of, stars_of, steps};
 
 #[derive(Clone, Copy)]
 pub struct Weight {
     pub size: u32,
     pub reach: u32,
     pub breadth: u32,
+}
+
+// How two terms are put together: in a parallel, whether its mask is zero.
+// Stays: that, and `zero` of the functions below, is a Bool. The specification's own functions take this Bool, and the check of a mask answers it:
+// an enum beside it would be one name more for the same, turned into the Bool in every clause.
+#[derive(Clone, Copy)]
+pub enum Joint {
+    Sequence,
+    Choice,
+    Parallel(bool),
 }
 
 // The numbers that a rule set is judged by, and those that are reported of one: C, G, W and the start term's size.
@@ -28,7 +38,8 @@ impl Limits {
 
     pub const BREADTH: u32 = 65535;
 
-    // The reported sizes of a rule set with so many cells, whose main measures so.
+    // The reported sizes of a rule set with that many cells, whose main process has these measures.
+    // Stays: three fields are copied. With the weight as one field, whatever reads a report would name that field before them.
     pub fn new(cells: u32, w: Weight) -> Limits
         ensures { result ≡ reported cells (measure w) }
     {
@@ -41,7 +52,7 @@ impl Limits {
     }
 }
 
-// So many words. Stays: it is public, and what is public keeps its promise; today's form is a cast in place.
+// A number of words. Stays: it is public, and what is public keeps its promise; today's form is a cast in place.
 pub fn narrow(x: usize) -> u64
     ensures { result ≡ x }
 {
@@ -139,9 +150,21 @@ pub fn parallel(zero: bool, a: Weight, b: Weight) -> Weight
     }
 }
 
-// n is the condition's size.
+// What two terms measure together.
+#[tactic(auto, unfolding(crate::specs::Weighing::joint_of))]
+pub fn joined(joint: Joint, a: Weight, b: Weight) -> Weight
+    ensures { measure result ≡ joint_of joint (measure a) (measure b) }
+{
+    match joint {
+        Joint::Sequence => sequence(a, b),
+        Joint::Choice => choice(a, b),
+        Joint::Parallel(zero) => parallel(zero, a, b),
+    }
+}
+
+// A guard, whose condition is n words.
 pub fn guard(n: u64, a: Weight) -> Weight
-    requires { n ≤ 65535 }
+    requires { n < 2 ^ 63 }
     ensures { measure result ≡ guard_of (sat cap) n (measure a) }
 {
     let size = cut(cut(1 + n) as u64 + a.size as u64);

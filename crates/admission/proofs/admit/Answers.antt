@@ -1,25 +1,17 @@
-use native.Mathlib.Omega.{arith}
+use mathlib.Core.Path.{ap}
 use Rattle.scan.specs.ReadingLaws.{handed_on}
-use Rattle.admission.specs.OpeningLaws.{admit_refused, admit_blocks, admit_read}
+use Rattle.blocks.specs.Opening.{counted}
+use Rattle.admission.specs.OpeningLaws.{admit_refused, admit_read}
 use Rattle.admission.proofs.admit.Goals as goal
 
-pub admit_sized-requires : goal.admit_sized-requires
-admit_sized-requires c = let h = admit_blocks _ _ c.«open».ensures _ c.in_ok-n.was in (h.0, omega (arith, c.if-n-le1.true), h.1, h.2, omega arith)
+pub returns-then-file-le1 : goal.returns-then-file-le1
+returns-then-file-le1 c = rw (← c.«open».ensures.same_bytes _ c.in_ok-file.was) (admit_read _ c.in_ok-file.file.opened _ c.admit_sized.ensures)
 
-pub returns-then-n-le1 : goal.returns-then-n-le1
-returns-then-n-le1 c = admit_read _ _ c.«open».ensures _ c.in_ok-n.was _ c.admit_sized.ensures
-
-pub admit_sized-requires-then-n-le8 : goal.admit_sized-requires-then-n-le8
-admit_sized-requires-then-n-le8 c = let h = admit_blocks _ _ c.«open».ensures _ c.in_ok-n.was in (h.0, omega (arith, c.if-n-le8.true), h.1, h.2, omega arith)
-
-pub returns-then-n-le8 : goal.returns-then-n-le8
-returns-then-n-le8 c = admit_read _ _ c.«open».ensures _ c.in_ok-n.was _ c.admit_sized-then-n-le8.ensures
-
-pub admit_sized-requires-2 : goal.admit_sized-requires-2
-admit_sized-requires-2 c = let h = admit_blocks _ _ c.«open».ensures _ c.in_ok-n.was in (h.0, omega (arith, h.2), h.1, h.2, omega arith)
+pub returns-then-file-le8 : goal.returns-then-file-le8
+returns-then-file-le8 c = rw (← c.«open».ensures.same_bytes _ c.in_ok-file.was) (admit_read _ c.in_ok-file.file.opened _ c.admit_sized-then-file-le8.ensures)
 
 pub returns : goal.returns
-returns c = admit_read _ _ c.«open».ensures _ c.in_ok-n.was _ c.admit_sized-2.ensures
+returns c = rw (← c.«open».ensures.same_bytes _ c.in_ok-file.was) (admit_read _ c.in_ok-file.file.opened _ c.admit_sized-2.ensures)
 
-pub returns-in_err-n : goal.returns-in_err-n
-returns-in_err-n c = handed_on _ _ _ c.from_residual.ensures (admit_refused _ _ c.«open».ensures _ c.in_err-n.was)
+pub returns-in_err-file : goal.returns-in_err-file
+returns-in_err-file c = handed_on _ _ _ c.from_residual.ensures (admit_refused _ _ c.«open».ensures.answer _ (ap counted c.in_err-file.was))

@@ -1,9 +1,5 @@
-use mathlib.Core.Path.{refl}
 use Rattle.admission.proofs.Cases.{zeros_wrong, zeros_next, zeros_end}
 use Rattle.admission.proofs.zeros.Goals as goal
-
-pub loop-w-init : goal.loop-w-init
-loop-w-init c = refl
 
 pub returns-then-w-ne0 : goal.returns-then-w-ne0
 returns-then-w-ne0 c = zeros_wrong _ _ _ c.loop-w.invariant c.loop-w-test.true c.if-w-ne0.true

@@ -4,11 +4,8 @@ use native.Mathlib.Omega.{arith}
 use Rattle.scan.specs.Checking.{checked}
 use Rattle.eb3.specs.RuleReading.{arguments_of}
 use Rattle.arguments.specs.Tables.{declared}
-use Rattle.arguments.proofs.Rounds.{arguments_start, argument_refused, argument_passed, arguments_all}
+use Rattle.arguments.proofs.Rounds.{argument_refused, argument_passed}
 use Rattle.arguments.proofs.check_arguments.Goals as goal
-
-pub loop-d-init : goal.loop-d-init
-loop-d-init c = search arguments_start
 
 pub loop-d-preserved : goal.loop-d-preserved
 loop-d-preserved c = let e = c.in_ok-n.was in search argument_passed
@@ -18,6 +15,3 @@ returns-in_err-n c =
     let e = c.in_err-n.was in
     let h : Err c.in_err-n.field-0.0 ≡ checked (arguments_of (declared c.args.tb.now) c.args.vars.now c.args.ds.now c.args.t.now) = search argument_refused in
     grind arith
-
-pub returns : goal.returns
-returns c = search arguments_all

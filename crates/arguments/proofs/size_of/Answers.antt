@@ -2,8 +2,8 @@ use Rattle.arguments.proofs.Cases.{size_in, size_out}
 use native.Mathlib.Omega.{arith}
 use Rattle.arguments.proofs.size_of.Goals as goal
 
-pub returns-then-d-entry : goal.returns-then-d-entry
-returns-then-d-entry c = (size_in _ _ _ _ c.entry.ensures c.if-d-entry.true c.entry-then-d-entry.ensures, omega arith)
+pub returns-then-d-domains : goal.returns-then-d-domains
+returns-then-d-domains c = (size_in _ _ _ _ c.domains.ensures c.if-d-domains.true c.entry.ensures, omega arith)
 
 pub returns : goal.returns
-returns c = (size_out _ _ _ c.entry.ensures c.if-d-entry.false, omega arith)
+returns c = (size_out _ _ _ c.domains.ensures c.if-d-domains.false, omega arith)

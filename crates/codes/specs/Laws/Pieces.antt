@@ -1,4 +1,5 @@
--- What an expression or a term opens with: its code, the words before its operands, and its operands, data and conditions before terms.
+-- What an expression or a term opens with: its code, the words before its operands, and its operands, data and conditions before terms (document 01,
+-- "Codes stand before their operands").
 use Rattle.std.specs.Prelude.{◌≡◌, Bool, true, false, ◌&&◌, cond, ℕ, zero, suc, ◌+◌, ◌*◌, ◌≤◌, max, eqb, length, get_or}
 use Rattle.std.proofs.Math.Path.{refl, sym, ap}
 use Rattle.std.proofs.Common.{◌∙◌, get_or-append-add, eq-eqb, ne_eqb}

@@ -1,4 +1,5 @@
--- Edition 1's shape: constants of one word, functions of one parameter; what follows a code is what the table says.
+-- Edition 1's shape: constants of one word, functions of one parameter; what follows a code is what the table says (document 01, "Codes stand before
+-- their operands").
 use Rattle.std.specs.Prelude.{◌≡◌, refl, Bool, true, false, List, ℕ, ◌+◌, ◌%◌, ◌^◌, eqb, get_or}
 use Rattle.std.proofs.Common.{ap, ◌∙◌, arith, ne_eqb}
 use Rattle.std.proofs.Math.Nat.{zero-div}

@@ -1,13 +1,16 @@
--- The loops that skip a row, and that say whether a term can never move: their invariants, and what each turn does to them.
-use Rattle.std.specs.Prelude.{◌≡◌, refl, Bool, true, false, ◌&&◌, cond, List, [], ◌∷◌, ◌++◌, ℕ, suc, ◌+◌, ◌-◌, ◌≤◌, ◌<◌, eqb, length, drop, get_or}
-use Rattle.std.proofs.Common.{sym, ap, ◌∙◌, subst, append_assoc, arith, length-append, length-drop, drop-drop, drop_at, get_or-drop}
+-- The loops that skip a row, and that say whether a term can never move: their invariants, and what each turn does to them (document 01, "Codes stand
+-- before their operands", "Moves, in order").
+use Rattle.std.specs.Prelude.{◌≡◌, refl, Bool, true, false, ◌&&◌, cond, List, [], ◌∷◌, ◌++◌, ℕ, zero, suc, ◌+◌, ◌*◌, ◌-◌, ◌≤◌, ◌<◌, T, eqb, length, drop, get_or}
+use Rattle.std.proofs.Common.{sym, ap, ◌∙◌, subst, append_assoc, arith, length-append, length-drop, drop-drop, drop_at, get_or-drop, eqb→eq}
 use Rattle.eb3.specs.Generic.AllLists.{All}
 use Rattle.eb3.specs.Scopes.{Scope}
 use Rattle.eb3.specs.Terms.{Term, Done, Internal, Perform, Sequence, Choice, Star, Parallel, Guard}
 use Rattle.eb3.specs.Sizes.{breadth}
 use Rattle.eb3.specs.Spelling.{words}
-use Rattle.codes.specs.Table.{moving_code}
-use Rattle.codes.specs.Shapes.{width_of, Shaped, more_words, operand_count}
+use Rattle.eb3.specs.Generic.Lists.{one_of}
+use Rattle.eb3.specs.Reading.{pick}
+use Rattle.codes.specs.Table.{words_after, operands_after, moving_code}
+use Rattle.codes.specs.Shapes.{width_of, Shaped, more_words, argument_count, operand_count}
 use Rattle.codes.specs.Rows.{Piece, of_data, of_cond, of_term, piece_words, piece_fits, IsTerm, Ordered, row_words, Closed, Closing, RowAt, idle_piece, all_idle}
 use Rattle.codes.specs.Laws.Pieces.{Anything, Inner, Opens, term_opens, expression_opens_data, expression_opens_cond}
 
@@ -178,15 +181,14 @@ module _ (shape : ℕ) (s : List ℕ) (at due w : ℕ) where
       sym (ap (λ j. get_or s j 0) i) ∙ sym (get_or-drop at s 0 0) ∙ ap (λ l. get_or l 0 0) e
 
   module _ (P : Scope) (rest : List ℕ) {b : Bool} (o : Front shape P rest (drop at s) due b) where
-    past_end : length s ≤ at → ⊥
-    past_end l = let y : ⊥ = omega (arith, ap length o.there, length-drop at s) in y
+    no_code : (at < length s → 30 < get_or s at 0) → ⊥
+    no_code l =
+        let h : at < length s = omega (arith, ap length o.there, length-drop at s) in
+        omega (arith, l h, code_at o.code (o.more ++ o.behind) o.there, o.known)
 
     module _ (i : w ≡ get_or s at 0) where
       code_is : w ≡ o.code
       code_is = i ∙ code_at o.code (o.more ++ o.behind) o.there
-
-      unknown : 30 < w → ⊥
-      unknown l = let y : ⊥ = omega (arith, code_is, o.known) in y
 
       idle_is : b ≡ cond (moving_code w) false o.later
       idle_is = o.idles ∙ ap (λ c. cond (moving_code c) false o.later) (sym code_is)
@@ -207,11 +209,8 @@ module _ (shape : ℕ) (s : List ℕ) (at due w : ℕ) where
     skip_front : (P : Scope) (xs : List Piece) (rest : List ℕ) (h : RowAt shape s P xs rest) (e : n ≡ length xs) → Front shape P rest (drop at s) due (inv P xs rest h e).0
     skip_front P xs rest h e = let d = (inv P xs rest h e).1 in front_of shape P rest due _ h.shaped (drop at s) z d.pieces d.spelt d.counted d.fit d.ordered d.closed d.idles
 
-    pub skip_end : length s ≤ at → Skipped shape s n 0
-    skip_end l = (omega arith, λ P xs rest h e. absurd (past_end P rest (skip_front P xs rest h e) l))
-
-    pub skip_unknown : w ≡ get_or s at 0 → 30 < w → Skipped shape s n 0
-    skip_unknown i l = (omega arith, λ P xs rest h e. absurd (unknown P rest (skip_front P xs rest h e) i l))
+    pub skip_none : (at < length s → 30 < get_or s at 0) → Skipped shape s n 0
+    skip_none l = (omega arith, λ P xs rest h e. absurd (no_code P rest (skip_front P xs rest h e) l))
 
     pub skip_next : (m k : ℕ) (t : List ℕ) → w ≡ get_or s at 0 → m ≡ more_words shape w → k ≡ operand_count shape w t → t ≡ drop (at + 1) s → Skipping shape s n (at + 1 + m) (due - 1 + k)
     skip_next m k t i e f g P xs rest h q = ((skip_front P xs rest h q).later, step P rest (skip_front P xs rest h q) i m k t e f g)
@@ -220,11 +219,8 @@ module _ (shape : ℕ) (s : List ℕ) (at due w : ℕ) where
     idle_front : (P : Scope) (E : Term) (rest : List ℕ) → RowAt shape s P (of_term E ∷ []) rest → Front shape P rest (drop at s) due (eqb (breadth E) 0)
     idle_front P E rest h = let d = inv P E rest h in front_of shape P rest due _ h.shaped (drop at s) z d.pieces d.spelt d.counted d.fit d.ordered d.closed d.idles
 
-    pub idle_end : length s ≤ at → Tells shape s false
-    idle_end l P E rest h = absurd (past_end P rest (idle_front P E rest h) l)
-
-    pub idle_unknown : w ≡ get_or s at 0 → 30 < w → Tells shape s false
-    idle_unknown i l P E rest h = absurd (unknown P rest (idle_front P E rest h) i l)
+    pub idle_none : (at < length s → 30 < get_or s at 0) → Tells shape s false
+    idle_none l P E rest h = absurd (no_code P rest (idle_front P E rest h) l)
 
     pub idle_stops : w ≡ get_or s at 0 → moving_code w ≡ true → Tells shape s false
     idle_stops i l P E rest h = let o = idle_front P E rest h in sym (idle_is P rest o i ∙ ap (λ m. cond m false o.later) l)
@@ -233,6 +229,69 @@ module _ (shape : ℕ) (s : List ℕ) (at due w : ℕ) where
     idle_next m k t i l e f g P E rest h =
         let o = idle_front P E rest h in
         subst (λ b. Due shape P rest (drop (at + 1 + m) s) (due - 1 + k) b) (sym (idle_is P rest o i ∙ ap (λ m. cond m false o.later) l)) (step P rest o i m k t e f g)
+
+-- ── an action with its arguments ──
+
+-- No action's code is left where no move can begin.
+pub still_code : (w : ℕ) → moving_code w ≡ false → w ≡ 21 → ⊥
+unfolding moving_code one_of
+still_code w h e = let q : true ≡ false = sym (ap moving_code e) ∙ h in absurd (subst T q tt)
+
+-- Two arguments at most, of two words at most and their codes.
+pub few_words : (k v : ℕ) → k ≤ 2 → v ≤ 2 → k * (1 + v) ≤ 6
+few_words zero v h l = omega arith
+few_words (suc zero) v h l = omega arith
+few_words (suc (suc zero)) v h l = omega arith
+few_words (suc (suc (suc k))) v h l = let y : ⊥ = omega arith in absurd y
+
+module _ (shape : ℕ) (s : List ℕ) (n : ℕ) where
+  abbrev W : ℕ
+  W = width_of shape
+
+  -- A constant is its code and its words.
+  constant_past : (at due : ℕ) → 0 < due → Skipping shape s n at due → get_or s at 0 ≡ 1 → Skipping shape s n (at + 1 + W) (due - 1 + 0)
+  unfolding words_after operands_after
+  constant_past at due z inv e = skip_next shape s at due 1 n z inv W 0 (drop (at + 1) s) (sym e) refl refl refl
+
+  moved : (a b c d : ℕ) → a ≡ b → c ≡ d → Skipping shape s n a c → Skipping shape s n b d
+  moved a b c d e f h = subst (λ y. Skipping shape s n y d) e (subst (λ y. Skipping shape s n a y) f h)
+
+  module _ (at due w k : ℕ) (t : List ℕ) (z : 0 < due) (inv : Skipping shape s n at due) (i : w ≡ get_or s at 0) (l : w ≡ 21) (g : t ≡ drop (at + 1) s) (c : k ≡ argument_count shape t) where
+    abbrev Past : ℕ → Type 0
+    Past j = Skipping shape s n (at + 2 + j * (1 + W)) (due - 1)
+
+    -- The label is past, and the arguments are due.
+    label_past : (j : ℕ) → k ≡ j → Skipping shape s n (at + 1 + 1) (due - 1 + j)
+    unfolding words_after operands_after
+    label_past j e =
+        let q : j ≡ operand_count shape 21 t = omega (arith, e, c) in
+        skip_next shape s at due 21 n z inv 1 j t (sym l ∙ i) refl q g
+
+    word_of : (a b x : ℕ) → get_or t a 0 ≡ x → at + 1 + a ≡ b → get_or s b 0 ≡ x
+    word_of a b x e f = ap (λ y. get_or s y 0) (sym f) ∙ sym (get_or-drop (at + 1) s a 0) ∙ ap (λ u. get_or u a 0) (sym g) ∙ e
+
+    none : k ≡ 0 → Past 0
+    none e = moved (at + 1 + 1) (at + 2 + 0 * (1 + W)) (due - 1 + 0) (due - 1) (omega arith) (omega arith) (label_past 0 e)
+
+    first_past : (j : ℕ) → k ≡ j → 0 < j → get_or t 1 0 ≡ 1 → Skipping shape s n (at + 1 + 1 + 1 + W) (due - 1 + j - 1 + 0)
+    first_past j e y f = constant_past (at + 1 + 1) (due - 1 + j) (omega arith) (label_past j e) (word_of 1 (at + 1 + 1) 1 f refl)
+
+    one : k ≡ 1 → get_or t 1 0 ≡ 1 → Past 1
+    one e f = moved (at + 1 + 1 + 1 + W) (at + 2 + 1 * (1 + W)) (due - 1 + 1 - 1 + 0) (due - 1) (omega arith) (omega arith) (first_past 1 e (omega arith) f)
+
+    two : k ≡ 2 → get_or t 1 0 ≡ 1 → get_or t (2 + W) 0 ≡ 1 → Past 2
+    two e f h =
+        let u = constant_past (at + 1 + 1 + 1 + W) (due - 1 + 2 - 1 + 0) (omega arith) (first_past 2 e (omega arith) f) (word_of (2 + W) (at + 1 + 1 + 1 + W) 1 h (omega arith)) in
+        moved (at + 1 + 1 + 1 + W + 1 + W) (at + 2 + 2 * (1 + W)) (due - 1 + 2 - 1 + 0 - 1 + 0) (due - 1) (omega arith) (omega arith) u
+
+    pub skip_action : Past k
+    skip_action = go (eqb (get_or t 1 0) 1) (eqb (get_or t (2 + W) 0) 1) refl refl
+      where
+        go : (a b : Bool) → eqb (get_or t 1 0) 1 ≡ a → eqb (get_or t (2 + W) 0) 1 ≡ b → Past k
+        go false b e f = let q : k ≡ 0 = c ∙ ap (λ y. pick y (pick (eqb (get_or t (2 + W) 0) 1) 2 1) 0) e in subst Past (sym q) (none q)
+        go true false e f = let q : k ≡ 1 = c ∙ (λ j. pick (e j) (pick (f j) 2 1) 0) in subst Past (sym q) (one q (eqb→eq (get_or t 1 0) 1 (subst T (sym e) tt)))
+        go true true e f = let q : k ≡ 2 = c ∙ (λ j. pick (e j) (pick (f j) 2 1) 0) in
+            subst Past (sym q) (two q (eqb→eq (get_or t 1 0) 1 (subst T (sym e) tt)) (eqb→eq (get_or t (2 + W) 0) 1 (subst T (sym f) tt)))
 
 -- ── the end ──
 

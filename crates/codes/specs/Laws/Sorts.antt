@@ -80,7 +80,7 @@ after_sorts c l n Condition h = let z : ⊥ = omega (arith, h.1) in z
 after_sorts c l n RuleTerm h = let z : ⊥ = omega (arith, h.1) in z
 after_sorts c l n RunningTerm h = outside c (λ a b. let z : ⊥ = omega arith in z) n h
 
--- ── what a check is told ──
+-- ── what a refusal says ──
 
 -- A code with a refusal is refused as form and outside of the range; one without is in it.
 module _ (d : Due) (c k : ℕ) (e : k ≡ refusal_of d c) where

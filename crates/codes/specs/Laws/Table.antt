@@ -9,11 +9,11 @@ use Rattle.eb3.specs.Reading.{pick}
 use Rattle.codes.specs.Table.{words_after, operands_after, moving_code}
 
 -- Two functions that are found equal at each number below n.
-abbrev alike : (ℕ → ℕ) → (ℕ → ℕ) → ℕ → Bool
+abbrev pub alike : (ℕ → ℕ) → (ℕ → ℕ) → ℕ → Bool
 alike f g zero = true
 alike f g (suc n) = eqb (f n) (g n) && alike f g n
 
-below : (f g : ℕ → ℕ) (n : ℕ) → T (alike f g n) → (i : ℕ) → i < n → f i ≡ g i
+pub below : (f g : ℕ → ℕ) (n : ℕ) → T (alike f g n) → (i : ℕ) → i < n → f i ≡ g i
 below f g zero t i l = absurd (let z : ⊥ = omega arith in z)
 below f g (suc n) t i l = go (ℕ_discrete i n) (below f g n (T_snd (eqb (f n) (g n)) (alike f g n) t) i)
   where

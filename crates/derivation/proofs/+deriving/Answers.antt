@@ -53,20 +53,20 @@ arrays::Arrays::derive_left-returns-clause-derived t c = left_passed _ _ _ _ _ _
 pub arrays::Arrays::derive_listed-list-r-requires : goal.arrays::Arrays::derive_listed-list-r-requires
 arrays::Arrays::derive_listed-list-r-requires t c = (omega (arith, last_len _ _ _ c.last-u.ensures), lent_few c.list-l.ensures c.args.self.now.few.1)
 
-pub arrays::Arrays::derive_listed-returns-then-r-ge-PASSED-clause-derived : goal.arrays::Arrays::derive_listed-returns-then-r-ge-PASSED-clause-derived
-arrays::Arrays::derive_listed-returns-then-r-ge-PASSED-clause-derived t c = listed_lost_second _ _ _ _ _ c.list-l.ensures c.requires.0 c.if-l-ge-PASSED.false _ _ _ c.last-u.ensures c.list-r.ensures _ _ _ _ c.if-r-ge-PASSED.true
+pub arrays::Arrays::derive_listed-returns-then-r-ge-FULL-clause-derived : goal.arrays::Arrays::derive_listed-returns-then-r-ge-FULL-clause-derived
+arrays::Arrays::derive_listed-returns-then-r-ge-FULL-clause-derived t c = listed_lost_second _ _ _ _ _ c.list-l.ensures c.requires.0 c.if-l-ge-FULL.false _ _ _ c.last-u.ensures c.list-r.ensures _ _ _ _ c.if-r-ge-FULL.true
 
 pub arrays::Arrays::derive_listed-passing-requires : goal.arrays::Arrays::derive_listed-passing-requires
 arrays::Arrays::derive_listed-passing-requires t c = omega (arith, c.locate-z.ensures.bounded, last_len _ _ _ c.last-v.ensures, last_len _ _ _ c.last-u.ensures)
 
 pub arrays::Arrays::derive_listed-returns-then-z-ge-PASSED-clause-derived : goal.arrays::Arrays::derive_listed-returns-then-z-ge-PASSED-clause-derived
-arrays::Arrays::derive_listed-returns-then-z-ge-PASSED-clause-derived t c = listed_none _ _ _ _ _ c.list-l.ensures c.requires.0 c.if-l-ge-PASSED.false _ _ _ c.last-u.ensures c.list-r.ensures c.if-r-ge-PASSED.false _ _ c.split_at.ensures.front c.split_at.ensures.back _ _ _ _ _ c.locate-z.ensures c.requires.1 c.if-z-ge-PASSED.true _ _ c.last-v.ensures c.passing.ensures.0
+arrays::Arrays::derive_listed-returns-then-z-ge-PASSED-clause-derived t c = listed_none _ _ _ _ _ c.list-l.ensures c.requires.0 c.if-l-ge-FULL.false _ _ _ c.last-u.ensures c.list-r.ensures c.if-r-ge-FULL.false _ _ c.split_at.ensures.front c.split_at.ensures.back _ _ _ _ _ c.locate-z.ensures c.requires.1 c.if-z-ge-PASSED.true _ _ c.last-v.ensures c.passing.ensures.0
 
 pub arrays::Arrays::derive_listed-derive_sides-requires : goal.arrays::Arrays::derive_listed-derive_sides-requires
 arrays::Arrays::derive_listed-derive_sides-requires t c = (omega arith, (omega arith, last_len _ _ _ c.last-u.ensures, c.locate-z.ensures.low c.if-z-ge-PASSED.false))
 
 pub arrays::Arrays::derive_listed-returns-clause-derived : goal.arrays::Arrays::derive_listed-returns-clause-derived
-arrays::Arrays::derive_listed-returns-clause-derived t c = listed_sides _ _ _ _ _ c.list-l.ensures c.requires.0 c.if-l-ge-PASSED.false _ _ _ c.last-u.ensures c.list-r.ensures c.if-r-ge-PASSED.false _ _ c.split_at.ensures.front c.split_at.ensures.back _ _ _ _ _ c.locate-z.ensures c.requires.1 c.if-z-ge-PASSED.false c.args.self.now.few.0 _ _ _ (omega (arith, whole_length _ _ _ _ _ c.list-l.ensures c.requires.0 c.if-l-ge-PASSED.false _ _ _ c.last-u.ensures c.list-r.ensures)) c.derive_sides.ensures.derived
+arrays::Arrays::derive_listed-returns-clause-derived t c = listed_sides _ _ _ _ _ c.list-l.ensures c.requires.0 c.if-l-ge-FULL.false _ _ _ c.last-u.ensures c.list-r.ensures c.if-r-ge-FULL.false _ _ c.split_at.ensures.front c.split_at.ensures.back _ _ _ _ _ c.locate-z.ensures c.requires.1 c.if-z-ge-PASSED.false c.args.self.now.few.0 _ _ _ (omega (arith, whole_length _ _ _ _ _ c.list-l.ensures c.requires.0 c.if-l-ge-FULL.false _ _ _ c.last-u.ensures c.list-r.ensures)) c.derive_sides.ensures.derived
 
 pub arrays::Arrays::derive_masked-returns-then-idle-clause-derived : goal.arrays::Arrays::derive_masked-returns-then-idle-clause-derived
 arrays::Arrays::derive_masked-returns-then-idle-clause-derived t c = masked_right _ _ _ _ _ _ _ _ _ _ c.idle.ensures c.if-idle.true _ c.join.ensures c.derive_right.ensures.derived

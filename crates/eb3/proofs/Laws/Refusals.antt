@@ -206,6 +206,15 @@ module _ (R : RuleSet) where
   rule_terms_refuse (suc n) Γ [] = by_form
   rule_terms_refuse (suc n) Γ (c ∷ t) = rule_by_refuses (rule_terms R n) (rule_terms_refuse n) Γ (rule_kind Γ c) t
 
+  pub rule_term_refuses : (Γ : List ℕ) → AllRefuse (read_rule_term R Γ)
+  unfolding read_rule_term
+  rule_term_refuses Γ t = rule_terms_refuse (length t) Γ t
+
+  pub process_refuses : (limit : ℕ) → AllRefuse (read_process R limit)
+  unfolding read_process
+  process_refuses limit t = then_refuses _ (λ ds u. giving_refuses _ (read_rule_term R ds u) (rule_term_refuses ds u))
+      (counted 0 limit (number_of Refusal.reference (length R.domains)) t) (counted_refuses 0 limit (number_of Refusal.reference (length R.domains)) (number_refuses Refusal.reference (length R.domains) by_reference) t)
+
 -- The sections.
 module _ (L : Edition) where
   function_refuses : (domains : ℕ) (labels : List (List ℕ)) (counts : List ℕ) (i : ℕ) → AllRefuse (read_function L domains labels counts i)
@@ -219,11 +228,6 @@ module _ (L : Edition) where
   unfolding read_functions read_parameter_counts
   functions_refuse domains labels t = then_refuses _ (λ n u. then_refuses _ (λ counts. series_refuses n 0 (read_function L domains labels counts) (function_refuses domains labels counts)) (read_parameter_counts L n u) (picked Refuses L.counts_written _ _ (repeat_refuses n (count_of 1 L.function_parameters) (count_refuses 1 L.function_parameters) u) tt))
       (count_of 0 Limits.functions t) (count_refuses 0 Limits.functions t)
-
-  process_refuses : (R : RuleSet) (limit : ℕ) → AllRefuse (read_process R limit)
-  unfolding read_process read_rule_term
-  process_refuses R limit t = then_refuses _ (λ ds u. giving_refuses _ (read_rule_term R ds u) (rule_terms_refuse R (length u) ds u))
-      (counted 0 limit (number_of Refusal.reference (length R.domains)) t) (counted_refuses 0 limit (number_of Refusal.reference (length R.domains)) (number_refuses Refusal.reference (length R.domains) by_reference) t)
 
   processes_refuse : (n : ℕ) (R : RuleSet) → AllRefuse (read_processes n R)
   unfolding read_processes

@@ -1,8 +1,6 @@
--- One term is a row.
-use mathlib.Core.Path.{refl}
-use mathlib.Core.List.{[], ◌∷◌}
-use Rattle.listing.specs.Rows.{row_of_one}
+use Rattle.codes.specs.Rows.{of_term}
+use Rattle.listing.specs.Coded.{coded_term}
 use Rattle.listing.proofs.skip.Goals as goal
 
 pub returns : goal.returns
-returns c = (c.skip_row.ensures.0, λ P E rest h. c.skip_row.ensures.1 P (E ∷ []) rest (row_of_one _ P E rest h) refl)
+returns c = (c.skip.ensures.0, λ P E rest h. c.skip.ensures.1 P (of_term E) rest (coded_term h))

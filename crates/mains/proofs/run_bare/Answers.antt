@@ -9,4 +9,4 @@ pub returns-then-d-eq0 : goal.returns-then-d-eq0
 returns-then-d-eq0 c = bare_none c.if-d-eq0.true
 
 pub returns : goal.returns
-returns c = bare_run c.part_word.ensures (set_first c.args.d.now c.part_word.result c.if-d-eq0.false) (length-set c.args.d.now 0 c.part_word.result) c.run_shared-r.ensures.3 c.front.ensures c.expand-q.ensures c.run_shared-r.ensures.2.mid_length c.finish.ensures refl
+returns c = bare_run c.part_word.ensures (set_first c.args.d.now c.part_word.result c.if-d-eq0.false) (length-set c.args.d.now 0 c.part_word.result) c.run_shared-r.ensures.run c.front.ensures c.expand-q.ensures c.run_shared-r.ensures.arrays.mid_length c.finish.ensures refl

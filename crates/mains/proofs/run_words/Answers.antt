@@ -3,7 +3,7 @@ use Rattle.mains.proofs.MainCases.{words_bare, words_masked}
 use Rattle.mains.proofs.run_words.Goals as goal
 
 pub returns-then-shareable : goal.returns-then-shareable
-returns-then-shareable c = words_bare (record { width_is = c.requires.0; functions_are = c.requires.1; few = c.requires.2; unfolded = c.unfold_main-n.ensures.1; loaded = c.load.ensures; started = c.start_store.ensures.1 }) c.front.ensures c.shareable.ensures c.if-shareable.true c.front-then-shareable.ensures c.requires.4 c.requires.5 c.requires.6 c.requires.7 c.run_bare.ensures
+returns-then-shareable c = words_bare (record { width_is = c.args.course.now.rules.labels_counted; functions_are = c.args.course.now.rules.functions_counted; few = c.args.course.now.rules.few_cells; unfolded = c.unfold_main-n.ensures.1; loaded = c.load.ensures; started = c.start_store.ensures.1 }) c.front.ensures c.shareable.ensures c.if-shareable.true c.front-then-shareable.ensures c.requires.1 c.requires.2 c.requires.3 c.requires.4 c.run_bare.ensures
 
 pub returns : goal.returns
-returns c = words_masked (record { width_is = c.requires.0; functions_are = c.requires.1; few = c.requires.2; unfolded = c.unfold_main-n.ensures.1; loaded = c.load.ensures; started = c.start_store.ensures.1 }) c.requires.5 c.run_masked.ensures.1
+returns c = words_masked (record { width_is = c.args.course.now.rules.labels_counted; functions_are = c.args.course.now.rules.functions_counted; few = c.args.course.now.rules.few_cells; unfolded = c.unfold_main-n.ensures.1; loaded = c.load.ensures; started = c.start_store.ensures.1 }) c.requires.2 c.run_masked.ensures.1

@@ -36,9 +36,19 @@ numbers_fit (a ∷ b ∷ c ∷ d ∷ s) h (suc i) = numbers_fit s (λ j. h (suc 
 
 -- ── written ──
 
-pub two_puts : (b b₁ b₂ : List ℕ) (i n : ℕ) → b₁ ≡ put_word b (2 * i) (n % 65536) → b₂ ≡ put_word b₁ (2 * i + 1) (n / 65536) → b₂ ≡ put_number b i n
-unfolding put_number
-two_puts b b₁ b₂ i n e f = f ∙ ap (λ (x : List ℕ). put_word x (2 * i + 1) (n / 65536)) e
+-- Four bytes are the two words of a number.
+pub four_puts : (b : List ℕ) (i n : ℕ)
+    → slice_set (slice_set (slice_set (slice_set b (4 * i) (n % 256)) (4 * i + 1) (n / 256 % 256)) (4 * i + 2) (n / 65536 % 256)) (4 * i + 3) (n / 16777216 % 256) ≡ put_number b i n
+unfolding put_number put_word
+four_puts b i n =
+    let p₀ : 4 * i ≡ 2 * (2 * i) = omega arith in
+    let p₁ : 4 * i + 1 ≡ 2 * (2 * i) + 1 = omega arith in
+    let p₂ : 4 * i + 2 ≡ 2 * (2 * i + 1) = omega arith in
+    let p₃ : 4 * i + 3 ≡ 2 * (2 * i + 1) + 1 = omega arith in
+    let v₀ : n % 256 ≡ n % 65536 % 256 = omega arith in
+    let v₁ : n / 256 % 256 ≡ n % 65536 / 256 % 256 = omega arith in
+    let v₃ : n / 16777216 % 256 ≡ n / 65536 / 256 % 256 = omega arith in
+    λ j. slice_set (slice_set (slice_set (slice_set b (p₀ j) (v₀ j)) (p₁ j) (v₁ j)) (p₂ j) (n / 65536 % 256)) (p₃ j) (v₃ j)
 
 double_append : (ms ns : List ℕ) → double_words (ms ++ ns) ≡ double_words ms ++ double_words ns
 unfolding double_words

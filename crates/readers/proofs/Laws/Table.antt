@@ -6,7 +6,7 @@ use Rattle.std.proofs.Math.ListN.{get_or-append, get_or-eq_default}
 use Rattle.std.proofs.lemmas.Bool.{eqb-false}
 use Rattle.readers.specs.declared.Counts.{Counts}
 use Rattle.readers.specs.Table.{none, Of32Bits, plus, added_to, counts_at, records, added_first}
-use Rattle.readers.specs.Placing.{put_number, put_record, put_first}
+use Rattle.readers.specs.Placing.{put_record, put_first}
 
 one_more : (i : ℕ) → suc i ≡ i + 1
 one_more i = omega arith
@@ -133,10 +133,6 @@ records_fit ns small t e r = subst Of32Bits (ap (λ (u : List Counts). get_or u 
     go (no l) = subst Of32Bits (sym (get_or-eq_default (records 32 ns) none (omega (arith, records_length 32 ns, l)))) (record { visible_fits = omega arith; internal_fits = omega arith; refused_fits = omega arith })
 
 -- ── put into bytes, one record after another ──
-
-pub three_puts : (b b₁ b₂ b₃ : List ℕ) (at v n f : ℕ) → b₁ ≡ put_number b at v → b₂ ≡ put_number b₁ (at + 1) n → b₃ ≡ put_number b₂ (at + 2) f
-    → b₃ ≡ put_number (put_number (put_number b at v) (at + 1) n) (at + 2) f
-three_puts b b₁ b₂ b₃ at v n f p q r = r ∙ ap (λ (c : List ℕ). put_number c (at + 2) f) (q ∙ ap (λ (c : List ℕ). put_number c (at + 1) n) p)
 
 pub put_start : (t : List Counts) (b : List ℕ) → b ≡ put_first 0 t b
 unfolding put_first

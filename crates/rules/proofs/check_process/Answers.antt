@@ -2,20 +2,19 @@ use Prim.Native.Nat.{◌+◌, ◌-◌}
 use lib.ListN.{drop}
 use Rattle.rules.proofs.ProcessCases.{row_ends, process_in, processing}
 use lib.ListN.{length-take}
-use Rattle.scan.specs.Laws.{last_len}
 use native.Mathlib.Omega.{arith}
 use Rattle.scan.specs.ReadingLaws.{handed_on}
 use mathlib.Core.Path.{refl}
 use Rattle.rules.proofs.check_process.Goals as goal
 
-pub slice_bounds-check_term-end : goal.slice_bounds-check_term-end
-slice_bounds-check_term-end c = let h = row_ends c.args.tb.now c.args.t.now _ _ _ _ c.parameters.ensures refl c.entry.ensures _ _ c.in_ok-m.was c.first-k.ensures.0 in omega (arith, h.0)
+pub slice_bounds-context-end : goal.slice_bounds-context-end
+slice_bounds-context-end c = let h = row_ends c.args.tb.now c.args.t.now _ _ _ _ c.parameters.ensures refl c.domains.ensures _ _ c.in_ok-m.was c.first-k.ensures.0 in omega (arith, h.0)
 
-pub check_term-requires : goal.check_term-requires
-check_term-requires c = let h = row_ends c.args.tb.now c.args.t.now _ _ _ _ c.parameters.ensures refl c.entry.ensures _ _ c.in_ok-m.was c.first-k.ensures.0 in (omega (arith, h.1, length-take (c.first-k.result + 1 - 1) (drop 1 c.args.t.now)), omega (arith, last_len _ _ _ c.last.ensures))
+pub invariant_of-context : goal.invariant_of-context
+invariant_of-context c = let h = row_ends c.args.tb.now c.args.t.now _ _ _ _ c.parameters.ensures refl c.domains.ensures _ _ c.in_ok-m.was c.first-k.ensures.0 in omega (arith, h.1, length-take (c.first-k.result + 1 - 1) (drop 1 c.args.t.now))
 
 pub returns : goal.returns
-returns c = process_in _ _ _ _ _ _ c.parameters.ensures refl c.entry.ensures _ _ c.in_ok-m.was c.first-k.ensures.0 _ _ c.last.ensures c.check_term.ensures
+returns c = process_in _ _ _ _ _ _ c.parameters.ensures refl c.domains.ensures _ _ c.in_ok-m.was c.first-k.ensures.0 _ _ c.last.ensures c.check_term.ensures
 
 pub returns-in_err-m : goal.returns-in_err-m
 returns-in_err-m c = let z = c.in_err-m.was in handed_on _ _ _ c.from_residual.ensures (search processing)

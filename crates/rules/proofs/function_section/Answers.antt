@@ -5,9 +5,6 @@ use Rattle.scan.specs.ReadingLaws.{handed_err}
 use mathlib.Core.Path.{refl}
 use Rattle.rules.proofs.function_section.Goals as goal
 
-pub functions-requires : goal.functions-requires
-functions-requires c = let h = functions_asks c.args.tb.now c.args.t.now _ c.count.ensures _ _ _ c.requires.0 c.requires.2 c.in_ok-m.was c.first-n.ensures.0 refl in (h.0, h.2, omega arith)
-
 pub process_section-requires : goal.process_section-requires
 process_section-requires c = let h = functions_asks c.args.tb.now c.args.t.now _ c.count.ensures _ _ _ c.requires.0 c.requires.2 c.in_ok-m.was c.first-n.ensures.0 refl in (h.1, omega (arith, last_len _ _ _ c.last.ensures, last_len _ _ _ c.last-u.ensures), h.3)
 

@@ -19,10 +19,10 @@ pub begin_both-returns : goal.begin_both-returns
 begin_both-returns t c = both_made c.args.s.now c.args.n c.args.path.now _ _ _ _ _ _ _ _ c.requires.2 c.begin_after-x.ensures c.close-z.ensures c.last.ensures c.begin_behind-y.ensures
 
 pub begin_choice-returns-then-s-n : goal.begin_choice-returns-then-s-n
-begin_choice-returns-then-s-n t c = choice_short c.args.s.now c.args.path.now _ _ _ c.requires.1 (λ z. c.if-first-eq0.false (c.first.ensures.0 ∙ z)) c.size_word-n.ensures.0 c.if-s-n.true c.unbuilt.ensures
+begin_choice-returns-then-s-n t c = choice_short c.args.s.now c.args.path.now _ _ _ c.requires.1 (λ z. c.if-first-eq-CHOOSE_LEFT.false (c.first.ensures.0 ∙ z)) c.size_word-n.ensures.0 c.if-s-n.true c.unbuilt.ensures
 
 pub begin_choice-returns : goal.begin_choice-returns
-begin_choice-returns t c = choice_right c.args.s.now c.args.path.now _ _ _ c.requires.1 (λ z. c.if-first-eq0.false (c.first.ensures.0 ∙ z)) c.size_word-n.ensures.0 _ _ c.behind_size.ensures c.begin.ensures
+begin_choice-returns t c = choice_right c.args.s.now c.args.path.now _ _ _ c.requires.1 (λ z. c.if-first-eq-CHOOSE_LEFT.false (c.first.ensures.0 ∙ z)) c.size_word-n.ensures.0 _ _ c.behind_size.ensures c.begin.ensures
 
 pub begin_chosen-returns : goal.begin_chosen-returns
 begin_chosen-returns t c = choice_left c.args.s.now c.args.path.now c.behind-t.result.now c.behind-t.ensures c.behind.result.now c.behind.ensures c.requires.1 _ _ _ _ _ _ _ _ _ c.requires.2 c.begin-x.ensures c.last.ensures c.skip_row-e.ensures c.close-z.ensures c.last-2.ensures c.skip-left.ensures
@@ -42,11 +42,11 @@ begin_parallel-returns-in-1 t c = parallel_left c.args.s.now c.args.path.now _ _
 pub begin_right-returns-then-s-n : goal.begin_right-returns-then-s-n
 begin_right-returns-then-s-n t c = parallel_cut c.args.s.now c.args.path.now _ _ c.requires.1 _ c.size_word-n.ensures.0 c.requires.3 c.requires.4 c.if-s-n.true c.unbuilt.ensures
 
-pub begin_right-returns-then-first-eq2 : goal.begin_right-returns-then-first-eq2
-begin_right-returns-then-first-eq2 t c = parallel_right c.args.s.now c.args.path.now _ _ c.requires.1 _ c.size_word-n.ensures.0 _ _ c.behind_size.ensures (sym c.first.ensures.0 ∙ c.if-first-eq2.true) c.begin_after.ensures
+pub begin_right-returns-then-first-eq-RIGHT_MOVES : goal.begin_right-returns-then-first-eq-RIGHT_MOVES
+begin_right-returns-then-first-eq-RIGHT_MOVES t c = parallel_right c.args.s.now c.args.path.now _ _ c.requires.1 _ c.size_word-n.ensures.0 _ _ c.behind_size.ensures (sym c.first.ensures.0 ∙ c.if-first-eq-RIGHT_MOVES.true) c.begin_after.ensures
 
 pub begin_right-returns : goal.begin_right-returns
-begin_right-returns t c = parallel_both c.args.s.now c.args.path.now _ _ c.requires.1 _ c.size_word-n.ensures.0 c.requires.3 c.requires.4 _ _ c.behind_size-2.ensures (λ z. c.if-first-eq2.false (c.first.ensures.0 ∙ z)) c.begin_both.ensures
+begin_right-returns t c = parallel_both c.args.s.now c.args.path.now _ _ c.requires.1 _ c.size_word-n.ensures.0 c.requires.3 c.requires.4 _ _ c.behind_size-2.ensures (λ z. c.if-first-eq-RIGHT_MOVES.false (c.first.ensures.0 ∙ z)) c.begin_both.ensures
 
 pub begin_round-returns : goal.begin_round-returns
 begin_round-returns t c = round c.args.s.now c.args.path.now c.behind-t.result.now c.behind.result.now _ c.behind-t.ensures c.behind.ensures c.requires.1 _ _ _ _ _ _ _ _ _ _ _ c.requires.2 c.put_one-h.ensures c.begin_behind-x.ensures c.last.ensures c.skip_row-e.ensures c.close-z.ensures c.put_behind.ensures (search rules)
@@ -57,5 +57,5 @@ begin_sequence-returns-then-first-eq-DONE t c = sequence_done c.args.s.now c.arg
 pub begin_sequence-returns : goal.begin_sequence-returns
 begin_sequence-returns t c = sequence_goes c.args.s.now c.args.path.now c.behind-t.result.now c.behind-t.ensures _ _ _ _ c.requires.1 (λ z. c.if-first-eq-DONE.false (c.first.ensures.0 ∙ z)) c.begin_after.ensures c.with_right.ensures
 
-pub begin_star-returns-then-first-eq0 : goal.begin_star-returns-then-first-eq0
-begin_star-returns-then-first-eq0 t c = star_ends c.args.s.now c.args.path.now c.behind.result.now c.behind-then-first-eq0.result.now _ c.behind.ensures c.behind-then-first-eq0.ensures c.requires.1 _ _ _ (sym c.first.ensures.0 ∙ c.if-first-eq0.true) c.skip.ensures c.put_one.ensures
+pub begin_star-returns-then-first-eq-END : goal.begin_star-returns-then-first-eq-END
+begin_star-returns-then-first-eq-END t c = star_ends c.args.s.now c.args.path.now c.behind.result.now c.behind-then-first-eq-END.result.now _ c.behind.ensures c.behind-then-first-eq-END.ensures c.requires.1 _ _ _ (sym c.first.ensures.0 ∙ c.if-first-eq-END.true) c.skip.ensures c.put_one.ensures

@@ -1,76 +1,61 @@
+use mathlib.Core.List.{◌∷◌}
 use mathlib.Core.Path.{refl, ap, ◌∙◌}
 use lib.Seq.{length-take-le}
 use Rattle.arguments.specs.Tables.{from}
 use Rattle.unfold.specs.Saying.{argument_at}
-use Rattle.unfold.specs.PutsLaws.{place_few, place_room}
-use Rattle.unfold.proofs.TermCases.{term_none, body_put, copies_none, copies_last, copies_next, terms, parts, quantifiers, callees}
+use Rattle.unfold.proofs.TermCases.{term_none, body_put, copies_full, copies_lost, copies_next, copies_last, terms, parts, quantifiers}
 use Rattle.unfold.proofs.RowCases.{last_size}
 use native.Mathlib.Omega.{arith}
 use borrow.Author.Rules.{rules}
 use Rattle.unfold.proofs.+unfolding_terms.Goals as goal
 
 pub body-returns : goal.body-returns
-body-returns t c = body_put _ _ _ _ _ _ _ _ _ c.last-s.ensures c.row_at-k.ensures _ _ _ _ _ (c.arguments_of.ensures ∙ ap (λ k. from 0 k (argument_at c.args.vars.now c.last-s.result.now)) (length-take-le _ _ (omega arith))) c.entry-start.ensures refl c.unfold-b.ensures c.requires.0 c.if-b-ge-NONE.false
-
-pub call-returns : goal.call-returns
-call-returns t c = search callees
+body-returns t c = body_put _ _ _ _ _ _ _ _ c.last-s.ensures c.row_at-k.ensures _ _ _ _ (c.arguments_of.ensures ∙ ap (λ k. from 0 k (argument_at c.args.scope.now.context.variables.now c.last-s.result.now)) (length-take-le _ _ (omega arith))) c.entry-start.ensures refl _ c.in_ok-unfold.ensures
 
 pub copies-loop-x-init : goal.copies-loop-x-init
 copies-loop-x-init t c = search quantifiers
 
-pub copies-returns-then-a-ge-NONE : goal.copies-returns-then-a-ge-NONE
-copies-returns-then-a-ge-NONE t c = copies_none _ _ _ _ _ _ _ _ _ _ _ _ c.loop-x.invariant (omega arith) _ _ c.headed_copy-a.ensures c.if-a-ge-NONE.true
+pub copies-returns-in_err-head : goal.copies-returns-in_err-head
+copies-returns-in_err-head t c = copies_full _ _ _ _ _ _ _ _ _ _ c.loop-x.invariant (omega arith) _ _ (ap (λ k. k ∷ c.args.mask.now) c.code.ensures) _ c.from_residual.ensures c.in_err-head.ensures
+
+pub copies-returns-in_err-copy : goal.copies-returns-in_err-copy
+copies-returns-in_err-copy t c = copies_lost _ _ _ _ _ _ _ _ _ _ c.loop-x.invariant (omega arith) _ _ (ap (λ k. k ∷ c.args.mask.now) c.code.ensures) _ c.in_ok-head.ensures _ _ c.from_residual-in_err-copy.ensures c.in_err-copy.ensures
 
 pub copies-loop-x-preserved : goal.copies-loop-x-preserved
-copies-loop-x-preserved t c = copies_next _ _ _ _ _ _ _ _ _ _ _ _ c.loop-x.invariant (omega arith) _ _ c.headed_copy-a.ensures c.if-a-ge-NONE.false
+copies-loop-x-preserved t c = copies_next _ _ _ _ _ _ _ _ _ _ c.loop-x.invariant (omega arith) _ _ (ap (λ k. k ∷ c.args.mask.now) c.code.ensures) _ c.in_ok-head.ensures _ _ c.in_ok-copy.ensures
 
 pub copies-returns : goal.copies-returns
-copies-returns t c = copies_last _ _ _ _ _ _ _ _ _ _ _ _ c.loop-x.invariant _ _ _ (omega arith) (omega arith) c.copy.ensures
-
-pub copy-returns : goal.copy-returns
-copy-returns t c = search quantifiers
+copies-returns t c = copies_last _ _ _ _ _ _ _ _ _ _ c.loop-x.invariant _ _ _ (omega arith) (omega arith) c.copy-2.ensures
 
 pub guarded-returns : goal.guarded-returns
-guarded-returns t c = search parts
-
-pub headed_copy-returns-then-a-ge-NONE : goal.headed_copy-returns-then-a-ge-NONE
-headed_copy-returns-then-a-ge-NONE t c = search quantifiers
-
-pub headed_copy-returns : goal.headed_copy-returns
-headed_copy-returns t c = search quantifiers
-
-pub joined-put_head-a-requires : goal.joined-put_head-a-requires
-joined-put_head-a-requires t c = (omega (arith, last_size), search rules, search rules)
-
-pub joined-returns-then-a-ge-NONE : goal.joined-returns-then-a-ge-NONE
-joined-returns-then-a-ge-NONE t c = search parts
+guarded-returns t c = search (parts, c.in_ok-left.ensures)
 
 pub joined-two_terms-requires : goal.joined-two_terms-requires
-joined-two_terms-requires t c = (omega (arith, last_size), (search rules, search rules, search rules, place_few _ c.if-a-ge-NONE.false, place_room _ _ _ _ _ c.put_head-a.ensures c.if-a-ge-NONE.false))
+joined-two_terms-requires t c = (omega (arith, last_size), search rules)
 
 pub joined-returns : goal.joined-returns
-joined-returns t c = search parts
+joined-returns t c = search (parts, c.in_ok-head.ensures)
 
 pub over-copies-requires : goal.over-copies-requires
-over-copies-requires t c = (omega (arith, last_size), (search rules, search rules, search rules, search rules, omega (arith, last_size), search rules, search rules))
-
-pub starred-returns-then-a-ge-NONE : goal.starred-returns-then-a-ge-NONE
-starred-returns-then-a-ge-NONE t c = search parts
+over-copies-requires t c = (omega (arith, last_size), search rules)
 
 pub starred-returns : goal.starred-returns
-starred-returns t c = search parts
+starred-returns t c = search (parts, c.in_ok-head.ensures)
 
 pub two_terms-returns-then-n-left : goal.two_terms-returns-then-n-left
-two_terms-returns-then-n-left t c = search parts
+two_terms-returns-then-n-left t c = search (parts, c.in_ok-left.ensures)
 
 pub two_terms-returns : goal.two_terms-returns
-two_terms-returns t c = search parts
+two_terms-returns t c = search (parts, c.in_ok-left.ensures)
 
 pub unfold-returns-then-is_empty : goal.unfold-returns-then-is_empty
-unfold-returns-then-is_empty t c = term_none _ _ _ _ _ _ c.last-s.ensures _ _ (search rules)
+unfold-returns-then-is_empty t c = term_none _ _ _ _ _ _ c.last-s.ensures _ (search rules)
 
-pub unfold-returns-in-20 : goal.unfold-returns-in-20
-unfold-returns-in-20 t c = search terms
+pub unfold-returns-in_err-head-in-20 : goal.unfold-returns-in_err-head-in-20
+unfold-returns-in_err-head-in-20 t c = search (terms, c.in_err-head-in-20.ensures)
+
+pub unfold-returns-in_ok-head-in-20 : goal.unfold-returns-in_ok-head-in-20
+unfold-returns-in_ok-head-in-20 t c = search (terms, c.in_ok-head-in-20.ensures)
 
 pub unfold-returns-in-21 : goal.unfold-returns-in-21
 unfold-returns-in-21 t c = search terms

@@ -1,5 +1,4 @@
-use native.Mathlib.Omega.{arith}
-use Rattle.weights.proofs.Steps.{no_step, next_step, all_steps}
+use Rattle.weights.proofs.Steps.{no_step, next_step}
 use Rattle.weights.proofs.repeated.Goals as goal
 
 pub loop-init : goal.loop-init
@@ -7,6 +6,3 @@ loop-init g c = λ f h. no_step f _
 
 pub loop-preserved : goal.loop-preserved
 loop-preserved g c = λ f h. next_step f _ _ (c.loop.invariant f h) (h _ _ c.step-w.ensures)
-
-pub returns : goal.returns
-returns g c = λ f h. all_steps f _ _ _ (omega arith) (omega arith) (c.loop.invariant f h)

@@ -1,15 +1,32 @@
-use Rattle.engine.proofs.CountCases.{counted_refused, counted_short, counted_few, counted_done}
+use native.Mathlib.Omega.{arith}
+use Prim.Native.Nat.{◌-◌, ◌*◌}
+use mathlib.Core.Path.{◌∙◌}
+use lib.ListN.{drop, length-take}
 use Rattle.scan.specs.ReadingLaws.{handed_on}
+use Rattle.admission.specs.OpeningLaws.{stream_part}
+use Rattle.engine.proofs.MadeCases.{given_few, given_made}
+use Rattle.engine.proofs.CountCases.{counted_refused, counted_short, counted_done}
 use Rattle.engine.proofs.counting.count_in.Goals as goal
 
 pub returns-then-memory-given : goal.returns-then-memory-given
-returns-then-memory-given c = counted_short c.args.rules.now _ _ _ _ _ _ _ _ _ c.given_in.ensures.1 _ _ c.in_ok-given.was c.if-memory-given.true
+returns-then-memory-given c = counted_short c.given_in.ensures.1 c.args.memory.now c.in_ok-given.was c.if-memory-given.true
+
+pub of-rules-requires : goal.of-rules-requires
+of-rules-requires c =
+    let file = c.args.file.now in
+    let h = given_few c.given_in.ensures.1 c.in_ok-given.was c.front-s.ensures in
+    (omega (arith, file.few, length-take (254 * file.count - 2) (drop 2 c.given_in.new.words)), h.1, h.2, h.3)
 
 pub count_at-requires : goal.count_at-requires
-count_at-requires c = counted_few c.args.rules.now _ c.args.memory.now _ _ _ _ _ _ _ c.given_in.ensures.1 _ _ c.in_ok-given.was _ c.front-s.ensures
+count_at-requires c = (given_few c.given_in.ensures.1 c.in_ok-given.was c.front-s.ensures).0
 
 pub returns : goal.returns
-returns c = counted_done c.args.rules.now _ _ _ _ _ _ _ _ _ c.given_in.ensures.1 _ _ c.in_ok-given.was _ c.front-s.ensures c.if-memory-given.false _ c.count_at.ensures
+returns c =
+    let file = c.args.file.now in
+    let m = c.of-rules.ensures in
+    let given = c.given_in.ensures.1 in
+    let t = stream_part file.bytes.now _ file.whole file.some file.few _ c.args.words.now given.decoded in
+    counted_done given c.args.memory.now c.in_ok-given.was c.if-memory-given.false (given_made given c.in_ok-given.was c.front-s.ensures (m.stream ∙ t) m.declared m.places m.memory) m.memory _ c.count_at.ensures
 
 pub returns-in_err-given : goal.returns-in_err-given
-returns-in_err-given c = handed_on _ _ _ c.from_residual.ensures (counted_refused c.args.rules.now _ _ _ _ _ _ _ _ _ c.given_in.ensures.1 _ c.in_err-given.was)
+returns-in_err-given c = handed_on _ _ _ c.from_residual.ensures (counted_refused c.given_in.ensures.1 c.args.memory.now _ c.in_err-given.was)

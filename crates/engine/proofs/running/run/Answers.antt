@@ -1,15 +1,9 @@
-use Rattle.admission.specs.OpeningLaws.{admit_blocks, admit_opens, open_refused}
-use Rattle.engine.proofs.RunCases.{unopened_run}
-use native.Mathlib.Omega.{arith}
-use native.Mathlib.Omega.{arith}
+use mathlib.Core.Path.{ap}
 use Rattle.scan.specs.ReadingLaws.{handed_err}
+use Rattle.blocks.specs.Opening.{counted}
+use Rattle.admission.specs.OpeningLaws.{open_refused}
+use Rattle.engine.proofs.RunCases.{unopened_run}
 use Rattle.engine.proofs.running.run.Goals as goal
 
-pub run_sized-requires : goal.run_sized-requires
-run_sized-requires c = let h = admit_blocks c.args.rules.now _ c.«open».ensures _ c.in_ok-n.was in (h.0, omega (arith, c.if-n-le1.true), h.1, h.2, admit_opens c.args.rules.now _ c.«open».ensures _ c.in_ok-n.was, omega arith)
-
-pub run_sized-requires-2 : goal.run_sized-requires-2
-run_sized-requires-2 c = let h = admit_blocks c.args.rules.now _ c.«open».ensures _ c.in_ok-n.was in (h.0, omega (arith, h.2), h.1, h.2, admit_opens c.args.rules.now _ c.«open».ensures _ c.in_ok-n.was, omega arith)
-
-pub returns-in_err-n : goal.returns-in_err-n
-returns-in_err-n c = rw (handed_err _ _ c.from_residual.ensures) (unopened_run c.args.rules.now c.args.numbers.now _ _ c.args.spare.now c.args.cells.now _ (open_refused c.args.rules.now _ c.«open».ensures _ c.in_err-n.was))
+pub returns-in_err-file : goal.returns-in_err-file
+returns-in_err-file c = rw (handed_err _ _ c.from_residual.ensures) (unopened_run c.args.rules.now c.args.numbers.now _ _ c.args.spare.now c.args.cells.now _ (open_refused c.args.rules.now _ c.«open».ensures.answer _ (ap counted c.in_err-file.was)))

@@ -9,7 +9,7 @@ pub loop-i-init : goal.loop-i-init
 loop-i-init c = (refl, refl, refl, arrays_same, shared_start c.args.numbers.now)
 
 pub loop-i-preserved : goal.loop-i-preserved
-loop-i-preserved c = let v = c.loop-i.invariant in let o = c.step_shared-done.ensures in (omega (arith, v.0, ap total c.counted-tally.ensures, counted_once c.loop-i.tally c.step_shared-done.result), o.0 ∙ v.1, o.1 ∙ v.2, arrays_then v.3 o.2, shared_next _ _ c.loop-i-test.true v.1 v.3.path_length v.3.acts_length v.3.mid_length v.4 c.number_at-k.ensures.0 o.3 c.counted-tally.ensures)
+loop-i-preserved c = let v = c.loop-i.invariant in let o = c.step_shared-done.ensures in (omega (arith, v.0, ap total c.counted-tally.ensures, counted_once c.loop-i.tally c.step_shared-done.result), o.words ∙ v.1, o.store ∙ v.2, arrays_then v.3 o.arrays, shared_next _ _ c.loop-i-test.true v.1 v.3.path_length v.3.acts_length v.3.mid_length v.4 c.number_at-k.ensures.0 o.stepped c.counted-tally.ensures)
 
-pub returns : goal.returns
-returns c = let v = c.loop-i.invariant in (v.1, v.2, v.3, shared_end c.args.numbers.now c.loop-i.i (omega (arith, c.loop-i-test.false)) v.4)
+pub returns-clause-run : goal.returns-clause-run
+returns-clause-run c = shared_end c.args.numbers.now c.loop-i.i (omega (arith, c.loop-i-test.false)) c.loop-i.invariant.4

@@ -1,0 +1,23 @@
+// The store: all that an expression is evaluated in, in one array of words (document 01, "Values and conditions"; "Memory and the history machine";
+// specs/Stores.antt). These are the places in it.
+
+/// Variable 0, the parameter of the function whose cells are computed.
+pub const PARAMETER: usize = 0;
+
+/// Variable 1, the first argument of the action; 65,535 where there is none.
+pub const FIRST_ARGUMENT: usize = 1;
+
+/// Variable 2, the second argument of the action.
+pub const SECOND_ARGUMENT: usize = 2;
+
+/// Where the cells begin that `before` reads.
+pub const OLD_CELLS: usize = 3;
+
+/// From here a row for each function: how many cells it has, and where they begin among all cells.
+pub const ROWS: usize = 4;
+
+/// How many words a row has.
+pub const ROW_WORDS: usize = 2;
+
+/// From here the cells that `now` reads.
+pub const CELLS: usize = 36;

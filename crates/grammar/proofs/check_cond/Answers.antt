@@ -1,5 +1,0 @@
-use Rattle.grammar.proofs.RowCases.{rows}
-use Rattle.grammar.proofs.check_cond.Goals as goal
-
-pub returns : goal.returns
-returns c = search rows

@@ -1,0 +1,47 @@
+// The rule set that was admitted, as the steps after that go by it, and what a run of it is (document 01, "Operations": each begins with Admit; Run).
+ghost use Rattle.std.specs.Prelude.{◌≡◌, ◌+◌, ◌≤◌, length, get_or};
+
+use cells::Functions;
+
+/// An admitted rule set: its functions, and the tables that they are of.
+#[derive(Clone, Copy)]
+pub struct Admitted<'a> {
+    /// Its attribute functions, with the stream's words that they and all processes are in.
+    pub functions: Functions<'a>,
+    /// The tables that declare it: an array and no slice, so that the compiler knows their number, and no recursion keeps it in its frames.
+    pub tables: &'a [u32; 500],
+    pub ghost labels_counted: { functions.width ≡ 3 + get_or tables.now 17 0 },
+    pub ghost functions_counted: { functions.count ≡ get_or tables.now 210 0 },
+    pub ghost few_cells: { functions.cells ≤ 1024 },
+}
+
+/// What is run: an admitted rule set's main, by the numbers of moves.
+#[derive(Clone, Copy)]
+pub struct Course<'a, 'b> {
+    pub rules: Admitted<'a>,
+    /// Main's reach: no term of the run has more words.
+    pub reach: usize,
+    /// The numbers, two bytes each.
+    pub numbers: &'b [u8],
+}
+
+impl<'a> Admitted<'a> {
+    /// The rule set of these words, tables and directory, with this number of cells.
+    pub fn of(
+        words: &'a [u16],
+        tables: &'a [u32; 500],
+        directory: &'a [u32],
+        cells: usize,
+    ) -> Admitted<'a>
+        requires { (length words.now ≤ 65535) × (cells ≤ 1024) × (get_or tables.now 17 0 ≤ 64) × (get_or tables.now 210 0 ≤ 16) }
+        ensures stream { result.functions.words.now ≡ words.now }
+        ensures declared { result.tables.now ≡ tables.now }
+        ensures places { result.functions.directory.now ≡ directory.now }
+        ensures memory { result.functions.cells ≡ cells }
+    {
+        Admitted {
+            functions: Functions::of(words, tables, directory, cells),
+            tables,
+        }
+    }
+}
