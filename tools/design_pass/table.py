@@ -19,8 +19,10 @@ starts = {}
 for r in functions(NEW):
     f, i = r[0].split(':'); starts.setdefault(f, []).append((int(i), r[1]))
 src = {}
+FAMILY = re.compile(r'here and|, and so (do|does)|these|in this file|each function|below|and its|family|both|and the|, and `|all of them|beside')
 def reasoned(f, i):
-    """Whether a comment with Stays stands directly above line i of file f, or above the function around it, or in it up to the line."""
+    """Whether a comment with Stays stands directly above line i of file f, above the function around it or in it; or, at the head of the file or above an
+    earlier function, one that says that it speaks for others too."""
     if f not in src:
         try: src[f] = open(os.path.join(NEW, f)).read().split('\n')
         except OSError: src[f] = []
@@ -34,16 +36,17 @@ def reasoned(f, i):
     if not ls or i > len(ls): return False
     if above(i) or ('//' in ls[i - 1] and 'Stays' in ls[i - 1]): return True
     before = [a for a, n in starts.get(f, []) if a <= i]
-    if not before: return False
-    a = max(before)
-    nxt = min([b for b, n in starts.get(f, []) if b > i], default=len(ls) + 1)
-    if above(a): return True
-    if a == i:
-        # the whole function: up to its closing line
-        j = a
-        while j < min(nxt, len(ls)) and not re.match(r'\s{0,4}\}$', ls[j]): j += 1
-        return any('// Stays' in l for l in ls[a - 1:j])
-    return any('// Stays' in l for l in ls[max(a, i - 4) - 1:i])
+    if before:
+        a = max(before)
+        nxt = min([b for b, n in starts.get(f, []) if b > i], default=len(ls) + 1)
+        if above(a) or any('// Stays' in l for l in ls[a - 1:min(nxt - 1, len(ls))]): return True
+    block, says = '', False
+    for l in ls[:i]:
+        if re.match(r'\s*//', l): block += ' ' + l.strip(' /')
+        else:
+            if 'Stays' in block and FAMILY.search(block): says = True
+            block = ''
+    return says
 TITLE = {1: 'own enums, flags, numbers for kinds and refusals', 2: 'twins', 3: 'loops by hand', 4: 'equality, order, conversion by hand', 5: 'repeated facts, parameters that travel together', 6: 'buffers, lists, indices', 7: 'switches', 8: 'proofs'}
 import io, contextlib
 today = lambda w: "today's form" in w
@@ -93,7 +96,7 @@ print('| point | row: found then -> found now | today\'s form: then -> now |\n|-
 for p in range(1, 9):
     x = [r for r in o if r[0].split('.')[0] == str(p)]
     print('| %d. %s | %s | %s |' % (p, TITLE[p], '; '.join('%s: %s -> %s' % (r[0], r[3], new[r[0]][3]) for r in x if not today(r[1])), '; '.join('%s: %s -> %s' % (r[0], r[3], new[r[0]][3]) for r in x if today(r[1])) or '-'))
-print('\n## Each row\n\n| row | what is counted | then | now | of them with a reason beside |\n|---|---|---|---|---|')
+print('\n## Each row\n\n| row | what is counted | then | now | of them with a line beside, or at the head of their family or file |\n|---|---|---|---|---|')
 for r in o: print('| %s | %s | %s | %s | %s |' % (r[0], r[1], r[3], new[r[0]][3], tally[r[0]][1] if r[0] in tally and sum(tally[r[0]]) else ''))
 # more than before
 more = [r for r in o if not today(r[1]) and new[r[0]][3].isdigit() and r[3].isdigit() and int(new[r[0]][3]) > int(r[3])]

@@ -1,4 +1,6 @@
 // Actions as numbers: read off a running term, and tested against a mask (document 01, "Moves, in order").
+// Stays one number: a list of moves is an array of 32 bits a move, at most 131,072 of them, and equal actions are equal numbers; a struct of a label
+// and up to two arguments would take more room in each such array, and a comparison of its fields at each search.
 #![tactic(auto)]
 
 ghost use Rattle.std.specs.Prelude.{◌≡◌, Bool, List, [], ◌∷◌, ◌++◌, ℕ, ◌+◌, ◌*◌, ◌-◌, ◌≤◌, ◌<◌, length, get_or};
@@ -18,6 +20,9 @@ fn word(t: &[u16], i: usize) -> u16
 }
 
 // How many arguments follow a label: none, one or two. Each is the code of a constant and then its word.
+// Stays beside the function of this name in codes, which reads constants of any shape at any place: this one is put into each level of successors::begin,
+// and this crate uses no other of the engine but code_numbers (crates.txt).
+// Stays a usize with its bound as a fact, since it is multiplied and added next.
 fn arguments(t: &[u16]) -> usize
     ensures { (result ≤ 2) × ((a : VisibleAction) (rest : List ℕ) → ActionAt t.now a rest → result ≡ length a.arguments) }
 {
@@ -59,6 +64,7 @@ pub fn code_at(t: &[u16]) -> u32
 // ── sets of labels ──
 
 // A word of a mask, or 0 where there is none.
+// Stays a u64 with its bound as a fact, since it is a part of a number of 64 bits next.
 fn mask_word(d: &[u16], i: usize) -> u64
     ensures { (result ≡ mask_word d.now i) × (result < 65536) }
 {
@@ -66,6 +72,7 @@ fn mask_word(d: &[u16], i: usize) -> u64
 }
 
 // The mask at the front as a set.
+// Stays: no function of std makes one number of four words.
 pub fn mask_set(d: &[u16]) -> u64
     ensures { result ≡ mask_set d.now }
 {

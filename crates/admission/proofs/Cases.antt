@@ -1,13 +1,12 @@
 -- A case for each way that these functions return (document 01, "Operations": Admit; refusals 4 to 8).
 use mathlib.Core.Path.{◌≡◌, ap, sym, ◌∙◌, subst}
-use mathlib.Core.Bool.{Bool, true, false, not, ◌&&◌}
+use mathlib.Core.Bool.{Bool, true, false, not}
 use mathlib.Core.List.{List, ◌++◌}
-use Prim.Native.Nat.{ℕ, suc, ◌+◌, ◌*◌, ◌≤◌, ◌<◌}
+use Prim.Native.Nat.{ℕ, ◌*◌, ◌≤◌, ◌<◌}
 use native.Mathlib.Omega.{arith}
-use lib.Dec.{T, eqb, leb, leb→le, le→leb}
-use lib.ListN.{length, drop, drop_of_length-le, get_or}
-use lib.Seq.{drop-cons}
-use borrow.Author.Tests.{not-true, not-false, eq-eqb, ne_eqb}
+use lib.Dec.{T, leb, leb→le, le→leb}
+use lib.ListN.{length, drop}
+use borrow.Author.Tests.{not-true, not-false}
 use Rattle.eb3.specs.Editions.{edition_1}
 use Rattle.eb3.specs.Blocks.{stream}
 use Rattle.eb3.proofs.Laws.Reading.{pick_true, pick_false}
@@ -44,24 +43,6 @@ module _ (cells : ℕ) (w : Weight) where
   unfolding admitted
   judge_fine r h k e = ap Ok e ∙ sym (ap admitted (pick_true _ _ (leb w.reach 8192) (le→leb w.reach 8192 h)
       ∙ pick_true _ _ (leb w.breadth 65535) (le→leb w.breadth 65535 k)))
-
--- ── zeros ──
-
-zeros_at : (s : List ℕ) (i : ℕ) → i < length s → all_zero (drop i s) ≡ (eqb (get_or s i 0) 0 && all_zero (drop (i + 1) s))
-unfolding all_zero
-zeros_at s i h = let e : suc i ≡ i + 1 = omega arith in ap all_zero (drop-cons s i 0 h) ∙ ap (λ j. eqb (get_or s i 0) 0 && all_zero (drop j s)) e
-
--- A loop over the words, with `x` for what it is to find.
-module _ (x : Bool) (s : List ℕ) (i : ℕ) (e : x ≡ all_zero (drop i s)) where
-  pub zeros_wrong : i < length s → (get_or s i 0 ≡ 0 → ⊥) → false ≡ x
-  zeros_wrong h n = sym (e ∙ (zeros_at s i h ∙ ap (λ (b : Bool). b && all_zero (drop (i + 1) s)) (ne_eqb (get_or s i 0) 0 n)))
-
-  pub zeros_next : i < length s → get_or s i 0 ≡ 0 → x ≡ all_zero (drop (i + 1) s)
-  zeros_next h z = e ∙ (zeros_at s i h ∙ ap (λ (b : Bool). b && all_zero (drop (i + 1) s)) (eq-eqb (get_or s i 0) 0 z))
-
-  pub zeros_end : length s ≤ i → true ≡ x
-  unfolding all_zero
-  zeros_end h = sym (e ∙ ap all_zero (drop_of_length-le s h))
 
 -- ── the words after the first two ──
 

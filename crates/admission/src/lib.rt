@@ -14,7 +14,7 @@ ghost use Rattle.admission.specs.Answering.{admitted, read_whole};
 ghost use Rattle.admission.specs.Admitting.{WordsAdmitted, FileAdmitted};
 
 use blocks::opened::Blocks;
-use blocks::{join, open};
+use blocks::{CONTENT_WORDS, join, open};
 use refusals::Refusal;
 use rules::read;
 use scan::last;
@@ -36,12 +36,7 @@ fn judge(cells: u32, w: Weight) -> Result<Limits, Refusal>
 fn zeros(t: &[u16]) -> bool
     ensures { result ≡ all_zero t.now }
 {
-    for &w in t {
-        if w != 0 {
-            return false;
-        }
-    }
-    true
+    t.iter().all(|&w| w == 0)
 }
 
 // The stream's words after its first two: sections 2 to 5, the end, and main's measures; with the tables and the directory that
@@ -51,7 +46,7 @@ fn admit_words(t: &[u16], tables: &mut [u32; 500], dir: &mut [u32]) -> Result<Li
     ensures { WordsAdmitted t.now dir.old result tables.new dir.new }
 {
     let r = read(t, tables, dir)?;
-    if 254 <= r.left {
+    if CONTENT_WORDS <= r.left {
         return Err(Refusal::Form);
     }
     if !zeros(last(t, r.left)) {
@@ -60,25 +55,27 @@ fn admit_words(t: &[u16], tables: &mut [u32; 500], dir: &mut [u32]) -> Result<Li
     judge(r.cells as u32, r.weight)
 }
 
-// An opened file, decoded into lent words.
+// n blocks, decoded into lent words.
 // Stays: the words, the tables and the directory are three arrays, lent apart: the library has no heap and fixed memory, and a caller that
 // wants no directory lends an empty one.
 pub fn admit_in(
-    file: &Blocks,
+    rules: &[u8],
     words: &mut [u16],
     tables: &mut [u32; 500],
     dir: &mut [u32],
+    n: usize,
 ) -> Result<Limits, Refusal>
-    requires { 254 * file.now.count ≤ length words.old }
-    ensures { FileAdmitted file.now.bytes.now words.old dir.old file.now.count result words.new tables.new dir.new }
+    requires { (length rules.now ≡ 512 * n) × (254 * n ≤ length words.old) × (1 ≤ n) × (n ≤ 64) }
+    ensures { FileAdmitted rules.now words.old dir.old n result words.new tables.new dir.new }
 {
-    join(file, words);
-    let end = 254 * file.count;
+    join(rules, words, n);
+    let end = CONTENT_WORDS * n;
     admit_words(&words[2..end], tables, dir)
 }
 
 // Local words for one block, eight, or 64, the most that there may be: a small rule set does not pay for clearing a large array.
-// Stays: one function for all sizes of a local array, since memory is fixed and there is no heap.
+// Stays: one function for all sizes of a local array, since memory is fixed and there is no heap. Its clause is of the const parameter, which each call
+// gives as a number: the check finds it there, and no struct is needed for it.
 fn admit_sized<const WORDS: usize>(file: &Blocks) -> Result<Limits, Refusal>
     requires { (254 * file.now.count ≤ WORDS) × (WORDS ≤ 16256) }
     ensures { result ≡ read_whole (drop 2 (stream file.now.bytes.now)) }
@@ -86,11 +83,13 @@ fn admit_sized<const WORDS: usize>(file: &Blocks) -> Result<Limits, Refusal>
     let mut words = [0u16; WORDS];
     let mut tables = [0u32; 500];
     let mut none = [0u32; 0];
-    let r = admit_in(file, &mut words, &mut tables, &mut none);
+    let r = admit_in(file.bytes, &mut words, &mut tables, &mut none, file.count);
     r
 }
 
 // Admit: C, G, W and the start term's size, or the first refusal of 1 to 8.
+// Stays, with its choice among the sizes: they are const parameters, and a closure has none, so the other operations, which choose among others
+// (crates/engine), cannot share it.
 pub fn admit(rules: &[u8]) -> Result<Limits, Refusal>
     ensures { result ≡ admitted (admit rules.now) }
 {

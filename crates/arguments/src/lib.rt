@@ -31,7 +31,7 @@ pub struct Context<'a> {
 
 // ── the tables ──
 
-// Stays: these three are public, and what is public keeps its promise; today's form is a cast in place.
+// Stays: these three are public, and what is public keeps its promise, though no crate here calls them any more; today's form is a cast in place.
 // A number of 32 bits as a number.
 pub fn wide32(x: u32) -> usize
     ensures { (result ≡ x) × (result < 4294967296) }
@@ -58,13 +58,12 @@ pub fn narrow32(x: usize) -> u32
 pub fn entry(tb: &[u32], at: usize) -> u32
     ensures { result ≡ get_or tb.now at 0 }
 {
-    if at < tb.len() {
-        return tb[at];
-    }
-    0
+    tb.get(at).copied().unwrap_or(0)
 }
 
 // How many domains, labels, functions and processes there are.
+// Stays four functions that differ in the place: each is named where it is read, and its contract names the place that the specification knows. One
+// function with the place as a parameter would be `entry`.
 pub fn domains(tb: &[u32]) -> usize
     ensures { result ≡ get_or tb.now 0 0 }
 {
@@ -83,6 +82,7 @@ pub fn functions(tb: &[u32]) -> usize
     entry(tb, FUNCTIONS) as usize
 }
 
+// Stays, here and in size_of: the bound is said beside the number, since it is public, and what is public keeps its promise.
 pub fn processes(tb: &[u32]) -> usize
     ensures { (result ≡ get_or tb.now 211 0) × (result < 4294967296) }
 {
@@ -127,6 +127,8 @@ fn mask_limit(n: usize) -> usize
 }
 
 // The k words of a mask, where n labels are left.
+// Stays: k does not say how many of the words count, but how many a mask has. All callers give MASK_WORDS; it is public, and what is public keeps its
+// promise.
 #[tactic(auto, using(crate::proofs::Rounds::a_mask))]
 pub fn check_mask(t: &[u16], k: usize, n: usize) -> Result<usize, Refusal>
     ensures { result ≡ checked (mask_of k n t.now) }
@@ -154,6 +156,8 @@ pub fn mask_zero(t: &[u16]) -> bool
 // ── variables ──
 
 // What is known of the variables in scope, their domains or their values, and of one more.
+// Stays, here and where a variable is added (rule_terms, unfold): that there is room for one more is a clause. It is asked nowhere else, since a `Context`
+// may have eight variables.
 pub fn with(vars: &[u16], x: u16) -> [u16; 8]
     requires { length vars.now < 8 }
     ensures { take (length vars.now + 1) result ≡ vars.now ++ (x ∷ []) }

@@ -13,6 +13,12 @@ use refusals::Refusal;
 
 pub mod opened;
 
+/// How many bytes a block has.
+pub const BLOCK: usize = 512;
+
+/// How many words of a block come after its two sums.
+pub const CONTENT_WORDS: usize = 254;
+
 // Both sums of a block, before or after their remainders are taken.
 #[derive(Clone, Copy)]
 pub struct Pair {
@@ -125,15 +131,14 @@ fn check_blocks(rules: &[u8]) -> bool
     ensures { result ≡ blocks_right 0 (block_count rules.now) rules.now }
 {
     let (blocks, _) = rules.as_chunks::<512>();
-    for (i, block) in blocks.iter().enumerate() {
-        if !check_block(block, i) {
-            return false;
-        }
-    }
-    true
+    blocks
+        .iter()
+        .enumerate()
+        .all(|(i, block)| check_block(block, i))
 }
 
 // Word 0 is the edition, and word 1 the number of blocks.
+// Stays: n does not say how many of the bytes count; it is what the second word is compared with.
 fn check_edition(rules: &[u8], n: usize) -> bool
     requires { 512 ≤ length rules.now }
     ensures { result ≡ edition_test rules.now n }
@@ -146,8 +151,8 @@ pub fn open(rules: &[u8]) -> Result<Blocks, Refusal>
     ensures answer { counted result ≡ opening rules.now (open_blocks rules.now) }
     ensures same_bytes { (file : Blocks) → result ≡ Ok file → file.bytes.now ≡ rules.now }
 {
-    let n = rules.len() / 512;
-    if rules.len() % 512 != 0 || !(1..=64).contains(&n) {
+    let n = rules.len() / BLOCK;
+    if rules.len() % BLOCK != 0 || !(1..=64).contains(&n) {
         return Err(Refusal::Length);
     }
     if !check_blocks(rules) {
@@ -172,16 +177,17 @@ fn decode(content: &[u8], words: &mut [u16])
     }
 }
 
-// The contents of the blocks, joined: the stream's words, before what the array held there.
-pub fn join(file: &Blocks, words: &mut [u16])
-    requires { 254 * file.now.count ≤ length words.old }
-    ensures { words.new ≡ stream file.now.bytes.now ++ drop (254 * file.now.count) words.old }
+// The contents of n blocks, joined: the stream's words, before what the array held there.
+// Stays, here and in admission, given and engine: that the words have room for the blocks is a fact of two values. The words are
+// the caller's, who goes on with a part of them as a slice, so a struct of both would be taken apart at once.
+pub fn join(rules: &[u8], words: &mut [u16], n: usize)
+    requires { (length rules.now ≡ 512 * n) × (254 * n ≤ length words.old) × (n ≤ 64) }
+    ensures { words.new ≡ stream rules.now ++ drop (254 * n) words.old }
 {
-    let bytes = file.bytes;
-    for i in 0..file.count {
+    for i in 0..n {
         decode(
-            &bytes[512 * i + 4..512 * i + 512],
-            &mut words[254 * i..254 * i + 254],
+            &rules[BLOCK * i + 4..BLOCK * i + BLOCK],
+            &mut words[CONTENT_WORDS * i..CONTENT_WORDS * i + CONTENT_WORDS],
         );
     }
 }

@@ -71,8 +71,8 @@ module _ (rules : List ℕ) (p : Result Limits Why) (e : p ≡ admitted (admit r
   pub admit_gives : (l : Limits) → p ≡ Ok l → given l ≡ sizes (admit rules)
   admit_gives l f = sym (ap exported f) ∙ (ap exported e ∙ told_admit)
 
-  pub admit_refuses : (k : Why) (j : ℕ) → p ≡ Err k → j ≡ number k → only j ≡ sizes (admit rules)
-  admit_refuses k j f g = ap only g ∙ (sym (ap exported f) ∙ (ap exported e ∙ told_admit))
+  pub admit_refuses : (k : Why) (j : ℕ) (z : CSizes) → p ≡ Err k → j ≡ number k → (z.refusal ≡ 0) × ((z.cells ≡ 0) × ((z.reach ≡ 0) × ((z.breadth ≡ 0) × (z.size ≡ 0)))) → record { refusal = j; cells = z.cells; reach = z.reach; breadth = z.breadth; size = z.size } ≡ sizes (admit rules)
+  admit_refuses k j z f g h = (λ i. record { refusal = g i; cells = (h.1.0) i; reach = (h.1.1.0) i; breadth = (h.1.1.1.0) i; size = (h.1.1.1.1) i }) ∙ (sym (ap exported f) ∙ (ap exported e ∙ told_admit))
 
 -- ── Start ──
 
@@ -98,8 +98,8 @@ module _ (rules term memory : List ℕ) (p : Result ℕ Why) (e : p ≡ started_
   pub start_gives : (n : ℕ) → p ≡ Ok n → begun n ≡ started (start rules term memory).answer
   start_gives n f = sym (ap exported_start f) ∙ (ap exported_start e ∙ told_start)
 
-  pub start_refuses : (k : Why) (j : ℕ) → p ≡ Err k → j ≡ number k → unbegun j ≡ started (start rules term memory).answer
-  start_refuses k j f g = ap unbegun g ∙ (sym (ap exported_start f) ∙ (ap exported_start e ∙ told_start))
+  pub start_refuses : (k : Why) (j : ℕ) (z : CStarted) → p ≡ Err k → j ≡ number k → (z.refusal ≡ 0) × (z.size ≡ 0) → record { refusal = j; size = z.size } ≡ started (start rules term memory).answer
+  start_refuses k j z f g h = (λ i. record { refusal = g i; size = (h.1) i }) ∙ (sym (ap exported_start f) ∙ (ap exported_start e ∙ told_start))
 
 -- ── Count ──
 
@@ -125,8 +125,8 @@ module _ (rules term memory : List ℕ) (p : Result ℕ Why) (e : p ≡ counted_
   pub count_gives : (n : ℕ) → p ≡ Ok n → listed n ≡ counted (count rules term memory)
   count_gives n f = sym (ap exported_count f) ∙ (ap exported_count e ∙ told_count)
 
-  pub count_refuses : (k : Why) (j : ℕ) → p ≡ Err k → j ≡ number k → unlisted j ≡ counted (count rules term memory)
-  count_refuses k j f g = ap unlisted g ∙ (sym (ap exported_count f) ∙ (ap exported_count e ∙ told_count))
+  pub count_refuses : (k : Why) (j : ℕ) (z : CCounted) → p ≡ Err k → j ≡ number k → (z.refusal ≡ 0) × (z.moves ≡ 0) → record { refusal = j; moves = z.moves } ≡ counted (count rules term memory)
+  count_refuses k j z f g h = (λ i. record { refusal = g i; moves = (h.1) i }) ∙ (sym (ap exported_count f) ∙ (ap exported_count e ∙ told_count))
 
 -- ── Move, Present ──
 
@@ -157,9 +157,9 @@ pub step_gives : (r : Result Step Why) (s : Step) → r ≡ Ok s → exported_ac
 unfolding exported_step
 step_gives r s f = sym (ap exported_step f)
 
-pub step_refuses : (r : Result Step Why) (k : Why) (j : ℕ) → r ≡ Err k → j ≡ number k → record { refusal = j; size = 0; visible = 0; label = 0; arguments = 0; first = 0; second = 0 } ≡ exported_step r
+pub step_refuses : (r : Result Step Why) (k : Why) (j : ℕ) (z : CMoved) → r ≡ Err k → j ≡ number k → (z.refusal ≡ 0) × ((z.size ≡ 0) × ((z.visible ≡ 0) × ((z.label ≡ 0) × ((z.arguments ≡ 0) × ((z.first ≡ 0) × (z.second ≡ 0)))))) → record { refusal = j; size = z.size; visible = z.visible; label = z.label; arguments = z.arguments; first = z.first; second = z.second } ≡ exported_step r
 unfolding exported_step
-step_refuses r k j f g = (λ i. record { refusal = g i; size = 0; visible = 0; label = 0; arguments = 0; first = 0; second = 0 }) ∙ sym (ap exported_step f)
+step_refuses r k j z f g h = (λ i. record { refusal = g i; size = (h.1.0) i; visible = (h.1.1.0) i; label = (h.1.1.1.0) i; arguments = (h.1.1.1.1.0) i; first = (h.1.1.1.1.1.0) i; second = (h.1.1.1.1.1.1) i }) ∙ sym (ap exported_step f)
 
 -- ── Run ──
 
@@ -190,6 +190,6 @@ module _ (rules numbers term memory spare cells : List ℕ) (p : Result Totals W
   pub run_gives : (t : Totals) → p ≡ Ok t → Told (ended t)
   run_gives t f = (sym (ap exported_run f) ∙ (ap exported_run d.answer ∙ told_run), d.term_after, d.memory_after, d.scratch_after)
 
-  pub run_refuses : (k : Why) (j : ℕ) → p ≡ Err k → j ≡ number k → Told (unended j)
-  run_refuses k j f g =
-      (ap unended g ∙ (sym (ap exported_run f) ∙ (ap exported_run d.answer ∙ told_run)), d.term_after, d.memory_after, d.scratch_after)
+  pub run_refuses : (k : Why) (j : ℕ) (z : CRan) → p ≡ Err k → j ≡ number k → (z.refusal ≡ 0) × ((z.size ≡ 0) × ((z.visible ≡ 0) × ((z.internal ≡ 0) × (z.refused ≡ 0)))) → Told (record { refusal = j; size = z.size; visible = z.visible; internal = z.internal; refused = z.refused })
+  run_refuses k j z f g h =
+      ((λ i. record { refusal = g i; size = (h.1.0) i; visible = (h.1.1.0) i; internal = (h.1.1.1.0) i; refused = (h.1.1.1.1) i }) ∙ (sym (ap exported_run f) ∙ (ap exported_run d.answer ∙ told_run)), d.term_after, d.memory_after, d.scratch_after)

@@ -17,9 +17,9 @@ use refusals::Refusal;
 const DONE: u32 = 0;
 
 // Stays, here and in the structs after it: they are the C interface, as eb3.h declares it. C has no Option and no enum with values, so `refusal`
-// is 0 or a refusal's number, `visible` is 0 or 1, and what an answer does not have is 0.
+// is 0 or a refusal's number, `visible` is 0 or 1, and what an answer does not have is 0. So each exported function writes the fields of its own struct.
 #[repr(C)]
-#[derive(Clone, Copy)]
+#[derive(Clone, Copy, Default)]
 pub struct Sizes {
     pub refusal: u32,
     pub cells: u32,
@@ -29,21 +29,21 @@ pub struct Sizes {
 }
 
 #[repr(C)]
-#[derive(Clone, Copy)]
+#[derive(Clone, Copy, Default)]
 pub struct Started {
     pub refusal: u32,
     pub size: u32,
 }
 
 #[repr(C)]
-#[derive(Clone, Copy)]
+#[derive(Clone, Copy, Default)]
 pub struct Counted {
     pub refusal: u32,
     pub moves: u32,
 }
 
 #[repr(C)]
-#[derive(Clone, Copy)]
+#[derive(Clone, Copy, Default)]
 pub struct Moved {
     pub refusal: u32,
     pub size: u32,
@@ -55,7 +55,7 @@ pub struct Moved {
 }
 
 #[repr(C)]
-#[derive(Clone, Copy)]
+#[derive(Clone, Copy, Default)]
 pub struct Ran {
     pub refusal: u32,
     pub size: u32,
@@ -64,6 +64,8 @@ pub struct Ran {
     pub refused: u64,
 }
 
+// Stays, here and below: the buffers come one by one, and each struct is filled field by field, since that is how eb3.h declares them: it has no struct
+// within a struct.
 #[unsafe(no_mangle)]
 pub extern "C" fn eb3_admit(rules: &[u8]) -> Sizes
     ensures { result ≡ sizes (admit rules.now) }
@@ -78,10 +80,7 @@ pub extern "C" fn eb3_admit(rules: &[u8]) -> Sizes
         },
         Err(refusal) => Sizes {
             refusal: u32::from(refusal),
-            cells: 0,
-            reach: 0,
-            breadth: 0,
-            size: 0,
+            ..Sizes::default()
         },
     }
 }
@@ -97,7 +96,7 @@ pub extern "C" fn eb3_start(rules: &[u8], term: &mut [u8], memory: &mut [u8]) ->
         },
         Err(refusal) => Started {
             refusal: u32::from(refusal),
-            size: 0,
+            ..Started::default()
         },
     }
 }
@@ -113,7 +112,7 @@ pub extern "C" fn eb3_count(rules: &[u8], term: &[u8], memory: &[u8]) -> Counted
         },
         Err(refusal) => Counted {
             refusal: u32::from(refusal),
-            moves: 0,
+            ..Counted::default()
         },
     }
 }
@@ -135,11 +134,7 @@ fn taken(size: u32, action: Option<Visible>) -> Moved
         None => Moved {
             refusal: DONE,
             size,
-            visible: 0,
-            label: 0,
-            arguments: 0,
-            first: 0,
-            second: 0,
+            ..Moved::default()
         },
     }
 }
@@ -152,12 +147,7 @@ fn told(r: Result<Step, Refusal>) -> Moved
         Ok(step) => taken(step.size, step.action),
         Err(refusal) => Moved {
             refusal: u32::from(refusal),
-            size: 0,
-            visible: 0,
-            label: 0,
-            arguments: 0,
-            first: 0,
-            second: 0,
+            ..Moved::default()
         },
     }
 }
@@ -212,10 +202,7 @@ pub extern "C" fn eb3_run(
         },
         Err(refusal) => Ran {
             refusal: u32::from(refusal),
-            size: 0,
-            visible: 0,
-            internal: 0,
-            refused: 0,
+            ..Ran::default()
         },
     }
 }

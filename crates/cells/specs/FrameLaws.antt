@@ -16,7 +16,7 @@ use Rattle.eb3.specs.Cells.{offset, cells_up_to}
 use Rattle.eb3.specs.Spelling.{data_words}
 use Rattle.scan.specs.Checking.{last_of}
 use Rattle.scan.specs.Laws.{last_behind}
-use Rattle.expressions.specs.declared.Valued.{Valued}
+use Rattle.expressions.specs.declared.valued.Valued.{Valued}
 use Rattle.expressions.specs.Stores.{stored, row_place, now_place, before_place, cell_in, reading_in, variable_in, environment_in}
 use Rattle.expressions.specs.Answering.{DataAt, Evaluated}
 use Rattle.expressions.specs.Laws.{data_parted}
@@ -42,7 +42,7 @@ not_named x (number k) n = ne_eqb x k n
 
 -- ── an element in the store's first word ──
 
--- Of m, and x stored in its first word; the old cells begin behind it.
+-- Of m, and x stored in its first word; the old cells begin after it.
 module _ (m : List ℕ) (x : ℕ) (behind : 1 ≤ before_place m) where
   abbrev mx : List ℕ
   mx = set m 0 x
@@ -167,7 +167,7 @@ module _ {t : List ℕ} {f left : ℕ} (T : Turn t f left) (m : List ℕ) (enter
 
     -- ── one element named ──
 
-    -- d is what the element's name answers, a what its value does, u and v the words behind them.
+    -- d is what the element's name answers, a what its value does, u and v the words after them.
     module _ (asks : Tells true s AsksOne) (d : Valued) (named : Evaluated (drop 4 s) m d) (u : List ℕ) (is_u : u ≡ last_of d.left s)
         (a : Valued) (valued : Evaluated u (set m 0 d.value) a) (v : List ℕ) (is_v : v ≡ last_of a.left u) (keeps : Tells true v (λ b. b ≡ kept_value f)) where
       asks_here : AsksOne spelt

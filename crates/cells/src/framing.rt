@@ -45,6 +45,9 @@ fn names_one(s: &[u16]) -> bool
 }
 
 // Every cell by the expression, element by element.
+// Stays, here and in fill_named: the place and k beside the whole store, since the expression reads all of the store while cells of it are written.
+// Stays: k is a usize with its bound as a clause, as all places and numbers of cells are.
+// Stays: that the store keeps its length is a fact of what it was and what it is then, which no field of a struct holds.
 fn fill_each(s: &[u16], m: &mut [u16], at: usize, k: usize)
     requires { (length s.now ≤ 65535) × (36 ≤ at) × (at + k ≤ length m.old) × (k < 65536) }
     ensures { (length m.new ≡ length m.old) × ((f : ℕ) → NewCells f s.now at k m.old m.new) }

@@ -26,6 +26,8 @@ pub struct Functions<'a> {
     pub words: &'a [u16],
     /// The directory, with a row of `width` words for each function: how many cells it has, where they begin among all cells, and
     /// where each of its expressions is.
+    // Stays: the columns of a row are numbers, here and in declarations, steps and engine: 0 and 1 are read at i % 2, and an expression's column, 2 for the
+    // start and 3 and the label for an event, is a parameter, so that no name for a column would be said where one is read.
     pub directory: &'a [u32],
     /// How many words a row of the directory has.
     pub width: usize,
@@ -41,6 +43,7 @@ pub struct Functions<'a> {
 
 impl<'a> Functions<'a> {
     /// The functions that a rule set's tables and directory are of: a row has three words, and one more for each label.
+    // Stays: what is asked are the facts of the fields that are made here; from then on they are asked of no function.
     pub fn of(words: &'a [u16], tables: &[u32], directory: &'a [u32], cells: usize) -> Functions<'a>
         requires { (length words.now ≤ 65535) × (cells ≤ 1024) × (get_or tables.now 17 0 ≤ 64) × (get_or tables.now 210 0 ≤ 16) }
         ensures { (result.words.now ≡ words.now) × (result.directory.now ≡ directory.now) × (result.width ≡ 3 + get_or tables.now 17 0) × (result.count ≡ get_or tables.now 210 0) × (result.cells ≡ cells) }
@@ -57,6 +60,8 @@ impl<'a> Functions<'a> {
 
 // All cells, by the expressions in column j of the directory: function by function, element by element. Word 0 of the store is the
 // function's parameter, and changes.
+// Stays, here and below: that a lent array keeps its length is said by each function that writes into one. It is a fact of what the array was and what it is
+// then, and a field of a struct holds facts of one moment.
 pub fn fill(functions: &Functions, m: &mut [u16], j: usize)
     requires { j ≤ 256 }
     ensures { (length m.new ≡ length m.old) × ((A : Attributes) (o : Option VisibleAction) (b : Reading) → Filling A o b functions.now.words.now functions.now.directory.now m.old functions.now.width j functions.now.count → Filled A o b m.old m.new) }
@@ -71,6 +76,7 @@ pub fn fill(functions: &Functions, m: &mut [u16], j: usize)
 
 // The k cells from one place on as those from another.
 // Stays word by word: copy_within calls memmove, and the library promises C hosts to call memcpy and memset only (host/eb3.h, Linking).
+// Stays with two places and k: both parts are of one array, which each caller would have to split.
 pub fn copy_cells(m: &mut [u16], from: usize, at: usize, k: usize)
     requires { (from + k ≤ length m.old) × (at + k ≤ length m.old) }
     ensures { Copied m.old m.new from at k }
@@ -117,6 +123,9 @@ pub fn lay(functions: &Functions, m: &mut [u16])
 // ── memories ──
 
 // k words that the memory has.
+// Stays beside decode of blocks, a crate that this one does not use (crates.txt): that fills a whole array, this a part of one.
+// Stays with the place and k, and not the part of m lent: the contract says of the whole array what it is then. So do those of `load` and `save`, which are
+// public, and do what there is room for.
 fn load_words(memory: &[u8], m: &mut [u16], at: usize, k: usize)
     requires { (at + k ≤ length m.old) × (2 * k ≤ length memory.now) }
     ensures { Loading memory.now m.old m.new at k }

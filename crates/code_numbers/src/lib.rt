@@ -1,4 +1,5 @@
 // The codes of a rule stream, of guards and of given terms, by their names (document 01, "Codes stand before their operands").
+// Stays: the type is usize, by which words that are read are matched (`scan::first`); a word that is written is cast in place.
 #![tactic(auto)]
 
 // ── data ──

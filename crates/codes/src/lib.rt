@@ -3,6 +3,8 @@
 // What an edition and the functions' parameter counts change is one number, `shape`: bit f says that function f has two parameters, bit 16 that a
 // constant has two words. Edition 1's is 0.
 // Stays: that words are at most 65,535 is a clause of each function here, for the reason in successors (docs/DESIGN-PASS.md, "A struct for words").
+// Stays one number: a struct of these 16 bits and a flag would be taken apart by the same shifts (`second_parameter`, `words_after`), and the definitions
+// that contracts go by (specs/Shapes.antt) are of this number.
 #![tactic(auto)]
 
 ghost use Rattle.std.specs.Prelude.{◌≡◌, ℕ, ◌+◌, ◌*◌, ◌-◌, ◌≤◌, ◌<◌, List, [], ◌∷◌, eqb, length, drop, get_or, MatchOption};
@@ -49,6 +51,7 @@ pub fn refusal(w: u16, due: Due) -> Option<Refusal>
 pub const EDITION_1: usize = 0;
 
 // The words of a constant.
+// Stays, here and below: these numbers are usize with their bounds as facts, since each is added to a place or to a number of words next.
 pub fn width(shape: usize) -> usize
     ensures { (result ≡ width_of shape) × (result ≤ 2) }
 {
@@ -70,24 +73,29 @@ pub fn arity(shape: usize, f: usize) -> usize
 
 // ── what follows a code ──
 
-// The table in three numbers: two bits for each code's operands, a bit for each code that one word follows, and a bit for the code that a mask's four
-// words follow.
-// Stays: shifts are faster than a match by cases, which would be a jump that no machine foresees.
-const OPERANDS: usize = 11716395933523584;
+// The table: how many operands follow each code, and how many words come between. (A match by cases takes up to 1.20 times the instructions, a jump that no machine
+// foresees; bits of one number, read by shifts, 1.00 to 1.08.)
+const OPERANDS: [u8; 31] = [
+    0, 0, 0, 2, 2, 3, 1, 1, 2, 2, 2, 2, 1, 0, 0, 0, 0, 0, 0, 0, 0, 0, 2, 2, 1, 2, 2, 0, 0, 0, 0,
+];
 
-const ONE_WORD: usize = 2097350;
-
-const FOUR_WORDS: usize = 33554432;
+const WORDS: [u8; 31] = [
+    0, 1, 1, 0, 0, 0, 1, 1, 0, 0, 0, 0, 0, 0, 0, 0, 0, 0, 0, 0, 0, 1, 0, 0, 0, 4, 0, 0, 0, 0, 0,
+];
 
 // The words between a code and its operands. A constant's second word is bit 16 of the shape, moved to the constant's code.
+// Stays, here and in the other three functions that ask it: that w is a code, at most 30, is a clause. What is read is a word of the stream, of which code_at
+// makes a number; an enum of the codes would be turned into that number again for each place in the table.
 pub fn words_after(w: usize, shape: usize) -> usize
     requires { w ≤ 30 }
     ensures { (result ≡ more_words shape w) × (result < 7) }
 {
-    (ONE_WORD >> w) % 2 + 4 * ((FOUR_WORDS >> w) % 2) + ((2 * (shape / 65536 % 2)) >> w) % 2
+    WORDS[w] as usize + ((2 * (shape / 65536 % 2)) >> w) % 2
 }
 
 // The word at a place, or 0 where there is none.
+// Stays: std's chain is the generic function; this names it, so that three uses are short and its contract says get_or once.
+// Stays: a usize with its bound as a fact, since it is compared with codes, or is the number of a function.
 fn word(t: &[u16], i: usize) -> usize
     ensures { (result ≡ get_or t.now i 0) × (result < 65536) }
 {
@@ -134,7 +142,7 @@ pub fn operands_after(w: usize) -> usize
     requires { w ≤ 30 }
     ensures { (result ≡ operands_after w) × (result ≤ 3) }
 {
-    (OPERANDS >> (2 * w)) % 4
+    OPERANDS[w] as usize
 }
 
 // How many operands a code has, t being the words after it.
@@ -156,9 +164,12 @@ fn code_at(s: &[u16], at: usize) -> Option<usize>
 
 // The words left after n expressions and terms in a row, n being how many they are. One loop over codes: `due` counts those that are still to come, of
 // whatever sort.
-// Stays: `while`, since no index is counted: a code says how far after it the next one is.
-// Stays: an action's arguments are skipped with it, in a case of their own. Measured, with each of them due a Run takes up to 1.15 times the instructions
+// Stays `while`, since no index is counted: a code says how far after it the next one is.
+// Stays a case of its own for an action, whose arguments are skipped with it: measured, with each of them due a Run takes up to 1.15 times the instructions
 // (attended cabinet, 16 keys), a Present up to 1.10.
+// Stays 0 where a word is no code: no caller skips anything but whole expressions and terms, and an Option would have to be opened at every skip.
+// Stays: n counts expressions, and does not say how many of the words count. That no more words are left than there were, here and in the functions of
+// listing and successors that go by this one, is a fact of both.
 pub fn skip_row(s: &[u16], n: usize, shape: usize) -> usize
     requires { (length s.now ≤ 65535) × (n ≤ 65535) }
     ensures { (result ≤ length s.now) × ((P : Scope) (xs : List Piece) (rest : List ℕ) → RowAt shape s.now P xs rest → n ≡ length xs → result ≡ length rest) }
@@ -190,19 +201,20 @@ pub fn skip(s: &[u16], shape: usize) -> usize
 
 // ── terms that can never move ──
 
-// A bit for each code with which a term begins that has a move whatever its operands are.
-// Stays: a shift, as above.
-const MOVING: usize = 53477376;
+// 1 for each code with which a term begins that has a move whatever its operands are.
+const MOVING: [u8; 31] = [
+    0, 0, 0, 0, 0, 0, 0, 0, 0, 0, 0, 0, 0, 0, 0, 0, 0, 0, 0, 0, 1, 1, 0, 0, 1, 1, 0, 0, 0, 0, 0,
+];
 
 fn moving(w: usize) -> bool
     requires { w ≤ 30 }
     ensures { result ≡ moving_code w }
 {
-    (MOVING >> w) % 2 == 1
+    MOVING[w] == 1
 }
 
 // Whether a term can never move: no such code is in it. Where one is, the loop ends at the first.
-// Stays: `while`, as in skip_row.
+// Stays `while`, as in skip_row.
 // Stays beside skip_row: the loops share what follows a code (operands_after, second_arguments and words_after), and one function of both would have to
 // promise what is left and what was seen at once.
 pub fn idle(s: &[u16], shape: usize) -> bool

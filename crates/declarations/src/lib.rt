@@ -27,8 +27,8 @@ pub struct Counted {
     pub cells: usize,
 }
 
-// The first n words of s, from the place at on. Stays: a place, and not a part of the table lent: what its callers ensure is of the whole table, which
-// they would first have to join of its parts.
+// The first n words of s, from the place at on.
+// Stays with a place, and not with a part of the table lent: what its callers ensure is of the whole table, which they would first have to join of its parts.
 #[tactic(auto, using(crate::proofs::Cases::copy_more, scan::specs::Laws::copy_len))]
 pub fn copy(tb: &mut [u32], at: usize, s: &[u16], n: usize)
     requires { (at + n ≤ length tb.old) × (n ≤ length s.now) }
@@ -42,6 +42,7 @@ pub fn copy(tb: &mut [u32], at: usize, s: &[u16], n: usize)
 // ── domains, and the parameters of labels and processes ──
 
 // A count from lo to hi, and that many of a kind, each checked by `one`.
+// Stays: that the closure may always be called is what every call of one asks, and no type says it.
 fn counted_row<F: Fn(&[u16]) -> Result<usize, Refusal>>(
     t: &[u16],
     lo: usize,
@@ -77,6 +78,7 @@ pub fn parameters(t: &[u16], hi: usize, d: usize) -> Result<usize, Refusal>
 // ── labels ──
 
 // n labels, entered from the place at on.
+// Stays with the place and n, and not the part of the table lent: it is public, and its contract says of the whole table what it is then.
 pub fn enter_labels(
     t: &[u16],
     tb: &mut [u32],
@@ -117,6 +119,8 @@ struct Context<'a> {
     ghost few: { get_or tables.now 17 0 ≤ 64 },
 }
 
+// Stays: t, dir and i are three parameters of the methods, with the bound of i or of a place as a clause. Every call is handed other words, and the directory
+// is lent on, so that a struct of the three would be made anew at each call.
 impl Context<'_> {
     // The expressions of function i for the labels, noted from the place at on.
     #[tactic(auto, using(crate::proofs::LaterCases::sofar_start, crate::proofs::LaterCases::sofar_next))]
@@ -185,6 +189,7 @@ impl Context<'_> {
 }
 
 // k functions of n, from function i on, whose cells begin at begin.
+// Stays: that there are at most 64 labels becomes a field of `Context` here.
 pub fn functions(
     t: &[u16],
     tb: &[u32],

@@ -26,11 +26,13 @@ pub use searching::PASSED;
 // ── answers ──
 
 // An answer that says that there was no room. One below PASSED is the place in the path array where the path begins.
-// Stays: measured, an enum of the three takes 1.03 to 1.22 times the instructions, and frames of 304 bytes a level for 144
-// (docs/DESIGN-PASS.md, "Answers in one number").
+// Stays, here and in each function of this crate that makes, tests or takes apart such an answer: measured, an enum of the three takes 1.03 to 1.22
+// times the instructions, and frames of 304 bytes a level for 144 (docs/DESIGN-PASS.md, "Answers packed in one number").
 pub const FULL: usize = 2199023255552;
 
 // What is left of k, and the words left after a term without move k.
+// Stays, here and below: the bounds of k and of how many words are left are clauses, since both become parts of one number. As fields of a struct they would
+// be put together for each call, and taken apart in it.
 pub fn passing(k: usize, left: usize) -> usize
     requires { (k < 131072) × (left ≤ 65535) }
     ensures { (result ≡ passed + answer left k) × (result < full) }
@@ -97,6 +99,8 @@ fn derive_action(t: &[u16], x: u64, k: usize, end: usize) -> usize
 // ── the walk ──
 
 // Writes the path at the end of a lent array; acts is room for listing moves at parallels with a mask.
+// Stays: the store and the two arrays come one by one, since it is public; they become `Arrays` at once. That the path keeps its length is a
+// fact of what it was and what it is then, which no field of a struct holds.
 pub fn derive(s: &[u16], m: &[u16], k: usize, path: &mut [u16], acts: &mut [u32]) -> usize
     requires { (length s.now ≤ 65535) × (k < 65536) × (length path.old ≤ 65535) × (length acts.old ≤ 131072) }
     ensures { (length path.new ≡ length path.old) × Derived s.now m.now k path.old path.new (length acts.old) result }
@@ -117,6 +121,8 @@ fn derive_lent(s: &[u16], store: &[u16], k: usize, path: &mut [u16], acts: &mut 
 
 // Stays: t, x and k are three parameters of each walk, with the bound of k as a fact. Every call is handed another t, so that a struct of them would be
 // made anew at every level.
+// Stays: that u is no longer than t is a fact of both, asked where both are handed on; and that the arrays stay the same and keep their lengths (`Kept`) is a
+// fact of what they were and what they are then: no field of a struct holds either.
 impl Arrays<'_> {
     // The path of move k, of those that show below masks that hide the labels of x: so nothing need be listed where masks within one another leave one
     // side's moves only.

@@ -6,10 +6,15 @@ ghost use Rattle.derivation.specs.Searching.{nth_place, nth_pair, LocatedBy};
 use actions::{in_set, join};
 
 // From here on an answer says how much of k is left.
-// Stays: measured with an enum for the sides, together with the answers of the walk (FULL in lib.rt).
+// Stays, here and in `seek`, `seek_pair` and `locate`, with both places of a pair in one number: measured with an enum for the sides, together with
+// the answers of the walk (FULL in lib.rt).
 pub const PASSED: usize = 1099511627776;
 
 // The place of the k-th number that passes a test.
+// Stays, here and below: that a list has at most 131,072 numbers, and that k is less than that, are clauses, by which a place is less than PASSED. The lists
+// are parts of one lent array, and a struct of both sides would be made for one call of each function.
+// Stays a loop, as the next: where fewer than k numbers pass, the answer is what is left of k, which no method of an iterator answers.
+// Stays: that the closure may always be called is what every call of one asks, and no type says it.
 fn seek<F: Fn(u32) -> bool>(acts: &[u32], k: usize, test: F) -> usize
     requires few { (length acts.now ≤ 131072) × (k < 131072) }
     requires callable { F.IsAlwaysCallable test }
@@ -35,6 +40,7 @@ fn together(x: u64, mask: u64, a: u32) -> bool
 }
 
 // The k-th pair of a number on the left with an equal one on the right, of those that both sides make together: both places in one number.
+// Stays beside listing's put_pairs: that writes each pair, this counts the first k and names the places of one.
 fn seek_pair(x: u64, mask: u64, left: &[u32], right: &[u32], k: usize) -> usize
     requires { (length left.now ≤ 131072) × (length right.now ≤ 131072) × (k < 131072) }
     ensures { result ≡ nth_pair (paired x mask) 0 left.now right.now k }
@@ -53,7 +59,7 @@ fn seek_pair(x: u64, mask: u64, left: &[u32], right: &[u32], k: usize) -> usize
 }
 
 // The first number that stands for a place on the right.
-// Stays, as does BOTH: measured with an enum for the sides, as PASSED.
+// Stays, as does BOTH: measured with an enum for the sides, as PASSED is.
 pub const RIGHT: usize = 131072;
 
 // The first number that stands for a pair of places.

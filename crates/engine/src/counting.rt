@@ -1,4 +1,5 @@
 // Count: how many moves a given term has at a given memory (document 01, "Operations").
+// Stays: that words are at most 65,535 is a clause, for the reason in successors (docs/DESIGN-PASS.md, "A struct for words").
 ghost use Rattle.std.specs.Prelude.{◌≡◌, ◌*◌, ◌/◌, ◌≤◌, length};
 ghost use Rattle.eb3.specs.Terms.{Term};
 ghost use Rattle.eb3.specs.RuleSets.{RuleSet};
@@ -7,6 +8,7 @@ ghost use Rattle.eb3.specs.Operations.{cells_needed, listed, count};
 ghost use Rattle.engine.specs.Describing.{DescribedBy};
 ghost use Rattle.engine.specs.Counting.{counted_as};
 
+use super::room;
 use blocks::open;
 use blocks::opened::Blocks;
 use given::giving::given_in;
@@ -27,6 +29,7 @@ fn count_at(rules: &Admitted, s: &[u16], memory: &[u8]) -> u32
 }
 
 // An opened file and a term, decoded into lent words.
+// Stays: the two clauses are those of `given::giving::given_in`, whose line says why.
 fn count_in(
     file: &Blocks,
     words: &mut [u16],
@@ -40,9 +43,7 @@ fn count_in(
     let mut tables = [0u32; 500];
     let mut dir = [0u32; 1072];
     let given = given_in(file, words, &mut tables, &mut dir, term, ws)?;
-    if memory.len() / 2 < given.cells {
-        return Err(Refusal::Space);
-    }
+    room(memory, given.cells)?;
     let s = front(ws, term.len() / 2);
     let end = 254 * file.count;
     let rules = Admitted::of(&words[2..end], &tables, &dir, given.cells);
@@ -50,7 +51,8 @@ fn count_in(
 }
 
 // Local words for the blocks and for the term: a rule set of one block and a term of at most 256 words do not pay for clearing large arrays.
-// Stays: one function for all sizes of the local arrays, since memory is fixed and there is no heap.
+// Stays: one function for all sizes of the local arrays, since memory is fixed and there is no heap. Its clause is of const parameters, which each call
+// gives as numbers: the check finds it there, and no struct is needed for it.
 fn count_sized<const WORDS: usize, const TERM: usize>(
     file: &Blocks,
     term: &[u8],
@@ -66,6 +68,7 @@ fn count_sized<const WORDS: usize, const TERM: usize>(
 }
 
 // Count: the number of moves, or the first refusal of 1 to 8, 10 and 9.
+// Stays: the rule set, the term and the memory come one by one, as a host has them.
 pub fn count(rules: &[u8], term: &[u8], memory: &[u8]) -> Result<u32, Refusal>
     ensures { result ≡ counted_as (count rules.now term.now memory.now) }
 {

@@ -1,8 +1,27 @@
 // The operations after Admit, as Rattle functions that answer a Result (document 01, "Operations"). Each contract is an equation with
 // the specification's operation, for every input.
+// Stays, in `count`, `run`, `start` and `step_by`: each opens the file and picks the sizes of its local arrays. The sizes are const parameters, and a closure
+// has none, so one function for all four could not be given what to do next; each of them is three statements.
 #![tactic(auto)]
+
+ghost use Rattle.std.specs.Prelude.{◌≡◌, Ok, Err, leb};
+ghost use Rattle.eb3.specs.Bytes.{word_count};
+ghost use Rattle.eb3.specs.Reading.{pick};
+ghost use Rattle.refusals.specs.declared.Refusal.TheVariants.{Space};
+
+use refusals::Refusal;
 
 pub mod counting;
 pub mod running;
 pub mod starting;
 pub mod stepping;
+
+// Whether the bytes have room for n words; if not, refusal 9.
+fn room(bytes: &[u8], n: usize) -> Result<(), Refusal>
+    ensures { result ≡ pick (leb n (word_count bytes.now)) (Ok tt) (Err Space) }
+{
+    if bytes.len() / 2 < n {
+        return Err(Refusal::Space);
+    }
+    Ok(())
+}

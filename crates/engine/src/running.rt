@@ -1,8 +1,9 @@
-// Run: from the start by a whole list of move numbers, numbers not offered counted and passed over (document 01, "Operations"). The
+// Run: from the start by a whole list of move numbers; numbers that are not offered are counted and skipped (document 01, "Operations"). The
 // rule set is admitted once.
 ghost use Rattle.std.specs.Prelude.{◌≡◌, ◌*◌, ◌≤◌, length};
 ghost use Rattle.engine.specs.Running.{RunDone};
 
+use super::room;
 use admission::admit_in;
 use blocks::open;
 use blocks::opened::Blocks;
@@ -11,7 +12,8 @@ use mains::{Totals, run_main};
 use refusals::Refusal;
 
 // An opened file, decoded into lent words.
-// Stays: the words, the term, the memory and the spare buffer are lent apart, as in mains (its `finish` says why).
+// Stays, here and below: the words, the term, the memory and the spare buffer are lent apart, as in mains (its `finish` says why). That the words have
+// room for the blocks is the clause of `blocks::join`, whose line says why.
 fn run_in(
     file: &Blocks,
     words: &mut [u16],
@@ -26,21 +28,13 @@ fn run_in(
 {
     let mut tables = [0u32; 500];
     let mut dir = [0u32; 1072];
-    let sizes = admit_in(file, words, &mut tables, &mut dir)?;
+    let sizes = admit_in(file.bytes, words, &mut tables, &mut dir, file.count)?;
     let c = sizes.cells as usize;
     let reach = sizes.reach as usize;
-    if term.len() / 2 < reach {
-        return Err(Refusal::Space);
-    }
-    if memory.len() / 2 < c {
-        return Err(Refusal::Space);
-    }
-    if spare.len() / 2 < reach {
-        return Err(Refusal::Space);
-    }
-    if cells.len() / 2 < c {
-        return Err(Refusal::Space);
-    }
+    room(term, reach)?;
+    room(memory, c)?;
+    room(spare, reach)?;
+    room(cells, c)?;
     let end = 254 * file.count;
     let rules = Admitted::of(&words[2..end], &tables, &dir, c);
     let course = Course {
@@ -53,7 +47,8 @@ fn run_in(
 }
 
 // Local words for one block, or for 64, the most that there may be.
-// Stays: one function for all sizes of a local array, since memory is fixed and there is no heap.
+// Stays: one function for all sizes of a local array, since memory is fixed and there is no heap. Its clause is of const parameters, which each call
+// gives as numbers: the check finds it there, and no struct is needed for it.
 fn run_sized<const WORDS: usize>(
     file: &Blocks,
     numbers: &[u8],
@@ -71,7 +66,7 @@ fn run_sized<const WORDS: usize>(
 }
 
 // Run: what the history machine ends with, in the lent term and memory; or the first refusal of 1 to 9, and nothing is written. Of the
-// two spare buffers, for a term and for cells, only the first is written, and of it only whole words.
+// two spare buffers, one for a term and one for cells, only the first is written, and only in whole words.
 pub fn run(
     rules: &[u8],
     numbers: &[u8],

@@ -4,6 +4,7 @@ ghost use Rattle.std.specs.Prelude.{◌≡◌, ◌*◌, ◌≤◌, length};
 ghost use Rattle.engine.specs.Memories.{MemoryStarted, Begun};
 ghost use Rattle.engine.specs.Starting.{StartDone};
 
+use super::room;
 use admission::admit_in;
 use blocks::open;
 use blocks::opened::Blocks;
@@ -13,6 +14,7 @@ use refusals::Refusal;
 use unfold::unfold_main;
 
 // The cells of the start, made in a lent store.
+// Stays beside start_store of steps, whose promise is of a store with room for old cells too: here there is room for the new ones alone, in a smaller array.
 fn start_store(rules: &Admitted, m: &mut [u16], memory: &mut [u8])
     ensures { MemoryStarted rules.now.functions.words.now rules.now.tables.now rules.now.functions.directory.now (length m.old) rules.now.functions.cells memory.old memory.new }
 {
@@ -23,6 +25,7 @@ fn start_store(rules: &Admitted, m: &mut [u16], memory: &mut [u8])
 }
 
 // A store for at most 64 cells, or for the most that there may be: a small rule set does not pay for clearing a large array.
+// Stays two branches: a function with the size as a const parameter would repeat the contract of `start_store` for two lines.
 fn start_memory(rules: &Admitted, memory: &mut [u8])
     ensures { MemoryStarted rules.now.functions.words.now rules.now.tables.now rules.now.functions.directory.now 1060 rules.now.functions.cells memory.old memory.new }
 {
@@ -46,7 +49,11 @@ fn begin(rules: &Admitted, term: &mut [u8], memory: &mut [u8])
 
 // An opened file, decoded into lent words.
 // Stays: the words, the term and the memory are three arrays, lent apart: the last two are the host's buffers, and the words are the caller's,
-// whose length goes by the file's.
+// whose length depends on the file's.
+// Stays: that the words have room for the blocks is the clause of `blocks::join`, whose line says why.
+// Stays, in `run_in`, `count_in` and `step_in` too: the tables and the directory are local arrays, which the struct that `Admitted::of` makes borrows, so
+// a function for all four could not return it. Lent the arrays, a function for the last two statements alone would need the words, the tables, the directory,
+// the count of blocks and the number of cells, and would repeat the contract of `Admitted::of`.
 fn start_in(
     file: &Blocks,
     words: &mut [u16],
@@ -58,14 +65,10 @@ fn start_in(
 {
     let mut tables = [0u32; 500];
     let mut dir = [0u32; 1072];
-    let sizes = admit_in(file, words, &mut tables, &mut dir)?;
+    let sizes = admit_in(file.bytes, words, &mut tables, &mut dir, file.count)?;
     let c = sizes.cells as usize;
-    if term.len() / 2 < sizes.reach as usize {
-        return Err(Refusal::Space);
-    }
-    if memory.len() / 2 < c {
-        return Err(Refusal::Space);
-    }
+    room(term, sizes.reach as usize)?;
+    room(memory, c)?;
     let end = 254 * file.count;
     let rules = Admitted::of(&words[2..end], &tables, &dir, c);
     begin(&rules, term, memory);
@@ -73,7 +76,8 @@ fn start_in(
 }
 
 // Local words for one block, or for 64, the most that there may be.
-// Stays: one function for all sizes of a local array, since memory is fixed and there is no heap.
+// Stays: one function for all sizes of a local array, since memory is fixed and there is no heap. Its clause is of const parameters, which each call
+// gives as numbers: the check finds it there, and no struct is needed for it.
 fn start_sized<const WORDS: usize>(
     file: &Blocks,
     term: &mut [u8],

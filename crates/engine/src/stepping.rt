@@ -1,5 +1,5 @@
-// Move and Present: one step from a given term and memory, into lent buffers (document 01, "Operations"). Both are one operation, asked
-// for the move of a number or for the first whose action is an event.
+// Move and Present: one step from a given term and memory, into lent buffers (document 01, "Operations"). Both are one operation, which is asked
+// for the move of a number or for the first move whose action is an event.
 // Stays: that words are at most 65,535 is a clause of each function here, for the reason in successors (docs/DESIGN-PASS.md, "A struct for words").
 ghost use Rattle.std.specs.Prelude.{◌≡◌, List, ℕ, ◌*◌, ◌/◌, ◌%◌, ◌≤◌, length};
 ghost use Rattle.std.proofs.Math.Option.{Option};
@@ -13,6 +13,7 @@ ghost use Rattle.steps.specs.Counting.{Whole};
 ghost use Rattle.given.specs.Asking.{Chooses};
 ghost use Rattle.engine.specs.Stepping.{told, Done, move_at, stepped, SteppedFrom, SteppedAt, Steps};
 
+use super::room;
 use actions::{argument_at, argument_count, label_of};
 use blocks::open;
 use blocks::opened::Blocks;
@@ -53,7 +54,7 @@ pub struct Asked<'a> {
 
 // ── the answer ──
 
-// What is said of the action with this number, and of a successor of this size.
+// The answer for the action with this number and a successor of this size.
 fn tell(code: u32, size: usize) -> Step
     ensures { (ρ : Action) → Small ρ → code ≡ action_code ρ → result ≡ told ρ (size % 4294967296) }
 {
@@ -130,6 +131,7 @@ fn step_at(
 }
 
 // Refusal 11, then 9, then 12.
+// Stays, here and below: what is asked is one struct, and the two buffers are lent beside it, since they are written.
 fn step_given(
     rules: &Admitted,
     s: &[u16],
@@ -147,21 +149,16 @@ fn step_given(
     };
     let memory = asked.memory;
     let c = rules.functions.cells;
-    if next_term.len() / 2 < reach {
-        return Err(Refusal::Space);
-    }
-    if memory.len() / 2 < c {
-        return Err(Refusal::Space);
-    }
-    if next_memory.len() / 2 < c {
-        return Err(Refusal::Space);
-    }
+    room(next_term, reach)?;
+    room(memory, c)?;
+    room(next_memory, c)?;
     step_at(rules, s, memory, wanted, next_term, next_memory)
 }
 
 // An opened file and a term, decoded into lent words.
-// Stays: the words of both and the two buffers are four lent arrays: the words are the caller's, whose length goes by the file's and by the
+// Stays: the words of both and the two buffers are four lent arrays: the words are the caller's, whose length depends on the file's and on the
 // term's, and the buffers are the host's.
+// Stays: the two clauses are those of `given::giving::given_in`, whose line says why.
 fn step_in(
     file: &Blocks,
     words: &mut [u16],
@@ -184,7 +181,8 @@ fn step_in(
 }
 
 // Local words for the blocks and for the term: a rule set of one block and a term of at most 256 words do not pay for clearing large arrays.
-// Stays: one function for all sizes of the local arrays, since memory is fixed and there is no heap.
+// Stays: one function for all sizes of the local arrays, since memory is fixed and there is no heap. Its clause is of const parameters, which each call
+// gives as numbers: the check finds it there, and no struct is needed for it.
 fn step_sized<const WORDS: usize, const TERM: usize>(
     file: &Blocks,
     asked: &Asked,
@@ -217,7 +215,10 @@ fn step_by(
 
 // ── the operations ──
 
+// Stays two functions: Move and Present are two operations, with a contract each, and what they share is `step_by`.
+
 // Move k: its successor and the memory that its action leaves; or the first refusal of 1 to 8, 10, 9 and 12, and nothing is written.
+// Stays, here and in `present`: all comes one by one, as a host has it; the term and the memory become `Asked` here.
 pub fn make_move<'a>(
     rules: &[u8],
     term: &'a [u8],

@@ -1,4 +1,4 @@
--- A case for each way that a helper of the evaluators returns, over its operands; the premises have the form of what the code tells there.
+-- A case for each way that a helper of the evaluators returns, over its operands; the premises have the form of what the code says there.
 use mathlib.Core.Path.{◌≡◌, refl, ap, ◌∙◌}
 use mathlib.Core.Bool.{Bool, true, false, not, cond}
 use mathlib.Core.List.{List, [], ◌∷◌, ◌++◌}
@@ -11,9 +11,9 @@ use Rattle.eb3.specs.Values.{Value, encode, decode}
 use Rattle.eb3.specs.Expressions.{evaluate_data, evaluate_cond}
 use Rattle.eb3.specs.Spelling.{data_words, cond_words}
 use Rattle.scan.specs.Checking.{last_of}
-use Rattle.expressions.specs.declared.Valued.{Valued}
+use Rattle.expressions.specs.declared.valued.Valued.{Valued}
 use Rattle.expressions.specs.Stores.{reading_in, environment_in}
-use Rattle.expressions.specs.Answering.{value_word, truth, valued, answer, DataAt, CondAt, Evaluated, Judged}
+use Rattle.expressions.specs.Answering.{value_word, truth, answer, DataAt, CondAt, Evaluated, Judged}
 use Rattle.expressions.specs.Operands.{Paired, Selected, Named, Joined, Negated}
 use Rattle.expressions.specs.Laws.{data_parted, cond_parted, data_value}
 
@@ -24,17 +24,17 @@ negated_word false = refl
 
 -- ── operands ──
 
--- t are the words, x what the first operand answers, u the words behind it, y what the next answers there
+-- t are the words, x what the first operand answers, u the words after it, y what the next answers there
 module _ (t u M : List ℕ) (x y : Valued) where
-  pub paired : (g : Value → Value → ℕ) (z : ℕ) → Evaluated t M x → u ≡ last_of x.left t → Evaluated u M y
-      → z ≡ g (decode 65534 x.value) (decode 65534 y.value) → Paired g t M (valued z y.left)
-  paired g z f k h e P a b rest at s =
+  pub paired : (g : Value → Value → ℕ) (r : Valued) → Evaluated t M x → u ≡ last_of x.left t → Evaluated u M y
+      → r.value ≡ g (decode 65534 x.value) (decode 65534 y.value) → r.left ≡ y.left → Paired g t M r
+  paired g r f k h e l P a b rest at s =
       let p = data_parted t M x P (data_words 1 b ++ rest) f a at in
       let next : DataAt u P b rest = record { plain = at.plain; in_scope = s; spelled = p.behind u k } in
       let n = data_parted u M y P rest h b next in
       let v : decode 65534 x.value ≡ evaluate_data a (environment_in M) = data_value t M x P (data_words 1 b ++ rest) f a at in
       let w : decode 65534 y.value ≡ evaluate_data b (environment_in M) = data_value u M y P rest h b next in
-      λ j. valued ((e ∙ (λ i. g (v i) (w i))) j) (n.left j)
+      record { value = e ∙ (λ i. g (v i) (w i)); left = l ∙ n.left }
 
 module _ (t u M : List ℕ) (x y : ℕ) where
   -- z is what is made of the two conditions' words
@@ -54,35 +54,38 @@ module _ (t M : List ℕ) (x : ℕ) (f : Judged t M x) where
 
 -- c is what the condition answers, x and y what the data do
 module _ (t u v M : List ℕ) (c : ℕ) (x y : Valued) (f : Judged t M c) (k : u ≡ last_of (c / 65536) t) (h : Evaluated u M x) (l : v ≡ last_of x.left u) (i : Evaluated v M y) where
-  selected : (w : ℕ) → ((b : Bool) (p q : Value) → c % 65536 ≡ truth b → x.value ≡ value_word p → y.value ≡ value_word q → w ≡ value_word (cond b p q)) → Selected t M (valued w y.left)
-  selected w q P d a b rest at sa sb =
+  selected : (r : Valued) → r.left ≡ y.left → ((b : Bool) (p q : Value) → c % 65536 ≡ truth b → x.value ≡ value_word p → y.value ≡ value_word q → r.value ≡ value_word (cond b p q)) → Selected t M r
+  selected r e q P d a b rest at sa sb =
       let p = cond_parted t M c P (data_words 1 a ++ (data_words 1 b ++ rest)) f d at in
       let first : DataAt u P a (data_words 1 b ++ rest) = record { plain = at.plain; in_scope = sa; spelled = p.behind u k } in
       let n = data_parted u M x P (data_words 1 b ++ rest) h a first in
       let second : DataAt v P b rest = record { plain = at.plain; in_scope = sb; spelled = n.behind v l } in
       let m = data_parted v M y P rest i b second in
-      λ j. valued (q (evaluate_cond d (environment_in M)) (evaluate_data a (environment_in M)) (evaluate_data b (environment_in M)) p.word n.word m.word j) (m.left j)
+      record {
+        value = q (evaluate_cond d (environment_in M)) (evaluate_data a (environment_in M)) (evaluate_data b (environment_in M)) p.word n.word m.word;
+        left = e ∙ m.left;
+      }
 
-  pub select_second : c % 65536 ≡ 0 → Selected t M y
+  pub select_second : (r : Valued) → r.value ≡ y.value → r.left ≡ y.left → c % 65536 ≡ 0 → Selected t M r
   unfolding truth
-  select_second z = selected y.value go
+  select_second r v l z = selected r l go
     where
-      go : (b : Bool) (p q : Value) → c % 65536 ≡ truth b → x.value ≡ value_word p → y.value ≡ value_word q → y.value ≡ value_word (cond b p q)
+      go : (b : Bool) (p q : Value) → c % 65536 ≡ truth b → x.value ≡ value_word p → y.value ≡ value_word q → r.value ≡ value_word (cond b p q)
       go true p q e j o = absurd (omega arith)
-      go false p q e j o = o
+      go false p q e j o = v ∙ o
 
-  pub select_first : (c % 65536 ≡ 0 → ⊥) → Selected t M (valued x.value y.left)
+  pub select_first : (r : Valued) → r.value ≡ x.value → r.left ≡ y.left → (c % 65536 ≡ 0 → ⊥) → Selected t M r
   unfolding truth
-  select_first z = selected x.value go
+  select_first r v l z = selected r l go
     where
-      go : (b : Bool) (p q : Value) → c % 65536 ≡ truth b → x.value ≡ value_word p → y.value ≡ value_word q → x.value ≡ value_word (cond b p q)
-      go true p q e j o = j
+      go : (b : Bool) (p q : Value) → c % 65536 ≡ truth b → x.value ≡ value_word p → y.value ≡ value_word q → r.value ≡ value_word (cond b p q)
+      go true p q e j o = v ∙ j
       go false p q e j o = absurd (z e)
 
-pub named : (t u M : List ℕ) (at n : ℕ) (x : Valued) (z : ℕ) → u ≡ drop 1 t → Evaluated u M x → n ≡ get_or t 0 0
-    → z ≡ encode 65535 (reading_in M at n (decode 65534 x.value ∷ [])) → Named at t M (valued z x.left)
-named t u M at n x z k f i e P a rest here =
+pub named : (t u M : List ℕ) (at n : ℕ) (x r : Valued) → u ≡ drop 1 t → Evaluated u M x → n ≡ get_or t 0 0
+    → r.value ≡ encode 65535 (reading_in M at n (decode 65534 x.value ∷ [])) → r.left ≡ x.left → Named at t M r
+named t u M at n x r k f i e l P a rest here =
     let there : DataAt u P a rest = record { plain = here.plain; in_scope = here.in_scope; spelled = k ∙ here.spelled } in
     let p = data_parted u M x P rest f a there in
     let v : decode 65534 x.value ≡ evaluate_data a (environment_in M) = data_value u M x P rest f a there in
-    λ j. valued ((e ∙ (λ o. encode 65535 (reading_in M at (i o) (v o ∷ [])))) j) (p.left j)
+    record { value = e ∙ (λ o. encode 65535 (reading_in M at (i o) (v o ∷ []))); left = l ∙ p.left }

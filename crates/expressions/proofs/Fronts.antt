@@ -1,5 +1,5 @@
--- By the code in front an expression is known for what it is, since no two constructors have the same code. So for each arm of an evaluator there is
--- a case, whose premises have the form of what the code tells there.
+-- By the code at the front an expression is known for what it is, since no two constructors have the same code. So for each arm of an evaluator there is
+-- a case, whose premises have the form of what the code says there.
 use mathlib.Core.Path.{◌≡◌, sym, ap, ◌∙◌, subst}
 use mathlib.Core.Bool.{◌&&◌, ◌||◌, cond}
 use mathlib.Core.List.{List, [], ◌∷◌, ◌++◌, append_assoc}
@@ -12,9 +12,9 @@ use Rattle.eb3.specs.Values.{encode, decode}
 use Rattle.eb3.specs.Expressions.{Data, Undefined, Constant, Variable, Add, Subtract, If, Now, Before, Args, Nil, Cons, Cond, Equal, Less, And, Or, Not, True, evaluate_data, evaluate_args, evaluate_cond}
 use Rattle.eb3.specs.Scopes.{Scope, ArgsInScope}
 use Rattle.eb3.specs.Spelling.{number_words, data_words, args_words, cond_words}
-use Rattle.expressions.specs.declared.Valued.{Valued}
+use Rattle.expressions.specs.declared.valued.Valued.{Valued}
 use Rattle.expressions.specs.Stores.{stored, reading_in, variable_in, environment_in, before_place}
-use Rattle.expressions.specs.Answering.{value_word, truth, valued, answer, Plain, DataAt, CondAt, Evaluated, Judged}
+use Rattle.expressions.specs.Answering.{value_word, truth, IsValued, answer, Plain, DataAt, CondAt, Evaluated, Judged}
 use Rattle.expressions.specs.Operands.{sum_word, difference_word, equal_word, less_word, Fetched, Paired, Selected, Named, Compared, Joined, Negated}
 use Rattle.expressions.specs.ValueLaws.{word_of_value}
 
@@ -55,17 +55,17 @@ data_known (If c a b) s rest e = ap (λ u. data_front (get_or u 0 0)) e
 data_known (Now f rs) s rest e = ap (λ u. data_front (get_or u 0 0)) e
 data_known (Before f rs) s rest e = ap (λ u. data_front (get_or u 0 0)) e
 
--- What a match tells of the codes that it tests one by one, where none is met.
+-- What a match says of the codes that it tests one by one, where none is met.
 abbrev OtherData : ℕ → Type 0
 OtherData w = (((((((Unit {0} × (w ≡ 1 → ⊥)) × (w ≡ 2 → ⊥)) × (w ≡ 3 → ⊥)) × (w ≡ 4 → ⊥)) × (w ≡ 5 → ⊥)) × (w ≡ 6 → ⊥)) × (w ≡ 7 → ⊥))
 
 other_data : (w : ℕ) → OtherData w → data_front w ≡ none
 other_data w h = simp (ne_eqb w 1 h.0.0.0.0.0.0.1, ne_eqb w 2 h.0.0.0.0.0.1, ne_eqb w 3 h.0.0.0.0.1, ne_eqb w 4 h.0.0.0.1, ne_eqb w 5 h.0.0.1, ne_eqb w 6 h.0.1, ne_eqb w 7 h.1)
 
--- What an arm shows of r, t being the words behind the code.
+-- What an arm shows of r, t being the words after the code.
 abbrev DataArm : DataFront → List ℕ → List ℕ → Valued → Type 0
-DataArm none t M r = r ≡ valued 65535 (length t)
-DataArm constant t M r = r ≡ valued (get_or t 0 0) (length (drop 1 t))
+DataArm none t M r = IsValued 65535 (length t) r
+DataArm constant t M r = IsValued (get_or t 0 0) (length (drop 1 t)) r
 DataArm variable t M r = Fetched t M r
 DataArm sum t M r = Paired sum_word t M r
 DataArm difference t M r = Paired difference_word t M r
@@ -76,22 +76,28 @@ DataArm past t M r = Named (before_place M) t M r
 -- A function has one argument.
 module _ (M : List ℕ) (at f : ℕ) (P : Scope) (plain : Plain P) (t rest : List ℕ) (r : Valued) (h : Named at t M r) where
   one_argument : (rs : Args) (n : ℕ) → n ≡ 1 → ArgsInScope rs P n → t ≡ f ∷ (args_words 1 rs ++ rest)
-      → r ≡ valued (value_word (reading_in M at f (evaluate_args rs (environment_in M)))) (length rest)
+      → IsValued (value_word (reading_in M at f (evaluate_args rs (environment_in M)))) (length rest) r
   unfolding data_words evaluate_data
   one_argument Nil n o w e = absurd (omega arith)
   one_argument (Cons a Nil) n o w e =
       let here : DataAt (drop 1 t) P a rest = record { plain = plain; in_scope = w.2; spelled = ap (drop 1) e ∙ append_assoc (data_words 1 a) [] rest } in
-      h P a rest here ∙ ap (λ u. valued (value_word (reading_in M at (get_or u 0 0) (evaluate_data a (environment_in M) ∷ []))) (length rest)) e
+      record {
+        value = (h P a rest here).value ∙ ap (λ u. value_word (reading_in M at (get_or u 0 0) (evaluate_data a (environment_in M) ∷ []))) e;
+        left = (h P a rest here).left;
+      }
   one_argument (Cons a (Cons b rs)) n o w e = absurd (omega (arith, w.1, w.3.1))
 
 module _ (s t M : List ℕ) (r : Valued) (q : t ≡ drop 1 s) where
-  by_data : (d : Data) (P : Scope) (rest : List ℕ) → DataAt s P d rest → DataArm (front_of_data d) t M r → r ≡ valued (value_word (evaluate_data d (environment_in M))) (length rest)
+  by_data : (d : Data) (P : Scope) (rest : List ℕ) → DataAt s P d rest → DataArm (front_of_data d) t M r → IsValued (value_word (evaluate_data d (environment_in M))) (length rest) r
   unfolding data_words number_words evaluate_data encode variable_in
-  by_data Undefined P rest at h = h ∙ ap (λ u. valued 65535 (length u)) (q ∙ ap (drop 1) at.spelled)
-  by_data (Constant n) P rest at h = h ∙ ap (λ u. valued (get_or u 0 0) (length (drop 1 u))) (q ∙ ap (drop 1) at.spelled)
+  by_data Undefined P rest at h = record { value = h.value; left = h.left ∙ ap length (q ∙ ap (drop 1) at.spelled) }
+  by_data (Constant n) P rest at h =
+      record { value = h.value ∙ ap (λ u. get_or u 0 0) (q ∙ ap (drop 1) at.spelled); left = h.left ∙ ap (λ u. length (drop 1 u)) (q ∙ ap (drop 1) at.spelled) }
   by_data (Variable i) P rest at h =
-      h.value ∙ (λ j. valued (sym (word_of_value (stored M (get_or t 0 0)) h.small) j) (length (drop 1 t)))
-      ∙ ap (λ u. valued (value_word (decode 65534 (stored M (get_or u 0 0)))) (length (drop 1 u))) (q ∙ ap (drop 1) at.spelled)
+      record {
+        value = h.value.value ∙ sym (word_of_value (stored M (get_or t 0 0)) h.small) ∙ ap (λ u. value_word (decode 65534 (stored M (get_or u 0 0)))) (q ∙ ap (drop 1) at.spelled);
+        left = h.value.left ∙ ap (λ u. length (drop 1 u)) (q ∙ ap (drop 1) at.spelled);
+      }
   by_data (Add a b) P rest at h =
       h P a b rest (record { plain = at.plain; in_scope = at.in_scope.0; spelled = q ∙ ap (drop 1) at.spelled ∙ append_assoc (data_words 1 a) (data_words 1 b) rest }) at.in_scope.1
   by_data (Subtract a b) P rest at h =
@@ -113,7 +119,7 @@ module _ (s t M : List ℕ) (r : Valued) (q : t ≡ drop 1 s) where
     data_arm k e h P d rest at =
         by_data d P rest at (subst (λ j. DataArm j t M r) (sym e ∙ ap data_front first ∙ data_known d s rest at.spelled) h)
 
-    pub data_constant : w ≡ 1 → r ≡ valued (get_or t 0 0) (length (drop 1 t)) → Evaluated s M r
+    pub data_constant : w ≡ 1 → IsValued (get_or t 0 0) (length (drop 1 t)) r → Evaluated s M r
     data_constant e h = data_arm constant (ap data_front e) h
 
     pub data_variable : w ≡ 2 → Fetched t M r → Evaluated s M r
@@ -134,8 +140,12 @@ module _ (s t M : List ℕ) (r : Valued) (q : t ≡ drop 1 s) where
     pub data_past : (at : ℕ) → w ≡ 7 → at ≡ before_place M → Named at t M r → Evaluated s M r
     data_past at e i h = data_arm past (ap data_front e) (subst (λ j. Named j t M r) i h)
 
-    pub data_none : OtherData w → r ≡ valued 65535 (length t) → Evaluated s M r
+    pub data_none : OtherData w → IsValued 65535 (length t) r → Evaluated s M r
     data_none o h = data_arm none (other_data w o) h
+
+-- r is what another evaluation answered, x.
+pub handed : (s M : List ℕ) (x r : Valued) → r.value ≡ x.value → r.left ≡ x.left → Evaluated s M x → Evaluated s M r
+handed s M x r v l f P d rest at = let h = f P d rest at in record { value = v ∙ h.value; left = l ∙ h.left }
 
 -- ── conditions ──
 

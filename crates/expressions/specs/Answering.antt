@@ -1,4 +1,4 @@
--- What an evaluation answers: the value as a word, and the words that are left behind the expression; over conditions in one number, the words left
+-- What an evaluation answers: the value as a word, and the words that are left after the expression; over conditions in one number, the words left
 -- 65,536 times.
 -- Document 01, "Values and conditions".
 use Rattle.std.specs.Prelude.{◌≡◌, Bool, cond, List, ◌++◌, ℕ, ◌+◌, ◌*◌, length}
@@ -6,7 +6,7 @@ use Rattle.eb3.specs.Values.{Value, encode}
 use Rattle.eb3.specs.Expressions.{Data, Cond, evaluate_data, evaluate_cond}
 use Rattle.eb3.specs.Scopes.{Scope, DataInScope, CondInScope}
 use Rattle.eb3.specs.Spelling.{data_words, cond_words}
-use Rattle.expressions.specs.declared.Valued.{Valued}
+use Rattle.expressions.specs.declared.valued.Valued.{Valued}
 use Rattle.expressions.specs.Stores.{environment_in}
 
 abbrev pub value_word : Value → ℕ
@@ -15,8 +15,10 @@ value_word v = encode 65535 v
 unfoldable pub truth : Bool → ℕ
 truth b = cond b 1 0
 
-abbrev pub valued : ℕ → ℕ → Valued
-valued v left = record { value = v; left = left }
+-- r is the value v, with l words left.
+pub record IsValued (v l : ℕ) (r : Valued) : Type 0 where
+  pub value : r.value ≡ v
+  pub left : r.left ≡ l
 
 unfoldable pub answer : ℕ → ℕ → ℕ
 answer w left = w + 65536 * left
@@ -26,7 +28,7 @@ pub record Plain (P : Scope) : Type 0 where
   pub largest : P.top ≡ 65534
   pub one_parameter : P.arity ≡ (λ f. 1)
 
--- s begins with a data expression (a condition) that stands in scope P, and rest stands behind it.
+-- s begins with a data expression (a condition) that is in scope P, and rest is after it.
 pub record DataAt (s : List ℕ) (P : Scope) (d : Data) (rest : List ℕ) : Type 0 where
   pub plain : Plain P
   pub in_scope : DataInScope d P
@@ -37,9 +39,9 @@ pub record CondAt (s : List ℕ) (P : Scope) (c : Cond) (rest : List ℕ) : Type
   pub in_scope : CondInScope c P
   pub spelled : s ≡ cond_words 1 c ++ rest
 
--- The answer, whatever expression stands at the front.
+-- The answer, whatever expression is at the front.
 abbrev pub Evaluated : List ℕ → List ℕ → Valued → Type 0
-Evaluated s M r = (P : Scope) (d : Data) (rest : List ℕ) → DataAt s P d rest → r ≡ valued (value_word (evaluate_data d (environment_in M))) (length rest)
+Evaluated s M r = (P : Scope) (d : Data) (rest : List ℕ) → DataAt s P d rest → IsValued (value_word (evaluate_data d (environment_in M))) (length rest) r
 
 abbrev pub Judged : List ℕ → List ℕ → ℕ → Type 0
 Judged s M r = (P : Scope) (c : Cond) (rest : List ℕ) → CondAt s P c rest → r ≡ answer (truth (evaluate_cond c (environment_in M))) (length rest)

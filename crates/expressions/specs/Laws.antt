@@ -11,7 +11,7 @@ use Rattle.eb3.specs.Scopes.{Scope, DataInScope}
 use Rattle.eb3.specs.Spelling.{data_words, cond_words}
 use Rattle.scan.specs.Checking.{last_of}
 use Rattle.scan.specs.Laws.{last_behind}
-use Rattle.expressions.specs.declared.Valued.{Valued}
+use Rattle.expressions.specs.declared.valued.Valued.{Valued}
 use Rattle.expressions.specs.Stores.{cell_in, reading_in, variable_in, environment_in, before_place}
 use Rattle.expressions.specs.Answering.{value_word, truth, answer, Plain, DataAt, CondAt, Evaluated, Judged}
 
@@ -59,7 +59,7 @@ module _ (M : List ℕ) (P : Scope) (plain : Plain P) where
 
 -- ── an answer taken apart ──
 
--- v is the value that an evaluation over s answers, as a word w, and l how many words it leaves: rest, behind the expression.
+-- v is the value that an evaluation over s answers, as a word w, and l how many words it leaves: rest, after the expression.
 pub record Parted (s rest : List ℕ) (v l w : ℕ) : Type 0 where
   pub word : v ≡ w
   pub left : l ≡ length rest
@@ -74,7 +74,7 @@ parted s front rest v l w e q h = record {
 
 module _ (s M : List ℕ) (x : Valued) (P : Scope) (rest : List ℕ) (f : Evaluated s M x) (a : Data) (h : DataAt s P a rest) where
   pub data_parted : Parted s rest x.value x.left (value_word (evaluate_data a (environment_in M)))
-  data_parted = parted s (data_words 1 a) rest _ _ _ h.spelled (ap (λ y. y.value) (f P a rest h)) (ap (λ y. y.left) (f P a rest h))
+  data_parted = parted s (data_words 1 a) rest _ _ _ h.spelled (f P a rest h).value (f P a rest h).left
 
   -- the word is the value's
   pub data_value : decode 65534 x.value ≡ evaluate_data a (environment_in M)

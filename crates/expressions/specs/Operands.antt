@@ -1,4 +1,4 @@
--- What an evaluation of operands answers: for all operands that stand at the front of the words, one behind the other, in a scope of edition 1.
+-- What an evaluation of operands answers: for all operands that are at the front of the words, one after the other, in a scope of edition 1.
 -- `Fetched`, `Paired`, `Selected` and `Named` are the operands of data, `Compared`, `Joined` and `Negated` those of conditions (document 01, "Values and
 -- conditions").
 use Rattle.std.specs.Prelude.{◌≡◌, Bool, ◌&&◌, ◌||◌, not, cond, List, [], ◌∷◌, ◌++◌, ℕ, ◌<◌, length, drop, get_or}
@@ -9,10 +9,10 @@ use Rattle.eb3.specs.Spelling.{data_words, cond_words}
 use Rattle.expressions.specs.declared.Operation.{Operation}
 use Rattle.expressions.specs.declared.Operation.TheVariants.{Add, Subtract, Equal, Less}
 use Rattle.expressions.specs.declared.Connective.{Connective}
-use Rattle.expressions.specs.declared.Valued.{Valued}
+use Rattle.expressions.specs.declared.valued.Valued.{Valued}
 use Rattle.expressions.specs.declared.Connective.TheVariants.{And, Or}
 use Rattle.expressions.specs.Stores.{stored, environment_in, reading_in}
-use Rattle.expressions.specs.Answering.{value_word, truth, valued, answer, DataAt, CondAt}
+use Rattle.expressions.specs.Answering.{value_word, truth, IsValued, answer, DataAt, CondAt}
 
 -- ── what is made of two values ──
 
@@ -44,23 +44,23 @@ connected Or c d = c || d
 
 -- A variable's number.
 pub record Fetched (t M : List ℕ) (r : Valued) : Type 0 where
-  pub value : r ≡ valued (stored M (get_or t 0 0)) (length (drop 1 t))
+  pub value : IsValued (stored M (get_or t 0 0)) (length (drop 1 t)) r
   pub small : stored M (get_or t 0 0) < 65536
 
 -- Two data.
 abbrev pub Paired : (Value → Value → ℕ) → List ℕ → List ℕ → Valued → Type 0
 Paired g t M r = (P : Scope) (a b : Data) (rest : List ℕ) → DataAt t P a (data_words 1 b ++ rest) → DataInScope b P
-    → r ≡ valued (g (evaluate_data a (environment_in M)) (evaluate_data b (environment_in M))) (length rest)
+    → IsValued (g (evaluate_data a (environment_in M)) (evaluate_data b (environment_in M))) (length rest) r
 
 -- A condition and two data.
 abbrev pub Selected : List ℕ → List ℕ → Valued → Type 0
 Selected t M r = (P : Scope) (c : Cond) (a b : Data) (rest : List ℕ) → CondAt t P c (data_words 1 a ++ (data_words 1 b ++ rest)) → DataInScope a P → DataInScope b P
-    → r ≡ valued (value_word (cond (evaluate_cond c (environment_in M)) (evaluate_data a (environment_in M)) (evaluate_data b (environment_in M)))) (length rest)
+    → IsValued (value_word (cond (evaluate_cond c (environment_in M)) (evaluate_data a (environment_in M)) (evaluate_data b (environment_in M)))) (length rest) r
 
 -- A function's number and its argument; its cells begin at a place.
 abbrev pub Named : ℕ → List ℕ → List ℕ → Valued → Type 0
 Named at t M r = (P : Scope) (a : Data) (rest : List ℕ) → DataAt (drop 1 t) P a rest
-    → r ≡ valued (value_word (reading_in M at (get_or t 0 0) (evaluate_data a (environment_in M) ∷ []))) (length rest)
+    → IsValued (value_word (reading_in M at (get_or t 0 0) (evaluate_data a (environment_in M) ∷ []))) (length rest) r
 
 -- Two data that are compared.
 abbrev pub Compared : (Value → Value → ℕ) → List ℕ → List ℕ → ℕ → Type 0

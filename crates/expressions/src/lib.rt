@@ -7,7 +7,7 @@
 ghost use Rattle.std.specs.Prelude.{◌≡◌, Bool, [], ◌∷◌, ◌≤◌, ◌<◌, length, drop, get_or};
 ghost use Rattle.eb3.specs.Values.{decode, encode, add, subtract, equal, less};
 ghost use Rattle.expressions.specs.Stores.{stored, reading_in, before_place};
-ghost use Rattle.expressions.specs.Answering.{truth, answer, valued, Evaluated, Judged};
+ghost use Rattle.expressions.specs.Answering.{truth, answer, IsValued, Evaluated, Judged};
 ghost use Rattle.expressions.specs.Operands.{operated, connected, Fetched, Paired, Selected, Named, Compared, Joined, Negated};
 
 use code_numbers::{
@@ -16,6 +16,9 @@ use code_numbers::{
 use scan::{behind, first, last};
 
 pub mod store;
+pub mod valued;
+
+pub use valued::Valued;
 
 // The word of undefined.
 // Stays a word: values are words of the store, and an Option of a number would be turned into one wherever a cell is read or written.
@@ -23,15 +26,10 @@ const UNDEFINED: usize = 65535;
 
 // ── answers ──
 
-/// The value of a data expression as a word, and how many words are left after the expression.
-#[derive(Clone, Copy)]
-pub struct Valued {
-    pub value: usize,
-    pub left: usize,
-}
-
 // Whether a condition holds, 1 or 0, and 65,536 times the words that are left after it.
-// Stays, here and in the functions of conditions below: measured, a condition of 1,000 ands takes 12 % more instructions as a struct, and each level 16 bytes more stack (docs/DESIGN-PASS.md, "Answers in one number").
+// Stays, here and in the functions of conditions below, and where a guard takes the answer apart (listing, derivation, sharing): measured, a condition
+// of 1,000 ands takes 12 % more instructions as a struct, and each level 16 bytes more stack (docs/DESIGN-PASS.md, "Answers packed in one number").
+// `equal`, `less` and `connect` make the 1 or 0 of such an answer.
 fn pack(v: usize, left: usize) -> usize
     requires { (v < 65536) × (left < 65536) }
     ensures { (result ≡ answer v left) × (result < 4294967296) }
@@ -148,8 +146,9 @@ fn old_cells(m: &[u16]) -> usize
 // ── data ──
 
 // A constant, and a variable, after their code.
+// Stays, here and below: that no more words are left than were given is a fact of both, so that no field of `Valued` holds it.
 fn constant(t: &[u16]) -> Valued
-    ensures { (result ≡ valued (get_or t.now 0 0) (length (drop 1 t.now))) × (result.value < 65536) × (result.left ≤ length t.now) }
+    ensures { IsValued (get_or t.now 0 0) (length (drop 1 t.now)) result × (result.left ≤ length t.now) }
 {
     Valued {
         value: first(t),
@@ -158,7 +157,7 @@ fn constant(t: &[u16]) -> Valued
 }
 
 fn variable(t: &[u16], m: &[u16]) -> Valued
-    ensures { Fetched t.now m.now result × (result.value < 65536) × (result.left ≤ length t.now) }
+    ensures { Fetched t.now m.now result × (result.left ≤ length t.now) }
 {
     Valued {
         value: word(m, first(t)),
@@ -170,7 +169,7 @@ fn variable(t: &[u16], m: &[u16]) -> Valued
 #[cycle(evaluators)]
 fn operand(s: &[u16], m: &[u16]) -> Valued
     requires { length s.now ≤ 65535 }
-    ensures { Evaluated s.now m.now result × (result.value < 65536) × (result.left ≤ length s.now) }
+    ensures { Evaluated s.now m.now result × (result.left ≤ length s.now) }
 {
     let w = first(s);
     let t = behind(s);
@@ -186,7 +185,7 @@ fn operand(s: &[u16], m: &[u16]) -> Valued
 #[inline(always)]
 fn paired(operation: Operation, t: &[u16], m: &[u16]) -> Valued
     requires { length t.now < 65535 }
-    ensures { Paired (operated operation) t.now m.now result × (result.value < 65536) × (result.left ≤ length t.now) }
+    ensures { Paired (operated operation) t.now m.now result × (result.left ≤ length t.now) }
 {
     let x = operand(t, m);
     let y = operand(last(t, x.left), m);
@@ -200,7 +199,7 @@ fn paired(operation: Operation, t: &[u16], m: &[u16]) -> Valued
 #[cycle(evaluators)]
 fn selected(t: &[u16], m: &[u16]) -> Valued
     requires { length t.now < 65535 }
-    ensures { Selected t.now m.now result × (result.value < 65536) × (result.left ≤ length t.now) }
+    ensures { Selected t.now m.now result × (result.left ≤ length t.now) }
 {
     let c = eval_cond(t, m);
     let u = last(t, c / 65536);
@@ -220,7 +219,7 @@ fn selected(t: &[u16], m: &[u16]) -> Valued
 #[cycle(evaluators)]
 fn attribute(t: &[u16], m: &[u16], at: usize) -> Valued
     requires { (length t.now < 65535) × (at < 65536) }
-    ensures { Named at t.now m.now result × (result.value < 65536) × (result.left ≤ length t.now) }
+    ensures { Named at t.now m.now result × (result.left ≤ length t.now) }
 {
     let x = operand(behind(t), m);
     Valued {
@@ -233,7 +232,7 @@ fn attribute(t: &[u16], m: &[u16], at: usize) -> Valued
 #[cycle(evaluators)]
 pub fn eval_data(s: &[u16], m: &[u16]) -> Valued
     requires { length s.now ≤ 65535 }
-    ensures { Evaluated s.now m.now result × (result.value < 65536) × (result.left ≤ length s.now) }
+    ensures { Evaluated s.now m.now result × (result.left ≤ length s.now) }
 {
     let w = first(s);
     let t = behind(s);

@@ -20,6 +20,8 @@ pub struct Given {
 }
 
 // The term's words in a lent array, which has room for a term within the limit.
+// Stays, here and in `given_in`: that a term within the limit has room is a fact of two lent arrays, the host's bytes and the words of the caller, of which
+// each caller goes on with a part of the words. The length that the words keep is a fact of what they were and what they are then.
 fn check_term(tb: &[u32], c: usize, term: &[u8], ws: &mut [u16]) -> Result<Given, Refusal>
     requires { length term.now / 2 ≤ 8192 → length term.now / 2 ≤ length ws.old }
     ensures { (length ws.new ≡ length ws.old) × ((R : RuleSet) → Form R → Declares tb.now R → TermChecked R c term.now ws.new result) }
@@ -45,6 +47,7 @@ fn check_term(tb: &[u32], c: usize, term: &[u8], ws: &mut [u16]) -> Result<Given
 // An opened file, decoded into lent words, and a term.
 // Stays: the words, the tables, the directory and the term's words are four arrays, lent apart: fixed memory and no heap, and each holds
 // another thing.
+// Stays: that the words have room for the blocks is the clause of `blocks::join`, whose line says why.
 pub fn given_in(
     file: &Blocks,
     words: &mut [u16],
@@ -56,6 +59,6 @@ pub fn given_in(
     requires { (254 * file.now.count ≤ length words.old) × (length term.now / 2 ≤ 8192 → length term.now / 2 ≤ length ws.old) }
     ensures { (length ws.new ≡ length ws.old) × GivenDone file.now.bytes.now term.now words.old file.now.count result words.new tables.new dir.new ws.new }
 {
-    let sizes = admit_in(file, words, tables, dir)?;
+    let sizes = admit_in(file.bytes, words, tables, dir, file.count)?;
     check_term(tables, sizes.cells as usize, term, ws)
 }

@@ -94,7 +94,9 @@ fn cond_front(s: &[u16], at: usize, rest: usize, c: Scope) -> Result<Front, Refu
     }
 }
 
-// n data expressions in a row. Stays: `while`, here and below, since no index is counted, and the code at the front says where the row goes on.
+// n data expressions in a row.
+// Stays `while`, here and below, since no index is counted, and the code at the front says where the row goes on.
+// Stays, here and in cond_row: n counts expressions, and does not say how many of the words count.
 #[cycle(rows)]
 #[tactic(auto, using(crate::proofs::RowCases::rows))]
 fn data_row(s: &[u16], n: usize, c: Scope) -> Result<usize, Refusal>

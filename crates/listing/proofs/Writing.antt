@@ -1,6 +1,7 @@
 -- Numbers written one after the other into an array, from some place on (document 01, "Moves, in order").
-use mathlib.Core.Path.{◌≡◌, refl, sym, ap, ◌∙◌}
-use mathlib.Core.Bool.{Bool, true, false, cond}
+use mathlib.Core.Path.{◌≡◌, refl, sym, ap, ◌∙◌, subst}
+use mathlib.Core.Bool.{Bool, true, false, cond, not}
+use Rattle.std.proofs.Math.Decide.{ℕ_discrete}
 use mathlib.Core.List.{List, [], ◌∷◌, ◌++◌, append_assoc, append-nil}
 use Prim.Native.Nat.{ℕ, ◌+◌, ◌≤◌, ◌<◌}
 use native.Mathlib.Numerals.{add-one}
@@ -8,7 +9,7 @@ use native.Mathlib.Omega.{arith}
 use lib.ListN.{length, take, drop, get_or, length-append, length-drop, take-append-drop}
 use lib.Seq.{length-take-le, drop-cons, take_at, drop_at, drop-drop}
 use borrow.Author.Tests.{eq-eqb, ne_eqb}
-use Rattle.std.specs.Prelude.{Some, None}
+use Rattle.std.specs.Prelude.{Option, Some, None, eqb}
 use Rattle.std.proofs.lemmas.List.{at_drop_all}
 use Rattle.listing.specs.Combining.{outside, equal_to, pairs, Written, Wrote}
 
@@ -92,14 +93,6 @@ module _ (i : ℕ) (x : List ℕ) (h : i < length x) where
   unfolding outside
   outside_out p e = ap (outside p) drop_next ∙ ap (λ b. cond b (outside p (drop (i + 1) x)) (get_or x i 0 ∷ outside p (drop (i + 1) x))) (sym e)
 
-  pub equal_one : (a : ℕ) → get_or x i 0 ≡ a → equal_to a (drop i x) ≡ (a ∷ []) ++ equal_to a (drop (i + 1) x)
-  unfolding equal_to
-  equal_one a e = ap (equal_to a) drop_next ∙ ap (λ b. cond b (a ∷ equal_to a (drop (i + 1) x)) (equal_to a (drop (i + 1) x))) (eq-eqb (get_or x i 0) a e)
-
-  pub equal_none : (a : ℕ) → (get_or x i 0 ≡ a → ⊥) → equal_to a (drop i x) ≡ equal_to a (drop (i + 1) x)
-  unfolding equal_to
-  equal_none a e = ap (equal_to a) drop_next ∙ ap (λ b. cond b (a ∷ equal_to a (drop (i + 1) x)) (equal_to a (drop (i + 1) x))) (ne_eqb (get_or x i 0) a e)
-
   pub pairs_in : (p : ℕ → Bool) (ys : List ℕ) → true ≡ p (get_or x i 0) → pairs p (drop i x) ys ≡ equal_to (get_or x i 0) ys ++ pairs p (drop (i + 1) x) ys
   unfolding pairs
   pairs_in p ys e = ap (λ l. pairs p l ys) drop_next ∙ ap (λ b. cond b (equal_to (get_or x i 0) ys) [] ++ pairs p (drop (i + 1) x) ys) (sym e)
@@ -108,16 +101,28 @@ module _ (i : ℕ) (x : List ℕ) (h : i < length x) where
   unfolding pairs
   pairs_out p ys e = ap (λ l. pairs p l ys) drop_next ∙ ap (λ b. cond b (equal_to (get_or x i 0) ys) [] ++ pairs p (drop (i + 1) x) ys) (sym e)
 
+-- what is outside the numbers that differ from a is what equals it
+pub outside_different : (a : ℕ) (xs : List ℕ) → outside (λ b. not (eqb b a)) xs ≡ equal_to a xs
+unfolding outside equal_to
+outside_different a [] = refl
+outside_different a (x ∷ xs) = go (outside_different a xs) (ℕ_discrete x a)
+  where
+    go : outside (λ b. not (eqb b a)) xs ≡ equal_to a xs → Dec (x ≡ a) → outside (λ b. not (eqb b a)) (x ∷ xs) ≡ equal_to a (x ∷ xs)
+    go ih (yes e) = ap (λ b. cond (not b) (outside (λ b. not (eqb b a)) xs) (x ∷ outside (λ b. not (eqb b a)) xs)) (eq-eqb x a e)
+        ∙ ap (λ n. n ∷ outside (λ b. not (eqb b a)) xs) e ∙ ap (λ l. a ∷ l) ih
+        ∙ sym (ap (λ b. cond b (a ∷ equal_to a xs) (equal_to a xs)) (eq-eqb x a e))
+    go ih (no n) = ap (λ b. cond (not b) (outside (λ b. not (eqb b a)) xs) (x ∷ outside (λ b. not (eqb b a)) xs)) (ne_eqb x a n)
+        ∙ ih ∙ sym (ap (λ b. cond b (a ∷ equal_to a xs) (equal_to a xs)) (ne_eqb x a n))
+
+pub wrote_equal : (a : ℕ) (xs : List ℕ) {e : ℕ} {x y : List ℕ} {r : Option ℕ} → Wrote (outside (λ b. not (eqb b a)) xs) e x y r → Wrote (equal_to a xs) e x y r
+wrote_equal a xs {e} {x} {y} {r} w = subst (λ l. Wrote l e x y r) (outside_different a xs) w
+
 -- ── all that there are are read ──
 
 module _ (i : ℕ) (x : List ℕ) (h : length x ≤ i) where
   pub outside_end : (p : ℕ → Bool) → outside p (drop i x) ≡ []
   unfolding outside
   outside_end p = at_drop_all (outside p) x i h
-
-  pub equal_end : (a : ℕ) → equal_to a (drop i x) ≡ []
-  unfolding equal_to
-  equal_end a = at_drop_all (equal_to a) x i h
 
   pub pairs_end : (p : ℕ → Bool) (ys : List ℕ) → pairs p (drop i x) ys ≡ []
   unfolding pairs

@@ -1,14 +1,14 @@
 // The numbers of a parallel's moves, made of those of both sides in the lent array (document 01, "Moves, in order": left's outside the mask,
 // right's likewise, then pairs of equal actions in the mask).
-ghost use Rattle.std.specs.Prelude.{◌+◌, ◌-◌, ◌≤◌, ◌≡◌, [], ◌∷◌, length, take};
+ghost use Rattle.std.specs.Prelude.{Bool, ℕ, ◌+◌, ◌-◌, ◌≤◌, ◌<◌, ◌≡◌, [], ◌∷◌, length, take};
 ghost use Rattle.std.proofs.Math.Seq.{slice};
 ghost use Rattle.actions.specs.Sets.{in_set};
-ghost use Rattle.listing.specs.Combining.{outside, equal_to, pairs, combined, Wrote, Combined};
+ghost use Rattle.listing.specs.Combining.{outside, pairs, combined, Wrote, Combined};
 
 use actions::in_set;
 
 // Each of the functions below writes into `out` from a place on, and returns the place after what it wrote, or None where there was no room.
-// Stays: a struct of `out` and the place would be the same two again, after a `&mut self`, for four private functions that one caller chains by `?`.
+// Stays: a struct of `out` and the place would be the same two again, after a `&mut self`, for three private functions that one caller chains by `?`.
 
 // One number.
 fn put(a: u32, at: usize, out: &mut [u32]) -> Option<usize>
@@ -22,34 +22,25 @@ fn put(a: u32, at: usize, out: &mut [u32]) -> Option<usize>
     Some(at + 1)
 }
 
-// Those of the numbers that are outside the mask.
-// Stays: `continue` here and below, since with the call of `put` within an `if` this loop was measured to take 1.6 times as long, the next a seventh
-// longer.
-fn put_outside(mask: u64, from: &[u32], e: usize, out: &mut [u32]) -> Option<usize>
-    requires { e ≤ length out.old }
-    ensures { Wrote (outside (in_set mask) from.now) e out.old out.new result }
+// Those of the numbers that a test does not pass over.
+// Stays `continue`, since with the call of `put` within an `if` the loop was measured to take 1.6 times as long for a mask's test, a seventh longer for
+// an equal number's.
+fn put_outside<F: Fn(u32) -> bool>(
+    test: F,
+    from: &[u32],
+    e: usize,
+    out: &mut [u32],
+) -> Option<usize>
+    requires room { e ≤ length out.old }
+    requires callable { F.IsAlwaysCallable test }
+    ensures { (q : ℕ → Bool) → ((a : ℕ) (b : Bool) → a < 4294967296 → F.post test a b → b ≡ q a) → Wrote (outside q from.now) e out.old out.new result }
 {
     let mut at = e;
     for a in from {
-        if in_set(mask, *a) {
+        if test(*a) {
             continue;
         }
         at = put(*a, at, out)?;
-    }
-    Some(at)
-}
-
-// The number a, once for each that equals it.
-fn put_equal(a: u32, from: &[u32], e: usize, out: &mut [u32]) -> Option<usize>
-    requires { e ≤ length out.old }
-    ensures { Wrote (equal_to a from.now) e out.old out.new result }
-{
-    let mut at = e;
-    for b in from {
-        if *b != a {
-            continue;
-        }
-        at = put(a, at, out)?;
     }
     Some(at)
 }
@@ -62,7 +53,8 @@ fn put_pairs(mask: u64, left: &[u32], right: &[u32], e: usize, out: &mut [u32]) 
     let mut at = e;
     for x in left {
         if in_set(mask, *x) {
-            at = put_equal(*x, right, at, out)?;
+            let a = *x;
+            at = put_outside(|b| b != a, right, at, out)?;
         }
     }
     Some(at)
@@ -71,6 +63,8 @@ fn put_pairs(mask: u64, left: &[u32], right: &[u32], e: usize, out: &mut [u32]) 
 // Copies the numbers from b to e to the front.
 // Stays number by number: copy_within calls memmove, and the library promises C hosts to call memcpy and memset only (host/eb3.h, Linking).
 // Stays with b and e: what is read and what is written are parts of one array that may overlap, so they are no two slices.
+// Stays beside copy_cells of cells: that is of words, and from any place to any.
+// Stays: that the array keeps its length is a fact of what it was and what it is then, which no field of a struct holds.
 fn shift(b: usize, e: usize, acts: &mut [u32])
     requires { (b ≤ e) × (e ≤ length acts.old) }
     ensures { (length acts.new ≡ length acts.old) × (take (e - b) acts.new ≡ slice b e acts.old) }
@@ -89,8 +83,8 @@ pub fn combine(mask: u64, n: usize, k: usize, acts: &mut [u32]) -> Option<usize>
     let b = n + k;
     let (both, out) = acts.split_at_mut(b);
     let (left, right) = both.split_at(n);
-    let p = put_outside(mask, left, 0, out)?;
-    let q = put_outside(mask, right, p, out)?;
+    let p = put_outside(|a| in_set(mask, a), left, 0, out)?;
+    let q = put_outside(|a| in_set(mask, a), right, p, out)?;
     let e = put_pairs(mask, left, right, q, out)?;
     shift(b, b + e, acts);
     Some(e)

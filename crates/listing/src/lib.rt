@@ -23,7 +23,11 @@ mod combining;
 
 // ── skipping ──
 
+// Stays three functions that call those of `codes` for edition 1: their contracts are of terms, and those of `codes` of expressions and terms of any shape,
+// so that each of their many callers would have to name the shape and to show anew that its words are a term's.
+
 // The words left after n terms in a row.
+// Stays: n counts terms, and does not say how many of the words count.
 pub fn skip_row(s: &[u16], n: usize) -> usize
     requires { (length s.now ≤ 65535) × (n ≤ 65535) }
     ensures { (result ≤ length s.now) × ((P : Scope) (Es : List Term) (rest : List ℕ) → RowAt s.now P Es rest → n ≡ length Es → result ≡ length rest) }
@@ -50,11 +54,13 @@ pub fn idle(s: &[u16]) -> bool
 // ── listing ──
 
 // An answer that says that there was no room. Every other is 65,536 times how many moves are listed, and the words left.
-// Stays here and in each function below that makes, tests or takes apart such an answer: measured, an Option of both numbers in a struct takes up to
-// 1.30 times the instructions (guards; sequences after done 1.22), and 160 bytes a level of the stack for 96 (docs/DESIGN-PASS.md, "Answers in one
-// number").
-// Stays: `m`, `x` and `acts` as parameters. A second operand's moves are listed into the rest of `acts`, and a mask adds to `x`, so a struct of the three
+// Stays, here and in each function below that makes, tests or takes apart such an answer: measured, an Option of both numbers in a struct takes up to
+// 1.30 times the instructions (guards; sequences after done 1.22), and 160 bytes a level of the stack for 96 (docs/DESIGN-PASS.md, "Answers
+// packed in one number").
+// Stays, `m`, `x` and `acts` as parameters: a second operand's moves are listed into the rest of `acts`, and a mask adds to `x`, so a struct of the three
 // would be made anew for nearly every call, in memory where registers serve now.
+// Stays: that `acts` has at most 131,072 numbers, and that at most 65,535 words are left, are clauses, by which both numbers fit into one answer. The rest of
+// `acts` that a second operand gets would be made a struct with this fact anew.
 pub const FULL: usize = 1099511627776;
 
 // One move.
@@ -219,6 +225,7 @@ fn list_masked(d: &[u16], m: &[u16], x: u64, acts: &mut [u32]) -> usize
 }
 
 // The moves of the term at the front, of a whole after which other words are left.
+// Stays beside the end of list_sequence, which looks for what is left only where its left term is listed.
 #[cycle(listing_terms)]
 fn list_side(t: &[u16], m: &[u16], x: u64, left: usize, acts: &mut [u32]) -> usize
     requires { (length t.now ≤ 65535) × (length acts.old ≤ 131072) × (left ≤ 65535) }

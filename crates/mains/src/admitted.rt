@@ -1,9 +1,9 @@
-// The rule set that was admitted, as the steps after that go by it, and what a run of it is (document 01, "Operations": each begins with Admit; Run).
+// The rule set that was admitted, in the form that the later steps use, and what a run of it is given (document 01, "Operations": each begins with Admit; Run).
 ghost use Rattle.std.specs.Prelude.{◌≡◌, ◌+◌, ◌≤◌, length, get_or};
 
 use cells::Functions;
 
-/// An admitted rule set: its functions, and the tables that they are of.
+/// An admitted rule set: its functions, and the tables that they belong to.
 #[derive(Clone, Copy)]
 pub struct Admitted<'a> {
     /// Its attribute functions, with the stream's words that they and all processes are in.
@@ -27,6 +27,7 @@ pub struct Course<'a, 'b> {
 
 impl<'a> Admitted<'a> {
     /// The rule set of these words, tables and directory, with this number of cells.
+    // Stays: what is asked are the facts of the fields that are made here and in `Functions`; from then on they are asked of no function.
     pub fn of(
         words: &'a [u16],
         tables: &'a [u32; 500],

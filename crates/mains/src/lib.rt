@@ -24,7 +24,8 @@ use writing::put_words;
 pub mod admitted;
 
 // The last term's size in words, and how many numbers took a visible move, took an internal one, or were refused.
-#[derive(Clone, Copy)]
+// Stays beside runs' Tally, whose size is a place in an array (usize): C hosts get this one, which has 32 bits (`Ran` of cabinet).
+#[derive(Clone, Copy, Default)]
 pub struct Totals {
     pub size: u32,
     pub visible: u64,
@@ -33,6 +34,8 @@ pub struct Totals {
 }
 
 // Zeros from one word up to another.
+// Stays with two places, and not the part of the words lent: nothing is done where they are no part of the words. That a lent array keeps
+// its length, here and below, is a fact of what it was and what it is then, which no field of a struct holds.
 fn pad(ws: &mut [u16], from: usize, to: usize)
     ensures { (length ws.new ≡ length ws.old) × Padded ws.old from to ws.new }
 {
@@ -44,7 +47,7 @@ fn pad(ws: &mut [u16], from: usize, to: usize)
 
 // The first words, zeros up to main's reach, and the c cells of the store, written into the lent buffers.
 // Stays, here and in the functions after it: the term, the memory and the spare buffer are lent apart, and so are the words and the store: memory
-// is fixed and there is no heap, and each is another thing. A struct of the three buffers: each contract would have to say that its
+// is fixed and there is no heap, and each is a different thing. A struct of the three buffers: each contract would have to say that its
 // references stay the same (`ghost_name`), and read what they leave as `exit.0`, `exit.1.0` and so on, which is no plainer.
 fn finish(
     ws: &mut [u16],
@@ -63,7 +66,10 @@ fn finish(
 }
 
 // From the words of main's unfolding, which has no masks, and the cells of the start: at first the term is the whole of it, and the last
-// one is spelled out.
+// one is written out in full.
+// Stays: the answer of `expand` is one number, measured in sharing (expanding.rt), which is taken apart here.
+// Stays field by field, here and in run_masked: the three counts are a tally's and the size is another number, and a function for both places would have a
+// contract as long as these lines. Stays: that u has at most 65,503 words is what sharing asks.
 fn run_bare(
     course: &Course,
     u: &[u16],
@@ -78,12 +84,7 @@ fn run_bare(
 {
     // never with room for main
     if d.len() == 0 {
-        return Totals {
-            size: 0,
-            visible: 0,
-            internal: 0,
-            refused: 0,
-        };
+        return Totals::default();
     }
     d[0] = part_word(u);
     let functions = &course.rules.functions;
@@ -107,7 +108,8 @@ fn run_bare(
 }
 
 // With masks, or with operands too deep to be shared, the term is held in its own words.
-// Stays: eight parameters, of which the last six are lent arrays, and n is how many words of the first are the term's.
+// Stays: eight parameters, for the reason at `finish`: six are lent. The term is the first n words of ws, and no slice of them, since `finish` fills ws up to
+// main's reach.
 fn run_masked(
     course: &Course,
     n: usize,
@@ -157,8 +159,8 @@ fn run_words(
     run_masked(course, n, ws, &mut m, scratch, term, memory, spare)
 }
 
-// The same in arrays of N words, for a reach of at most N. It is not put into its caller, so that a short reach does not pay for a
-// frame with long arrays.
+// The same in arrays of N words, for a reach of at most N. It is a function apart from its caller, so that a short reach does not pay
+// for a frame with long arrays.
 // Stays: one function for all sizes of the local arrays, since memory is fixed and there is no heap.
 #[inline(never)]
 fn run_sized<const N: usize>(

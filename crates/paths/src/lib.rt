@@ -1,4 +1,5 @@
 // The words of a path by their names (document 01, "Moves, in order"; specs/Paths.antt): the decisions at the terms that have several ways to move.
+// Stays: the type is usize, by which words that are read are matched (`scan::first`); a word that is written is cast in place.
 #![tactic(auto)]
 
 // ── at a choice ──

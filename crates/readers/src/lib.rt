@@ -12,7 +12,7 @@ ghost use Rattle.readers.specs.Placing.{put_number, put_record, put_first};
 pub mod list;
 
 #[repr(C)]
-#[derive(Clone, Copy)]
+#[derive(Clone, Copy, Default, PartialEq)]
 pub struct Counts {
     pub visible: u32,
     pub internal: u32,
@@ -32,6 +32,7 @@ pub fn plus(c: Counts, d: Counts) -> Counts
 }
 
 // Adds to one record of a lent table; the others are kept.
+// Stays, here and below: a reader is a usize with its bound as a clause, since it is the place of a record, and what is public asks no more of its callers.
 pub fn add_to(table: &mut [Counts], reader: usize, more: Counts)
     requires { reader < length table.old }
     ensures { table.new ≡ added_to table.old reader more }
@@ -51,7 +52,9 @@ pub fn add_in(mut table: [Counts; 32], reader: usize, more: Counts) -> [Counts; 
 // ── what a run counts: three numbers a reader, in the order of a record ──
 
 // One more of an outcome at a reader, both from 0.
-// Stays, here and below: a slice with its length as a fact, since it is public, and what is public asks no more of its callers.
+// Stays, here and below: a slice with its length as a fact, since it is public, and what is public asks no more of its callers. So it is with the
+// outcome, which is the place of a number in a record.
+// Stays, here and below: that what is lent keeps its length is a fact of what it was and what it is then, which no field of a struct holds.
 pub fn count_one(counted: &mut [u32], reader: usize, outcome: usize)
     requires { (reader < 32) × (outcome < 3) × (length counted.old ≡ 96) }
     ensures { (counted.new ≡ one_more counted.old reader outcome) × (length counted.new ≡ length counted.old) }
@@ -76,7 +79,7 @@ fn counts_at(counted: &[u32], reader: usize) -> Counts
 fn idle(c: Counts) -> bool
     ensures { result ≡ true → c ≡ none }
 {
-    c.visible == 0 && c.internal == 0 && c.refused == 0
+    c == Counts::default()
 }
 
 // What was counted at each reader, added to its record.
@@ -106,6 +109,7 @@ fn read_number(table: &[u8], i: usize) -> u32
     u32::from_le_bytes([table[at], table[at + 1], table[at + 2], table[at + 3]])
 }
 
+// Stays beside counts_at: this reads the bytes of a host, that one the numbers that a run has counted.
 fn read_record(table: &[u8], reader: usize) -> Counts
     requires { (reader < 32) × (384 ≤ length table.now) }
     ensures { result ≡ counts_at (doubles_in (words_in table.now)) reader }
@@ -122,12 +126,7 @@ fn read_records(table: &[u8]) -> [Counts; 32]
     requires { 384 ≤ length table.now }
     ensures { result ≡ records 32 (doubles_in (words_in table.now)) }
 {
-    let none = Counts {
-        visible: 0,
-        internal: 0,
-        refused: 0,
-    };
-    let mut t = [none; 32];
+    let mut t = [Counts::default(); 32];
     for i in 0..32 {
         t[i] = read_record(table, i);
     }

@@ -4,6 +4,7 @@ ghost use Rattle.eb3.specs.Bytes.{words_in};
 ghost use Rattle.readers.specs.Readers.{all_read, reader? as is_reader, lets_through};
 
 // Word i of a list.
+// Stays a usize with its bound as a fact, here and in `place`: both are public, and what is public keeps its promise.
 pub fn word_at(list: &[u8], i: usize) -> usize
     requires { 2 * i + 2 ≤ length list.now }
     ensures { (result ≡ slice_index (words_in list.now) i) × (result < 65536) }

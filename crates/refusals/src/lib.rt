@@ -1,4 +1,5 @@
 // The refusals as an enum, by document 01's words, and their numbers (document 01, the table under "Operations").
+// Stays in numbers here, and nowhere else: C hosts get them (host/eb3.h), and the exported functions' contracts say them.
 #![tactic(auto)]
 
 ghost use Rattle.std.specs.Prelude.{◌≡◌};

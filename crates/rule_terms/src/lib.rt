@@ -80,6 +80,8 @@ fn action(t: &[u16], context: &Context) -> Result<Weighed, Refusal>
 }
 
 // A lower process and its arguments.
+// Stays beside `action`: they share the check of the arguments, a function, and differ in the limit, in the table's row and in what the term measures. One
+// function of both would be handed all three.
 fn call(t: &[u16], context: &Context) -> Result<Weighed, Refusal>
     ensures { result ≡ answer context.now.tables.now (call_of (declared context.now.tables.now) context.now.variables.now t.now) }
 {
@@ -216,6 +218,7 @@ fn quantified(t: &[u16], context: &Context, over: Quantifier) -> Result<Weighed,
 // ── any term ──
 
 // The words after the first k.
+// Stays with k: this is what makes a slice of the words after.
 fn beyond(s: &[u16], k: usize) -> &[u16]
     requires { k ≤ length s.now }
     ensures { result.now ≡ drop k s.now }
@@ -244,17 +247,11 @@ fn check_plain(s: &[u16], context: &Context) -> Result<Weighed, Refusal>
         CHOICE => two_terms(t, context, Joint::Choice),
         PARALLEL => in_parallel(t, context),
         GUARD => guarded(t, context),
-        CHOICE_OVER => {
-            if context.variables.len() < VARIABLES {
-                return quantified(t, context, Quantifier::Choice);
-            }
-            Err(Refusal::Form)
+        CHOICE_OVER if context.variables.len() < VARIABLES => {
+            quantified(t, context, Quantifier::Choice)
         }
-        PARALLEL_OVER => {
-            if context.variables.len() < VARIABLES {
-                return quantified(t, context, Quantifier::Parallel);
-            }
-            Err(Refusal::Form)
+        PARALLEL_OVER if context.variables.len() < VARIABLES => {
+            quantified(t, context, Quantifier::Parallel)
         }
         CALL => call(t, context),
         _ => Err(Refusal::Form),

@@ -29,7 +29,7 @@ use Rattle.declarations.specs.Noting.{function_of, FunctionsNoted}
 use Rattle.rules.specs.declared.Rules.{Rules}
 use Rattle.rules.specs.Filling.{ProcessSectionRead, Filled, FunctionSectionRead}
 use Rattle.rules.specs.Sections.{main_weighed, rules_weighed, joined, process_section, function_section, found_rules}
-use Rattle.rules.proofs.SectionCases.{count_between, rules_out}
+use Rattle.rules.proofs.SectionCases.{rules_out}
 use Rattle.std.specs.Prelude.{Ok, Err, Result}
 use Rattle.refusals.specs.declared.Refusal.{Refusal}
 use Rattle.rule_terms.specs.Weighed.{Answer}
@@ -94,12 +94,10 @@ module _ (T t : List ℕ) (p : Checked) (e : p ≡ checked (count_of 0 16 t)) wh
       }
 
   module _ (m n x : ℕ) (s : length T ≡ 500) (b : Bounded T) (h : p ≡ Ok m) (i : n ≡ get_or t 0 0) (f : x ≡ n) where
-    pub functions_asks : (n + 0 < 65536) × (length (set T 210 x) ≡ 500) × (get_or (set T 210 x) 17 0 ≤ 64) × Bounded (set T 210 x)
-    functions_asks =
-        let b' = set_bounded T 210 x (omega arith) (omega arith) b in
-        (omega (arith, count_between 0 16 m n t p e h i), length-set T 210 x ∙ s, b'.labels_few, b')
+    pub functions_bounded : Bounded (set T 210 x)
+    functions_bounded = set_bounded T 210 x (omega arith) (omega arith) b
 
-    -- D is the directory before, D' behind the functions
+    -- D is the directory before, D' after the functions
     module _ (u D D' : List ℕ) (l : u ≡ last_of m t) (a : Result Counted Refusal) (g : FunctionsNoted (set T 210 x) n n 0 u D 0 a D') (ds : List ℕ) (ls : List (List ℕ)) (z : Heads T ds ls) where
       heads : Heads (set T 210 x) ds ls
       heads = functions_entered T ds ls x (omega arith) b.domains_few b.labels_few b.label_rows z

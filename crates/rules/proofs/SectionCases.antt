@@ -159,8 +159,8 @@ module _ (T t : List ℕ) (p : Checked) (e : p ≡ checked (count_of 1 64 t)) wh
       filled = λ ds z whole R c tl small g room. absurd (not_taken (label_section ds t) k R c (then_refused_as (read_labels (length ds) t) _ k (labels_refused u l r T' en k q ds z)) g);
     }
 
-    pub labels_bounded : (u T' : List ℕ) (r : Checked) (j : ℕ) → u ≡ last_of m t → Entered u (set T 17 x) n 18 d r T' → r ≡ Ok j → (length T' ≡ 500) × Bounded T'
-    labels_bounded u T' r j l en q = (en.same_length ∙ length-set T 17 x ∙ s, bounded u l r T' en j q)
+    pub labels_bounded : (u T' : List ℕ) (r : Checked) (j : ℕ) → u ≡ last_of m t → Entered u (set T 17 x) n 18 d r T' → r ≡ Ok j → Bounded T'
+    labels_bounded u T' r j l en q = bounded u l r T' en j q
 
     pub labels_in : (u v T' T'' D D' : List ℕ) (r : Checked) (j : ℕ) (w : Result Rules Refusal) → u ≡ last_of m t → Entered u (set T 17 x) n 18 d r T' → r ≡ Ok j → v ≡ last_of j u → FunctionSectionRead v T' D w T'' D' → LabelSectionRead t T D w T'' D'
     labels_in u v T' T'' D D' r j w l en q o k = labels_go u l r T' en j q v T'' D D' w o k
@@ -190,11 +190,8 @@ module _ (T t : List ℕ) (p : Checked) (e : p ≡ checked (read_domains t)) whe
       copied : T' ≡ paste T 0 t (get_or t 0 0 + 1)
       copied = c ∙ ap (λ n. paste T 0 t (n + 1)) i
 
-      pub read_asks : (length T' ≡ 500) × (get_or T' 0 0 ≤ 16)
-      read_asks = (
-        ap length c ∙ length-paste T 0 t (k + 1) read_copies.0 read_copies.1 ∙ s,
-        omega (arith, ap (λ l. get_or l 0 0) copied ∙ domains_counted T t (row t 0) (last_of m t) domains_here.is (omega arith), domains_here.few, domains_here.small),
-      )
+      pub read_asks : get_or T' 0 0 ≤ 16
+      read_asks = omega (arith, ap (λ l. get_or l 0 0) copied ∙ domains_counted T t (row t 0) (last_of m t) domains_here.is (omega arith), domains_here.few, domains_here.small)
 
       named : (declared T').domains ≡ row t 0
       named = ap (λ l. (declared l).domains) copied ∙ domains_entered T t (row t 0) (last_of m t) domains_here.is (omega arith)

@@ -52,6 +52,8 @@ fn check_process(t: &[u16], tb: &[u32], hi: usize) -> Result<Weighed, Refusal>
 }
 
 // Process p, whose parameters are at the front of t, may be called from now on.
+// Stays, here and in `processes`: p, n and left are usize with their bounds as clauses, since p and n make places in the tables, and left is how many words
+// are left, which are counted as usize.
 fn enter_process(tb: &mut [u32], t: &[u16], p: usize, w: Weight, left: usize)
     requires { (212 + 9 * p + 9 ≤ length tb.old) × (p < 65536) × (get_or t.now 0 0 ≤ 4) × (get_or t.now 0 0 + 1 ≤ length t.now) × (left < 65536) }
     ensures { tb.new ≡ entered_process tb.old p (take (get_or t.now 0 0 + 1) t.now) w.size w.reach w.breadth left }
@@ -67,6 +69,8 @@ fn enter_process(tb: &mut [u32], t: &[u16], p: usize, w: Weight, left: usize)
 }
 
 // n processes; the last is main, whose measures are returned.
+// Stays, here and below: that the tables are `Bounded` is a fact of what the sections before have put into them, and each of these functions writes into
+// them.
 fn processes(t: &[u16], tb: &mut [u32], n: usize) -> Result<Weighed, Refusal>
     requires { (1 ≤ n) × (212 + 9 * n ≤ length tb.old) × (n < 65536) × (length t.now ≤ 65535) × (get_or tb.old 211 0 ≡ 0) × Bounded tb.old }
     ensures { ProcessesRead t.now tb.old n result tb.new }
@@ -86,14 +90,13 @@ fn processes(t: &[u16], tb: &mut [u32], n: usize) -> Result<Weighed, Refusal>
 
 // ── the sections in a row ──
 
-// Stays: that the tables are 500 numbers is asked by the four functions here, and that the words are at most 65,535, which keeps a
-// place in them small. Callers lend the tables as a slice, as all that reads them does, so an array's type would end at `read`; and each
-// function is given another part of the words, for which a struct with this fact would be made anew.
+// Stays: that the words are at most 65,535, which keeps a place in them small, is asked by the four functions here. Each is given another part of
+// the words, for which a struct with this fact would be made anew.
 // Stays: three of them take the words, the tables and the directory. The words are others at each call, and most of what they call takes
 // one of the two arrays: a struct of both would be taken apart at each of these calls.
 
-fn process_section(t: &[u16], tb: &mut [u32]) -> Result<Weighed, Refusal>
-    requires { (length tb.old ≡ 500) × (length t.now ≤ 65535) × Bounded tb.old }
+fn process_section(t: &[u16], tb: &mut [u32; 500]) -> Result<Weighed, Refusal>
+    requires { (length t.now ≤ 65535) × Bounded tb.old }
     ensures { ProcessSectionRead t.now tb.old result tb.new }
 {
     let m = count(t, 1, 32)?;
@@ -102,8 +105,8 @@ fn process_section(t: &[u16], tb: &mut [u32]) -> Result<Weighed, Refusal>
     processes(last(t, m), tb, n)
 }
 
-fn function_section(t: &[u16], tb: &mut [u32], dir: &mut [u32]) -> Result<Rules, Refusal>
-    requires { (length tb.old ≡ 500) × (length t.now ≤ 65535) × Bounded tb.old }
+fn function_section(t: &[u16], tb: &mut [u32; 500], dir: &mut [u32]) -> Result<Rules, Refusal>
+    requires { (length t.now ≤ 65535) × Bounded tb.old }
     ensures { FunctionSectionRead t.now tb.old dir.old result tb.new dir.new }
 {
     let m = count(t, 0, 16)?;
@@ -120,8 +123,8 @@ fn function_section(t: &[u16], tb: &mut [u32], dir: &mut [u32]) -> Result<Rules,
     })
 }
 
-fn label_section(t: &[u16], tb: &mut [u32], dir: &mut [u32]) -> Result<Rules, Refusal>
-    requires { (length tb.old ≡ 500) × (length t.now ≤ 65535) × (get_or tb.old 0 0 ≤ 16) }
+fn label_section(t: &[u16], tb: &mut [u32; 500], dir: &mut [u32]) -> Result<Rules, Refusal>
+    requires { (length t.now ≤ 65535) × (get_or tb.old 0 0 ≤ 16) }
     ensures { LabelSectionRead t.now tb.old dir.old result tb.new dir.new }
 {
     let m = count(t, 1, 64)?;
@@ -135,8 +138,8 @@ fn label_section(t: &[u16], tb: &mut [u32], dir: &mut [u32]) -> Result<Rules, Re
 
 // A rule set after its edition and its number of blocks: how many words are left after it, and main's measures.
 // What the tables and the directory held before makes no difference; a directory too short is filled as far as it goes.
-pub fn read(t: &[u16], tb: &mut [u32], dir: &mut [u32]) -> Result<Rules, Refusal>
-    requires { (length tb.old ≡ 500) × (length t.now ≤ 65535) }
+pub fn read(t: &[u16], tb: &mut [u32; 500], dir: &mut [u32]) -> Result<Rules, Refusal>
+    requires { length t.now ≤ 65535 }
     ensures { RulesRead t.now tb.old dir.old result tb.new dir.new }
 {
     let m = check_domains(t)?;

@@ -112,8 +112,12 @@ RunningTo numbers t D w functions c n ws M out path i ws' M' out' r =
     (bound : ℕ) → Roomy bound ws out path → RunsBy Spelled bound (WordsOnly out out') (take i (words_in numbers)) t D w functions c n ws M ws' M' r
 
 module _ (numbers : List ℕ) {t D : List ℕ} {w functions c n : ℕ} {ws M out path : List ℕ} where
-  pub run_start : RunningTo numbers t D w functions c n ws M out path 0 ws M out (record { size = n; visible = 0; internal = 0; refused = 0 })
-  run_start bound room = by_start Spelled bound numbers (words_kept out out refl)
+  run_start_of_zeros : RunningTo numbers t D w functions c n ws M out path 0 ws M out (record { size = n; visible = 0; internal = 0; refused = 0 })
+  run_start_of_zeros bound room = by_start Spelled bound numbers (words_kept out out refl)
+
+  -- A tally that begins with the default, whose fields are 0.
+  pub run_start : (z : Tally) → (z.size ≡ 0) × ((z.visible ≡ 0) × ((z.internal ≡ 0) × (z.refused ≡ 0))) → RunningTo numbers t D w functions c n ws M out path 0 ws M out (record { size = n; visible = z.visible; internal = z.internal; refused = z.refused })
+  run_start z h = subst (λ (r : Tally). RunningTo numbers t D w functions c n ws M out path 0 ws M out r) (λ i. record { size = n; visible = (sym (h.1.0)) i; internal = (sym (h.1.1.0)) i; refused = (sym (h.1.1.1)) i }) run_start_of_zeros
 
   pub run_next : (i : ℕ) {k : ℕ} {ws₁ M₁ out₁ path₁ ws₂ M₂ out₂ : List ℕ} {r r' : Tally} {d : Option Done} → i < word_count numbers → length ws₁ ≡ length ws → length out₁ ≡ length out → length path₁ ≡ length path
       → RunningTo numbers t D w functions c n ws M out path i ws₁ M₁ out₁ r → k ≡ get_or (words_in numbers) i 0 → StepsOnce t D w functions c r.size k ws₁ M₁ out₁ path₁ ws₂ M₂ out₂ d

@@ -99,8 +99,12 @@ SharedTo numbers t D w functions c u n d M paths acts middle i d' M' r =
     (bound : ℕ) → RoomyOver bound u d paths acts middle → RunsBy (SharedOver u) bound Unit (take i (words_in numbers)) t D w functions c n d M d' M' r
 
 module _ (numbers : List ℕ) {t D : List ℕ} {w functions c : ℕ} {u : List ℕ} {n : ℕ} {d M : List ℕ} {paths acts middle : ℕ} where
-  pub shared_start : SharedTo numbers t D w functions c u n d M paths acts middle 0 d M (record { size = n; visible = 0; internal = 0; refused = 0 })
-  shared_start bound room = by_start (SharedOver u) bound numbers tt
+  shared_start_of_zeros : SharedTo numbers t D w functions c u n d M paths acts middle 0 d M (record { size = n; visible = 0; internal = 0; refused = 0 })
+  shared_start_of_zeros bound room = by_start (SharedOver u) bound numbers tt
+
+  -- A tally that begins with the default, whose fields are 0.
+  pub shared_start : (z : Tally) → (z.size ≡ 0) × ((z.visible ≡ 0) × ((z.internal ≡ 0) × (z.refused ≡ 0))) → SharedTo numbers t D w functions c u n d M paths acts middle 0 d M (record { size = n; visible = z.visible; internal = z.internal; refused = z.refused })
+  shared_start z h = subst (λ (r : Tally). SharedTo numbers t D w functions c u n d M paths acts middle 0 d M r) (λ i. record { size = n; visible = (sym (h.1.0)) i; internal = (sym (h.1.1.0)) i; refused = (sym (h.1.1.1)) i }) shared_start_of_zeros
 
   pub shared_next : (i : ℕ) {k : ℕ} {d₁ M₁ : List ℕ} {paths₁ acts₁ middle₁ : ℕ} {d₂ M₂ : List ℕ} {r r' : Tally} {o : Option Done} → i < word_count numbers → length d₁ ≡ length d → paths₁ ≡ paths → acts₁ ≡ acts → middle₁ ≡ middle
       → SharedTo numbers t D w functions c u n d M paths acts middle i d₁ M₁ r → k ≡ get_or (words_in numbers) i 0 → StepsShared t D w functions c u r.size k d₁ M₁ paths₁ acts₁ middle₁ d₂ M₂ o

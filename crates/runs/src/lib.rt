@@ -26,7 +26,7 @@ pub enum Done {
 }
 
 // The size of the last term in words, and how many numbers did what.
-#[derive(Clone, Copy)]
+#[derive(Clone, Copy, Default)]
 pub struct Tally {
     pub size: usize,
     pub visible: u64,
@@ -35,6 +35,8 @@ pub struct Tally {
 }
 
 // Number i of a list.
+// Stays: from_le_bytes is the generic function, here and in blocks, cells, readers and session; this names it, so that a contract says once what it gives.
+// Stays a usize with its bound as a fact, since it is the number of a move, which all below take as a usize.
 fn number_at(numbers: &[u8], i: usize) -> usize
     requires { 2 * i + 2 ≤ length numbers.now }
     ensures { (result ≡ get_or (words_in numbers.now) i 0) × (result < 65536) }
@@ -43,6 +45,8 @@ fn number_at(numbers: &[u8], i: usize) -> usize
 }
 
 // Move k of the term in the first n words: its successor is built in lent bytes and put in the term's place, the cells are renewed.
+// Stays, here and in run_moves: the words, the store, the buffer and the arrays of the run are lent apart, as in mains (its `finish` says why); and that each
+// keeps its length is a fact of what it was and what it is then, which no field of a struct holds.
 fn step_once(
     functions: &Functions,
     n: usize,
@@ -93,7 +97,8 @@ fn counted(tally: Tally, done: Option<Done>) -> Tally
 }
 
 // From the term in the first n words of ws and the cells in the store, by all numbers of the list; an odd last byte is ignored.
-// Stays: the term is the first n words of ws, here and below: it grows and shrinks within one array of a fixed size, since there is no heap.
+// Stays: the term is the first n words of ws, here and in shared.rt: it grows and shrinks within one array of a fixed size, since there is no heap. A struct
+// of both would be lent, and each contract would have to say too that its array stays the same (`ghost_name`), as `SameArrays` does of a `Scratch`.
 pub fn run_moves(
     numbers: &[u8],
     functions: &Functions,
@@ -112,9 +117,7 @@ pub fn run_moves(
 {
     let mut tally = Tally {
         size: n,
-        visible: 0,
-        internal: 0,
-        refused: 0,
+        ..Tally::default()
     };
     for i in 0..numbers.len() / 2 {
         let k = number_at(numbers, i);

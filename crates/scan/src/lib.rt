@@ -11,7 +11,8 @@ pub mod repeats;
 
 use refusals::Refusal;
 
-// A word as a number. Stays: it is public, and what is public keeps its promise; today's form is a cast in place.
+// A word as a number.
+// Stays: it is public, and what is public keeps its promise, though no crate here calls it any more; today's form is a cast in place.
 pub fn wide(x: u16) -> usize
     ensures { (result ≡ x) × (result < 65536) }
 {
@@ -19,6 +20,7 @@ pub fn wide(x: u16) -> usize
 }
 
 // The first word, or 0 where there is none.
+// Stays a usize with its bound as a fact: it is public, and what is public keeps its promise.
 pub fn first(s: &[u16]) -> usize
     ensures { (result ≡ get_or s.now 0 0) × (result < 65536) }
 {
@@ -26,6 +28,7 @@ pub fn first(s: &[u16]) -> usize
 }
 
 // The last n words; all of them where there are fewer.
+// Stays with n, and so does `front`: this is what makes a slice of that many words.
 #[tactic(auto, using(crate::specs::Laws::part), unfolding(crate::specs::Checking::last_of))]
 pub fn last(s: &[u16], n: usize) -> &[u16]
     ensures { result.now ≡ last_of n s.now }

@@ -34,7 +34,7 @@ fn choose(
 }
 
 // The numbers, one by one, each with its choice line; with each move taken the two positions change places, and the state is printed.
-// The range only says that the loop ends: no input is as long.
+// Stays a `for` over a range, which only says that the loop ends (no input is as long): nothing gets smaller that a `while let` could end by.
 fn play(
     input: &mut Stdin,
     page: &mut Page,

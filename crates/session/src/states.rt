@@ -7,6 +7,7 @@ use std::fmt::{self, Display, Formatter};
 use std::io::{self, Write};
 
 // The cells of a memory, each after a space; the word 65,535 is an undefined cell.
+// Stays a word: a memory is bytes that a host lends, and no Option can be in them.
 #[derive(Clone, Copy, Drop)]
 struct Cells<'a>(&'a [u8]);
 

@@ -4,6 +4,7 @@ use mathlib.Core.Bool.{true}
 use mathlib.Core.List.{List, [], ◌∷◌, ◌++◌}
 use Prim.Native.Nat.{ℕ, ◌+◌, ◌-◌, ◌*◌, ◌/◌, ◌%◌, ◌≤◌, ◌<◌}
 use native.Mathlib.Omega.{arith}
+use Rattle.std.specs.Prelude.{Option, None, Some, unwrap_or}
 use lib.ListN.{length, take, drop, set, length-append, length-set}
 use lib.Seq.{slice, length-slice, length-take-le, take-append_seam, take-suc-set}
 use Rattle.eb3.specs.Scopes.{Scope}
@@ -27,7 +28,7 @@ put_front ws entry exit e = ap (take (length ws)) e ∙ take-append_seam ws (dro
 
 -- ── the words put in their place ──
 
-module _ {d mid : List ℕ} {n i e k : ℕ} {d' mid' : List ℕ} {r : ℕ} (within : n ≤ length d) (ie : i ≤ e) (en : e ≤ n) (s : Spliced d mid n i e k d' mid' r) where
+module _ {d mid : List ℕ} {n i e k : ℕ} {d' mid' : List ℕ} {r : ℕ} (within : n ≤ length d) (ie : i ≤ e) (en : e ≤ n) (s : Spliced d mid n i e k d' mid' (Some r)) where
   module _ (X : Shared) (is : k ≡ length (shared_words X)) (put : take (length (shared_words X)) mid ≡ shared_words X) (whole : i + (length (shared_words X) + (n - e)) ≤ length d)
       (moved : length (shared_words X) + (n - e) ≤ length mid) where
     abbrev all : List ℕ
@@ -54,9 +55,9 @@ done_put : (mid : List ℕ) → (length mid ≡ 0 → ⊥) → take 1 (set mid 0
 done_put mid h = take-suc-set mid 0 30 (omega arith)
 
 module _ {d : List ℕ} {n i : ℕ} {mid d' mid' : List ℕ} {r : ℕ} (within : n ≤ length d) (short : length d ≤ 65535) where
-  pub join_made : (length mid ≡ 0 → ⊥) → Spliced d (set mid 0 30) n i (i + 3) 1 d' mid' r → Joined d n i mid d' mid' r
+  join_put : (length mid ≡ 0 → ⊥) → Spliced d (set mid 0 30) n i (i + 3) 1 d' mid' (Some r) → Joined d n i mid d' mid' r
   unfolding shared_words term_of action_code
-  join_made some s = record {
+  join_put some s = record {
     same_length = s.same_length;
     mid_same_length = s.mid_same_length ∙ length-set mid 0 30;
     right = λ u P h room.
@@ -72,6 +73,16 @@ module _ {d : List ℕ} {n i : ℕ} {mid d' mid' : List ℕ} {r : ℕ} (within :
           answered = omega (arith, splice_length within front h s Ended refl (done_put mid some) whole moved);
           low = omega (arith, low);
         };
+  }
+
+module _ {d : List ℕ} {n i : ℕ} {mid d' mid' : List ℕ} (within : n ≤ length d) (short : length d ≤ 65535) (enough : i + 3 ≤ n) where
+  pub join_made : (z : ℕ) (r : Option ℕ) → (length mid ≡ 0 → ⊥) → Spliced d (set mid 0 30) n i (i + 3) 1 d' mid' r → Joined d n i mid d' mid' (unwrap_or r z)
+  unfolding shared_words term_of
+  join_made z (Some r) some s = join_put within short some s
+  join_made z None some s = record {
+    same_length = s.same_length;
+    mid_same_length = s.mid_same_length ∙ length-set mid 0 30;
+    right = λ u P h room. absurd (s.made (omega arith) h within (room.whole Ended refl) (omega (arith, room.moved Ended refl, length-set mid 0 30)));
   }
 
 -- The words end before, or there is no room.
@@ -126,19 +137,23 @@ module _ (d : List ℕ) {u : List ℕ} {n i e w : ℕ} {p mid mid1 s : List ℕ}
     something : r ≡ 0 → ⊥
     something z = omega (arith, told, z, shared_some X)
 
-    module _ {d' mid2 : List ℕ} {k : ℕ} (c : Spliced d mid1 n i e (r % 65536) d' mid2 k) where
-      written_count : r % 65536 ≡ length (shared_words X)
-      written_count = omega (arith, told, few)
+    written_count : r % 65536 ≡ length (shared_words X)
+    written_count = omega (arith, told, few)
 
-      action_number : r / 4294967296 ≡ action_code ρ
-      action_number = omega (arith, told, few)
+    action_number : r / 4294967296 ≡ action_code ρ
+    action_number = omega (arith, told, few)
 
-      moved : length (shared_words X) + (n - e) ≤ length mid1
-      moved = omega (arith, room.moved X is_X, b.same_length)
+    moved : length (shared_words X) + (n - e) ≤ length mid1
+    moved = omega (arith, room.moved X is_X, b.same_length)
 
-      put : take (length (shared_words X)) mid1 ≡ shared_words X
-      put = put_front (shared_words X) mid mid1 begun.written
+    put : take (length (shared_words X)) mid1 ≡ shared_words X
+    put = put_front (shared_words X) mid mid1 begun.written
 
+    -- There is always room.
+    roomy : {d' mid2 : List ℕ} → Spliced d mid1 n i e (r % 65536) d' mid2 None → ⊥
+    roomy c = c.made ie en within (omega (arith, written_count, room.whole X is_X)) (omega (arith, written_count, moved))
+
+    module _ {d' mid2 : List ℕ} {k : ℕ} (c : Spliced d mid1 n i e (r % 65536) d' mid2 (Some k)) where
       pub answer_low : k ≤ length d
       answer_low = splice_low within ie en c X written_count put (room.whole X is_X) moved
 
@@ -152,7 +167,14 @@ module _ (d : List ℕ) {u : List ℕ} {n i e w : ℕ} {p mid mid1 s : List ℕ}
         low = omega (arith, answer_low, b.bounded);
       }
 
-  module _ {d' mid2 : List ℕ} {k : ℕ} (c : Spliced d mid1 n i e (r % 65536) d' mid2 k) where
+  part_roomless : {d' mid2 : List ℕ} {z : ℕ} → Spliced d mid1 n i e (r % 65536) d' mid2 None → PartChanged u d n i e w p mid d' mid2 z
+  part_roomless c = record {
+    same_length = c.same_length;
+    mid_same_length = c.mid_same_length ∙ b.same_length;
+    right = λ P l E ρ T g a f m room. absurd (roomy P l E ρ T g a f m room c);
+  }
+
+  module _ {d' mid2 : List ℕ} {k : ℕ} (c : Spliced d mid1 n i e (r % 65536) d' mid2 (Some k)) where
     part_made : PartChanged u d n i e w p mid d' mid2 (k + 65536 * (r / 4294967296))
     part_made = record { same_length = c.same_length; mid_same_length = c.mid_same_length ∙ b.same_length; right = λ P l E ρ T g a f m room. part_right P l E ρ T g a f m room c }
 
@@ -168,17 +190,19 @@ module _ (d : List ℕ) {u : List ℕ} {n i e w : ℕ} {p mid mid1 s : List ℕ}
   pub part_lost : {z : ℕ} → r ≡ 0 → PartChanged u d n i e w p mid d mid1 z
   part_lost z = record { same_length = refl; mid_same_length = b.same_length; right = λ P l E ρ T g a f m room. absurd (something P l E ρ T g a f m room z) }
 
--- The same where the number of words, the words left of the path and the action's number are known one by one.
-module _ (at left a : ℕ) {u d : List ℕ} {n i e w : ℕ} {p mid mid1 s d' mid2 : List ℕ} {k : ℕ} (within : n ≤ length d) (ie : i ≤ e) (en : e ≤ n) (short_u : length u ≤ 65503) (short_d : length d ≤ 65535)
-    (short_p : length p ≤ 65535) (short_mid : length mid ≤ 65535) (is : s ≡ last_of (w - 32) u) (b : Beginning s p 0 mid mid1 (began at left a)) (place : at ≤ 65535) (few : left ≤ 65535)
-    (c : Spliced d mid1 n i e at d' mid2 k) where
-  pub part_written : PartChanged u d n i e w p mid d' mid2 (k + 65536 * a)
-  part_written =
-      let cut : Spliced d mid1 n i e (began at left a % 65536) d' mid2 k = subst (λ j. Spliced d mid1 n i e j d' mid2 k) (sym (began_at (began at left a) at left a refl place)) c in
-      let q : began at left a / 4294967296 ≡ a = began_action (began at left a) at left a refl place few in
-      subst (λ j. PartChanged u d n i e w p mid d' mid2 (k + 65536 * j)) q (part_made d within ie en short_u short_d short_p short_mid is b cut)
+cut : (at left a : ℕ) {d mid1 : List ℕ} {n i e : ℕ} {d' mid2 : List ℕ} {o : Option ℕ} → at ≤ 65535 → Spliced d mid1 n i e at d' mid2 o → Spliced d mid1 n i e (began at left a % 65536) d' mid2 o
+cut at left a {d} {mid1} {n} {i} {e} {d'} {mid2} {o} place c = subst (λ j. Spliced d mid1 n i e j d' mid2 o) (sym (began_at (began at left a) at left a refl place)) c
 
-  pub part_beyond : {z : ℕ} → 65535 < k → PartChanged u d n i e w p mid d' mid2 z
-  part_beyond h =
-      let cut : Spliced d mid1 n i e (began at left a % 65536) d' mid2 k = subst (λ j. Spliced d mid1 n i e j d' mid2 k) (sym (began_at (began at left a) at left a refl place)) c in
-      part_long d within ie en short_u short_d short_p short_mid is b cut h
+-- The same where the number of words, the words left of the path and the action's number are known one by one.
+module _ (at left a : ℕ) {u d : List ℕ} {n i e w : ℕ} {p mid mid1 s d' mid2 : List ℕ} (within : n ≤ length d) (ie : i ≤ e) (en : e ≤ n) (short_u : length u ≤ 65503) (short_d : length d ≤ 65535)
+    (short_p : length p ≤ 65535) (short_mid : length mid ≤ 65535) (is : s ≡ last_of (w - 32) u) (b : Beginning s p 0 mid mid1 (began at left a)) (place : at ≤ 65535) (few : left ≤ 65535) where
+  pub part_written : {k : ℕ} → Spliced d mid1 n i e at d' mid2 (Some k) → PartChanged u d n i e w p mid d' mid2 (k + 65536 * a)
+  part_written {k} c =
+      let q : began at left a / 4294967296 ≡ a = began_action (began at left a) at left a refl place few in
+      subst (λ j. PartChanged u d n i e w p mid d' mid2 (k + 65536 * j)) q (part_made d within ie en short_u short_d short_p short_mid is b (cut at left a place c))
+
+  pub part_beyond : {k z : ℕ} → Spliced d mid1 n i e at d' mid2 (Some k) → 65535 < k → PartChanged u d n i e w p mid d' mid2 z
+  part_beyond c h = part_long d within ie en short_u short_d short_p short_mid is b (cut at left a place c) h
+
+  pub part_unplaced : {z : ℕ} → Spliced d mid1 n i e at d' mid2 None → PartChanged u d n i e w p mid d' mid2 z
+  part_unplaced c = part_roomless d within ie en short_u short_d short_p short_mid is b (cut at left a place c)

@@ -4,6 +4,7 @@ use mathlib.Core.List.{List, ◌++◌, append_assoc}
 use Prim.Native.Nat.{ℕ, ◌+◌, ◌-◌, ◌≤◌, ◌<◌}
 use native.Mathlib.Numerals.{add-one}
 use native.Mathlib.Omega.{arith}
+use Rattle.std.specs.Prelude.{None, Some}
 use lib.ListN.{length, take, drop, set, get_or, length-append, length-drop}
 use lib.Seq.{paste, paste-suc, slice, length-slice, length-take-le, take_all, take_at, drop_at, take-add, take-append-add}
 use Rattle.sharing.specs.Beginning.{put_at}
@@ -47,12 +48,12 @@ back_length d mid mid' n e k g h j l = ap length g ∙ put_length k (take (n - e
 
 module _ (d mid : List ℕ) (n i e k : ℕ) where
   -- A test failed that all together are what is asked for.
-  pub splice_none : ((i ≤ e → e ≤ n → n ≤ length d → i + (k + (n - e)) ≤ length d → k + (n - e) ≤ length mid → ⊥)) → Spliced d mid n i e k d mid 0
+  pub splice_none : ((i ≤ e → e ≤ n → n ≤ length d → i + (k + (n - e)) ≤ length d → k + (n - e) ≤ length mid → ⊥)) → Spliced d mid n i e k d mid None
   splice_none never = record { same_length = refl; mid_same_length = refl; made = λ a b c f g. absurd (never a b c f g) }
 
   module _ (ie : i ≤ e) (en : e ≤ n) (nd : n ≤ length d) (room : i + (k + (n - e)) ≤ length d) (fit : k + (n - e) ≤ length mid) where
     -- As many words as were there: nothing moves.
-    pub splice_same : (w d' : List ℕ) → w ≡ take k mid → e ≡ i + k → d' ≡ put_at i w d → Spliced d mid n i e k d' mid n
+    pub splice_same : (w d' : List ℕ) → w ≡ take k mid → e ≡ i + k → d' ≡ put_at i w d → Spliced d mid n i e k d' mid (Some n)
     splice_same w d' f g h =
         let l : length w ≡ k = ap length f ∙ length-take-le k mid (omega arith) in
         let q : n ≡ i + (length w + (n - e)) = omega (arith, l) in
@@ -70,7 +71,7 @@ module _ (d mid : List ℕ) (n i e k : ℕ) where
         }
 
     -- What stands behind goes behind the words that are put, and both come back.
-    pub splice_moved : (b mid' w d' : List ℕ) → b ≡ slice e n d → mid' ≡ put_at k b mid → w ≡ take (k + (n - e)) mid' → d' ≡ put_at i w d → Spliced d mid n i e k d' mid' (i + (k + (n - e)))
+    pub splice_moved : (b mid' w d' : List ℕ) → b ≡ slice e n d → mid' ≡ put_at k b mid → w ≡ take (k + (n - e)) mid' → d' ≡ put_at i w d → Spliced d mid n i e k d' mid' (Some (i + (k + (n - e))))
     splice_moved b mid' w d' f g h j =
         let l : length b ≡ n - e = ap length f ∙ length-slice e n d nd in
         let p : k + (n - e) ≡ k + length b = omega (arith, l) in

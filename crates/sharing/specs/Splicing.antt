@@ -1,5 +1,5 @@
 -- Words put in the place of others, and a shared term spelled out (document 01, "Operations": Run writes the last term).
-use Rattle.std.specs.Prelude.{◌≡◌, List, [], ◌∷◌, ◌++◌, ℕ, ◌+◌, ◌-◌, ◌≤◌, length, take}
+use Rattle.std.specs.Prelude.{◌≡◌, List, [], ◌∷◌, ◌++◌, ℕ, ◌+◌, ◌-◌, ◌≤◌, length, take, Option, MatchOption}
 use Rattle.std.proofs.Math.Seq.{slice}
 use Rattle.eb3.specs.Scopes.{Scope}
 use Rattle.eb3.specs.Terms.{Term}
@@ -8,12 +8,12 @@ use Rattle.expressions.specs.Answering.{answer}
 use Rattle.sharing.specs.Shared.{Shared, term_of, part_word, shared_words, PartAt, Stands}
 use Rattle.sharing.specs.Beginning.{put_at}
 
--- Of the first n words of d those from i to e were replaced by the first k of another array: there are r then.
-pub record Spliced (d mid : List ℕ) (n i e k : ℕ) (d' mid' : List ℕ) (r : ℕ) : Type 0 where
+-- Of the first n words of d those from i to e were replaced by the first k of another array: r says how many there are then, or None where there is no room.
+pub record Spliced (d mid : List ℕ) (n i e k : ℕ) (d' mid' : List ℕ) (r : Option ℕ) : Type 0 where
   pub same_length : length d' ≡ length d
   pub mid_same_length : length mid' ≡ length mid
   pub made : i ≤ e → e ≤ n → n ≤ length d → i + (k + (n - e)) ≤ length d → k + (n - e) ≤ length mid
-      → (r ≡ i + (k + (n - e))) × (take r d' ≡ take i d ++ (take k mid ++ slice e n d))
+      → MatchOption r ⊥ (λ m. (m ≡ i + (k + (n - e))) × (take m d' ≡ take i d ++ (take k mid ++ slice e n d)))
 
 -- The term of s, behind which rest stands, spelled out from `at` on: the words left behind it, and 65,536 times the words written.
 pub record Expanded (s u : List ℕ) (at : ℕ) (entry exit : List ℕ) (r : ℕ) : Type 0 where

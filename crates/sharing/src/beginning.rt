@@ -1,6 +1,8 @@
 // The successor of a part of the unfolding along a path (document 01, "Moves, in order"). Only what has begun is spelled out: an operand that moves, the code
 // before it, done in the place of an action. What is beside or after it stays in the unfolding, and its place is written.
 // Stays: that words are at most 65,535 is a clause of each function here, for the reason in successors (docs/DESIGN-PASS.md, "A struct for words").
+// Stays beside successors' functions of the same codes: those write words as they are and say how many go on, these write places and end nothing. One
+// function of each code would be handed what is to be written, in a cycle of calls, and the check states no theorem of such a cycle with a closure in it.
 ghost use Rattle.std.specs.Prelude.{◌≡◌, cond, ◌+◌, ◌≤◌, ◌<◌, eqb, length, get_or};
 ghost use Rattle.sharing.specs.Beginning.{Beginning, LeftBegun, BothBegun, ActionNumber, EndPut};
 ghost use Rattle.sharing.specs.Writing.{Kept, Into};
@@ -15,6 +17,7 @@ use successors::conditions::behind_condition;
 use successors::unchanged::{behind_size, size_word};
 
 // The word for the part at the front of s; done is spelled out.
+// Stays: one word says either a code, below 32, or from 32 on the place of a part. The term is held in an array of words, in which an enum would take two.
 pub fn part_word(s: &[u16]) -> u16
     requires { length s.now ≤ 65503 }
     ensures { result ≡ cond (eqb (get_or s.now 0 0) 30) 30 (32 + length s.now) }
@@ -37,6 +40,9 @@ fn action_number(t: &[u16]) -> usize
 }
 
 // Stays: that s begins with a code is a fact of its own for each function of a code: a type for it would be one for each code.
+// Stays: s and path are two parameters, since every call is handed another s, and most another path.
+// Stays: that s has at most 65,503 words is a clause, here and in the other files of this crate: 32 and a number of words must make a word (part_word). A
+// struct for it would cost what one for words costs (docs/DESIGN-PASS.md, "A struct for words").
 impl Writer<'_> {
     // Done, with an action's number; the words left of the path are the answer.
     fn put_done(&mut self, left: usize, action: usize) -> Option<usize>
@@ -204,6 +210,7 @@ impl Writer<'_> {
     }
 
     // Both move, the left one's path first; the action is the left one's.
+    // Stays: n, how many words of e are the left operand's, is one number where a second slice would be two.
     #[cycle(beginning)]
     fn begin_both(&mut self, e: &[u16], n: usize, path: &[u16]) -> Option<usize>
         requires { (length e.now ≤ 65503) × (n ≤ length e.now) × (length path.now ≤ 65535) }

@@ -9,6 +9,7 @@ use listing::skip;
 use scan::{behind, first, last};
 
 // The part with this word, from its place in the unfolding; `left` words are left after it.
+// Stays, here and below: the bounds of the words, of `out` and of how many words are left are clauses, by which both numbers fit into one answer.
 fn expand_part(u: &[u16], w: usize, left: usize, out: &mut [u16], at: usize) -> usize
     requires { (length u.now ≤ 65503) × (left ≤ 65535) × (length out.old ≤ 65535) }
     ensures { PartExpanded u.now w left at out.old out.new result }
@@ -26,8 +27,9 @@ fn expand_part(u: &[u16], w: usize, left: usize, out: &mut [u16], at: usize) -> 
 }
 
 // How many words of s are left after the term, and 65,536 times the place after the words written.
-// Stays: measured, as an Option of both numbers in a struct each level takes a frame of 160 bytes for 64 (docs/DESIGN-PASS.md, "Answers in one number").
-// Stays, with out and at side by side: it is public, and what is public keeps its promise.
+// Stays, here and in the functions for each code, 0 for no room too: measured, as an Option of both numbers in a struct each level takes a frame of 160
+// bytes for 64 (docs/DESIGN-PASS.md, "Answers packed in one number").
+// Stays, with out and at side by side: it is public, and what is public keeps its promise; the others in this file are its arms, and write into the same array.
 #[cycle(expanding)]
 pub fn expand(u: &[u16], s: &[u16], out: &mut [u16], at: usize) -> usize
     requires { (length u.now ≤ 65503) × (length s.now ≤ 65535) × (length out.old ≤ 65535) }

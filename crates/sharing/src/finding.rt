@@ -10,7 +10,8 @@ use code_numbers::{DONE, PARALLEL, SEQUENCE};
 use derivation::{Arrays, FULL, PASSED, passing};
 use scan::{behind, first, last};
 
-// Stays: the answers are one number, measured together with seek (seeking.rt).
+// Stays, in each function here: the answer is one number, as that of a derivation, measured together with seek (seeking.rt).
+
 // How many words are left where a place begins, and after it.
 #[derive(Clone, Copy)]
 struct Place {
@@ -19,6 +20,9 @@ struct Place {
 }
 
 // In the part with this word, which moves in this place.
+// Stays, here and below: u, the words, k and the arrays are parameters, with the bounds of the first three as clauses: every call is handed other words, and
+// after a first term another k, which is a part of the answer before and would be cast as a u16.
+// Stays: that the arrays stay the same (`Kept`) is a fact of what they were and what they are then, which no field of a struct holds.
 fn find_part(u: &[u16], w: usize, place: Place, k: usize, arrays: &mut Arrays) -> usize
     requires { (length u.now ≤ 65503) × (place.here ≤ 65535) × (place.behind ≤ place.here) × (k < 65536) }
     ensures kept { Kept arrays.old arrays.new }
@@ -79,6 +83,7 @@ fn find_then(u: &[u16], t: &[u16], k: usize, arrays: &mut Arrays) -> usize
 }
 
 // After its code: two terms, the second's moves after the first's; or one move where both are done.
+// Stays without `both_done` of `listing`, which promises something of the words of two terms only: these are of shared terms, whose parts are single words.
 #[cycle(finding)]
 fn find_beside(u: &[u16], t: &[u16], k: usize, arrays: &mut Arrays) -> usize
     requires { (length u.now ≤ 65503) × (length t.now < 65535) × (k < 65536) }

@@ -24,8 +24,9 @@ use splicing::splice;
 use std::ops::Range;
 use writer::Writer;
 
-// Stays: the answers are one number, measured together with seek (seeking.rt); 0 of `splice`, where there was no room, is a part of them. The term is the first
-// n words of d: it grows and shrinks within one array of a fixed size, since there is no heap.
+// Stays: the answers are one number, measured together with seek (seeking.rt). The term is the first n words of d: it grows and shrinks within one array of a
+// fixed size, since there is no heap. A struct of both would be lent, and each contract would have to say too that its array stays the same (`ghost_name`); and
+// that n words are there, and word i is one of them, are facts of two values.
 
 // The place that begins in word i of the first n gives way to the successor: of a part, of a part after done, or done where two that are done
 // stood in parallel.
@@ -56,7 +57,8 @@ fn join(d: &mut [u16], n: usize, i: usize, mid: &mut [u16]) -> usize
         return PASSED;
     }
     mid[0] = DONE as u16;
-    splice(d, n, i, i + 3, mid, 1)
+    // never None: d has more words, and mid has room for one and for what comes after
+    splice(d, n, i, i + 3, mid, 1).unwrap_or(PASSED)
 }
 
 // The successor, along a path, of the part with this word, in the place of these words.
@@ -85,7 +87,9 @@ fn change_part(
     };
     let at = writer.at;
     let action = writer.action;
-    let k = splice(d, n, place.start, place.end, mid, at);
+    let Some(k) = splice(d, n, place.start, place.end, mid, at) else {
+        return PASSED;
+    };
     // never: d has no more words
     if 65535 < k {
         return PASSED;
@@ -95,6 +99,7 @@ fn change_part(
 
 // Stays: the arrays are lent one by one, which are parts of a run's Scratch: a struct would serve this call only.
 // Move k of the shared term in the first n words of d: how many words it has then, and 65,536 times the action's number; or PASSED where there is no such move.
+// Stays: that the arrays keep their lengths is a fact of what they were and what they are then, which no field of a struct holds.
 pub fn step(
     u: &[u16],
     d: &mut [u16],

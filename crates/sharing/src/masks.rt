@@ -24,6 +24,7 @@ pub fn shareable(s: &[u16]) -> bool
 
 // The words left after the term at the front, where no label is in a mask of it and its operands are no deeper to the left than `levels` levels. The last
 // operand is gone through by the loop, so that however many follow one another, they cost no stack.
+// Stays a `loop`: how far each turn goes is read from the term, so there is no range to go through.
 fn bare(mut s: &[u16], levels: usize) -> Option<usize>
     requires { length s.now ≤ 65535 }
     ensures { IfSome result (Bare s.now) }
@@ -52,6 +53,7 @@ fn bare(mut s: &[u16], levels: usize) -> Option<usize>
 }
 
 // Whether a label is in the mask at the front.
+// Stays beside mask_zero of arguments, a crate that this one does not use (crates.txt); `any` is the generic function.
 fn has_label(d: &[u16]) -> bool
     ensures { result ≡ false → zero_mask (take 4 d.now) ≡ true }
 {

@@ -15,9 +15,13 @@ use scan::{behind, first, last};
 
 // The answers here are those of derivation: a place below PASSED; from PASSED on, how much of k is left; from FULL on, that there was no room.
 // Stays: one number, measured; Options of structs and enums as the answers of seek, find, begin and step take 1.15 to 1.33 times the instructions in runs
-// of 10,000 numbers over a shared term (docs/DESIGN-PASS.md, "Answers in one number").
+// of 10,000 numbers over a shared term (docs/DESIGN-PASS.md, "Answers packed in one number").
+// Stays beside the walk of `derivation`, which has the same codes: it must answer where the term ends, by skipping what did not move, and here that is
+// saved at every level. One function of both would be handed a flag for it; with a const parameter there is no proof, since a call of the walk would be
+// one of the same cycle at another instance, which the check does not cover.
 
 // One move, whose path is empty: it begins at the end.
+// Stays beside derivation's `single`, whose answer holds the words left too.
 fn only(k: usize, end: usize) -> usize
     requires { k < 65536 }
     ensures { (k ≡ 0 → result ≡ end) × (1 ≤ k → result ≡ passed + (k - 1)) }
@@ -29,6 +33,9 @@ fn only(k: usize, end: usize) -> usize
 }
 
 // Writes the path at the end of the lent array; acts is room for the walk over left operands.
+// Stays, here and below: t, k and the arrays are parameters, with the bounds of t and k as clauses: every call is handed other words, and after a first term
+// another k, which is a part of the answer before and would be cast as a u16.
+// Stays: that the arrays stay the same (`Kept`) is a fact of what they were and what they are then, which no field of a struct holds.
 #[cycle(seeking)]
 pub fn seek(s: &[u16], k: usize, arrays: &mut Arrays) -> usize
     requires { (length s.now ≤ 65535) × (k < 65536) }

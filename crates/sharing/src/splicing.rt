@@ -18,32 +18,40 @@ pub fn copy_words(src: &[u16], dst: &mut [u16], at: usize)
 
 // Of the first n words of d those from i to e, by the first k words of mid; what comes after them moves by way of mid, if it moves at all.
 // Stays by way of mid: copy_within calls memmove, as above.
-// Stays 0 where there was no room: `change` makes one number of it (lib.rt).
-pub fn splice(d: &mut [u16], n: usize, i: usize, e: usize, mid: &mut [u16], k: usize) -> usize
+// Stays with n, i, e and k: it is public, and its contract says of the whole array what it is then, as that of copy_words does.
+// How many words there are then, or None where there is no room.
+pub fn splice(
+    d: &mut [u16],
+    n: usize,
+    i: usize,
+    e: usize,
+    mid: &mut [u16],
+    k: usize,
+) -> Option<usize>
     requires { (length d.old ≤ 65535) × (length mid.old ≤ 65535) × (n ≤ 65535) × (e ≤ 65535) × (i ≤ 65535) × (k ≤ 65535) }
     ensures { Spliced d.old mid.old n i e k d.new mid.new result }
 {
     if n < e {
-        return 0;
+        return None;
     }
     if e < i {
-        return 0;
+        return None;
     }
     if d.len() < n {
-        return 0;
+        return None;
     }
     let all = k + (n - e);
     if d.len() < i + all {
-        return 0;
+        return None;
     }
     if mid.len() < all {
-        return 0;
+        return None;
     }
     if e == i + k {
         copy_words(&mid[..k], d, i);
-        return n;
+        return Some(n);
     }
     copy_words(&d[e..n], mid, k);
     copy_words(&mid[..all], d, i);
-    i + all
+    Some(i + all)
 }

@@ -1,21 +1,19 @@
 -- The first of a list's numbers that is a given one, found step by step, and the first move with an action, found in a list of numbers.
-use Rattle.std.specs.Prelude.{◌≡◌, refl, Bool, true, false, cond, not, List, [], ◌∷◌, ℕ, zero, suc, ◌+◌, ◌/◌, ◌≤◌, ◌<◌, eqb, nat_eq, nat_lt, length, take, replicate, Option, None, Some, unwrap_or}
+use Rattle.std.specs.Prelude.{◌≡◌, refl, Bool, true, false, cond, not, List, [], ◌∷◌, ℕ, zero, suc, ◌+◌, ◌<◌, eqb, nat_eq, nat_lt, length, Option, None, Some, unwrap_or}
 use Rattle.std.specs.List.{position, position_or_len}
 use Rattle.std.proofs.Common.{sym, ap, ◌∙◌}
 use Rattle.std.proofs.Math.Decide.{dec_lt}
 use Rattle.std.proofs.lemmas.Option.{none-some, same_Some}
 use borrow.Author.Tests.{lt-ltb, le-ltb}
-use Rattle.cells.specs.FrontLaws.{false_no}
 use Rattle.std.proofs.Math.Option.{Option as Maybe, none, some}
 use native.Mathlib.Omega.{arith}
 use Rattle.eb3.specs.Scopes.{Scope}
 use Rattle.eb3.specs.Terms.{Term, Action}
 use Rattle.eb3.specs.Moves.{moves, later, first_with}
 use Rattle.actions.specs.Codes.{action_code, Small}
-use Rattle.listing.specs.Listing.{holding, codes, full, Listed}
-use Rattle.steps.specs.Counting.{Whole, found_at, first_number, FirstSought}
+use Rattle.listing.specs.Listing.{holding, codes}
+use Rattle.steps.specs.Counting.{Whole, found_at, first_number, MadeOfAll}
 use Rattle.steps.specs.CountingLaws.{first_by_code}
-use Rattle.steps.proofs.Tallying.{answered_count, rest_short, whole_room}
 
 next_below : (k n : ℕ) → nat_lt (1 + k) (suc n) ≡ nat_lt k n
 next_below k n = go (dec_lt k n)
@@ -40,30 +38,16 @@ next_position true k n o h = ap (λ b. cond b (Some 0) None) (lt-ltb 0 (suc n) (
 next_position false k n o h = ap (λ b. cond b (Some (1 + k)) None) (next_below k n) ∙ found_later k o (nat_lt k n) h
 
 -- The place of a number is that of the first item for which a test says so.
-pub first_position : (a : ℕ) (l : List ℕ) → position (λ x. nat_eq x a) l ≡ found_at (first_number a l)
+first_position : (a : ℕ) (l : List ℕ) → position (λ x. nat_eq x a) l ≡ found_at (first_number a l)
 unfolding found_at first_number
 first_position a [] = refl
 first_position a (x ∷ xs) = next_position (eqb x a) (position_or_len (λ y. nat_eq y a) xs) (length xs) (first_number a xs) (first_position a xs)
 
 -- ── the first move ──
 
-module _ (s M : List ℕ) (code n : ℕ) (exit : List ℕ) (r : ℕ) (short : length s ≤ 65535) (h : Listed s M (replicate n 0) exit r) where
-  pub sought : (q : Option ℕ) → r < full → q ≡ found_at (first_number code (take (r / 65536) exit)) → FirstSought s M code n (Some q)
-  sought q l e = record {
-    has_room = λ P E rest k z. refl;
-    right = λ P E rest k ρ small is.
-        let n = answered_count r (length rest) (length (codes (holding M) E)) (h.right P E rest k l).counted (rest_short s P E rest k short) in
-        e ∙ ap (λ m. found_at (first_number code (take m exit))) n ∙ (λ i. found_at (first_number (is i) ((h.right P E rest k l).listed i)))
-        ∙ ap found_at (sym (first_by_code (holding M) P E k.fits ρ small));
-  }
-
-module _ (s M : List ℕ) (code : ℕ) where
-  abbrev Found : Option ℕ → Type 0
-  Found q = (P : Scope) (E : Term) → Whole s P E → (ρ : Action) → Small ρ → code ≡ action_code ρ → q ≡ found_at (first_with ρ (moves (holding M) E))
-
-  pub found_below : (n : ℕ) (q : Option ℕ) → FirstSought s M code n (Some q) → Found q
-  found_below n q h P E k ρ small is = h.right P E [] k.there ρ small is
-
-  pub found_most : (r : Option (Option ℕ)) → FirstSought s M code 131072 r → Found (unwrap_or r None)
-  found_most (Some q) h = found_below 131072 q h
-  found_most None h = λ P E k ρ small is. false_no (h.has_room P E [] k.there (whole_room s M P E k))
+pub first_found : (s M : List ℕ) (code : ℕ) (makes : List ℕ → Option ℕ → Type 0) (r : Option (Option ℕ)) → ((l : List ℕ) (q : Option ℕ) → makes l q → q ≡ position (λ x. nat_eq x code) l)
+    → MadeOfAll s M makes r → (P : Scope) (E : Term) → Whole s P E → (ρ : Action) → Small ρ → code ≡ action_code ρ → unwrap_or r None ≡ found_at (first_with ρ (moves (holding M) E))
+first_found s M code makes (Some q) f h P E k ρ small is =
+    f _ q (h.made P E k) ∙ first_position code (codes (holding M) E) ∙ (λ i. found_at (first_number (is i) (codes (holding M) E)))
+    ∙ ap found_at (sym (first_by_code (holding M) P E k.there.fits ρ small))
+first_found s M code makes None f h P E k ρ small is = absurd (h.made P E k)

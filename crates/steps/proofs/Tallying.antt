@@ -1,6 +1,6 @@
 -- What listing answers, as far as it counts: in a cleared array of a fixed size, and for words that are one running term.
-use Rattle.std.specs.Prelude.{◌≡◌, refl, List, [], ℕ, ◌/◌, ◌≤◌, ◌<◌, length, replicate, Option, None, Some, unwrap_or}
-use Rattle.std.proofs.Common.{ap, ◌∙◌, length-append}
+use Rattle.std.specs.Prelude.{◌≡◌, refl, List, [], ℕ, ◌/◌, ◌≤◌, ◌<◌, length, take, replicate, Option, None, Some, unwrap_or}
+use Rattle.std.proofs.Common.{ap, subst, ◌∙◌, length-append}
 use Rattle.std.proofs.lemmas.List.{length-map}
 use Rattle.cells.specs.FrontLaws.{false_no}
 use native.Mathlib.Omega.{arith}
@@ -11,7 +11,7 @@ use Rattle.eb3.specs.Spelling.{words}
 use Rattle.expressions.specs.Answering.{answer}
 use Rattle.listing.specs.Listing.{TermAt, holding, code_of, codes, room, full, Listed}
 use Rattle.listing.specs.RoomLaws.{room_below_breadth}
-use Rattle.steps.specs.Counting.{Whole, Tallied}
+use Rattle.steps.specs.Counting.{Whole, Made, MadeOfAll}
 
 pub answered_count : (r left n : ℕ) → r ≡ answer left n → left ≤ 65535 → r / 65536 ≡ n
 unfolding answer
@@ -22,23 +22,37 @@ rest_short s P E rest k h = omega (arith, ap length k.spelled, length-append (wo
 
 -- ── in an array ──
 
-module _ (s M exit : List ℕ) (n r : ℕ) (short : length s ≤ 65535) (h : Listed s M (replicate n 0) exit r) where
-  pub tallied : r < full → Tallied s M n (Some (r / 65536))
-  tallied l = record {
+module _ {R : Type 0} (s M exit : List ℕ) (n r : ℕ) (makes : List ℕ → R → Type 0) (short : length s ≤ 65535) (h : Listed s M (replicate n 0) exit r) where
+  pub made_of : (v : R) → r < full → makes (take (r / 65536) exit) v → Made s M n makes (Some v)
+  made_of v l e = record {
     has_room = λ P E rest k z. refl;
-    right = λ P E rest k. answered_count r (length rest) (length (codes (holding M) E)) (h.right P E rest k l).counted (rest_short s P E rest k short);
+    right = λ P E rest k.
+        let c = answered_count r (length rest) (length (codes (holding M) E)) (h.right P E rest k l).counted (rest_short s P E rest k short) in
+        subst (λ w. makes w v) (ap (λ j. take j exit) c ∙ (h.right P E rest k l).listed) e;
   }
 
 -- ── one running term ──
 
 module _ (s M : List ℕ) (P : Scope) (E : Term) (k : Whole s P E) where
-  pub whole_room : room (holding M) E ≤ 131072
+  whole_room : room (holding M) E ≤ 131072
   whole_room = omega (arith, room_below_breadth (holding M) E, k.narrow)
 
-pub counted : (s M : List ℕ) (n k : ℕ) → Tallied s M n (Some k) → (P : Scope) (E : Term) → Whole s P E → k ≡ length (moves (holding M) E)
-unfolding codes
-counted s M n k h P E w = h.right P E [] w.there ∙ length-map (moves (holding M) E) code_of
+module _ {R : Type 0} (s M : List ℕ) (makes : List ℕ → R → Type 0) where
+  pub made_below : (n : ℕ) (v : R) → Made s M n makes (Some v) → MadeOfAll s M makes (Some v)
+  made_below n v h = record { made = λ P E w. h.right P E [] w.there }
 
-pub counted_most : (s M : List ℕ) (r : Option ℕ) → Tallied s M 131072 r → (P : Scope) (E : Term) → Whole s P E → unwrap_or r 0 ≡ length (moves (holding M) E)
-counted_most s M (Some k) h P E w = counted s M 131072 k h P E w
-counted_most s M None h P E w = (false_no (h.has_room P E [] w.there (whole_room s M P E w)))
+  pub made_most : (r : Option R) → Made s M 131072 makes r → MadeOfAll s M makes r
+  made_most (Some v) h = made_below 131072 v h
+  made_most None h = record { made = λ P E w. absurd (false_no (h.has_room P E [] w.there (whole_room s M P E w))) }
+
+-- What one relation says, another says too.
+pub made_as : {R : Type 0} (s M : List ℕ) (makes also : List ℕ → R → Type 0) (r : Option R) → ((l : List ℕ) (v : R) → makes l v → also l v) → MadeOfAll s M makes r → MadeOfAll s M also r
+made_as s M makes also (Some v) f h = record { made = λ P E w. f _ v (h.made P E w) }
+made_as s M makes also None f h = record { made = h.made }
+
+-- How many there are.
+pub counted : (s M : List ℕ) (makes : List ℕ → ℕ → Type 0) (r : Option ℕ) → ((l : List ℕ) (v : ℕ) → makes l v → v ≡ length l) → MadeOfAll s M makes r
+    → (P : Scope) (E : Term) → Whole s P E → unwrap_or r 0 ≡ length (moves (holding M) E)
+unfolding codes
+counted s M makes (Some v) f h P E w = f _ v (h.made P E w) ∙ length-map (moves (holding M) E) code_of
+counted s M makes None f h P E w = absurd (h.made P E w)

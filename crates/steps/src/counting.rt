@@ -4,25 +4,48 @@
 // Stays: that words are at most 65,535 is a clause of each function here, for the reason in successors (docs/DESIGN-PASS.md, "A struct for words").
 ghost use Rattle.std.specs.Prelude.{◌≡◌, ℕ, ◌≤◌, ◌==◌, length};
 ghost use Rattle.std.specs.List.{position};
+ghost use Rattle.std.specs.Fn.{FnReturnsAt};
 ghost use Rattle.eb3.specs.Scopes.{Scope};
 ghost use Rattle.eb3.specs.Terms.{Term, Action};
 ghost use Rattle.eb3.specs.Moves.{moves, first_with};
 ghost use Rattle.actions.specs.Codes.{action_code, Small};
 ghost use Rattle.listing.specs.Listing.{holding};
-ghost use Rattle.steps.specs.Counting.{Whole, Tallied, found_at, FirstSought};
+ghost use Rattle.steps.specs.Counting.{Whole, Made, MadeOfAll, found_at};
 
 use listing::{FULL, list};
 
-// How many moves there are, or None where they take more than N numbers. A listing's answer is one number (measured in `listing`), taken apart here.
+// What is made of the numbers of the moves' actions, or None where they take more than N numbers. A listing's answer is one number (measured in `listing`),
+// taken apart here.
 // Stays a function that only makes an array and asks: not put into its caller, so that a call with few numbers does not pay for a frame with many.
+// Stays, here and in moving.rt: the bound of N is a clause of a const parameter, which each call gives as a number: the check finds it there.
 #[inline(never)]
-fn tally<const N: usize>(s: &[u16], m: &[u16]) -> Option<usize>
-    requires { (length s.now ≤ 65535) × (N ≤ 131072) }
-    ensures { Tallied s.now m.now N result }
+fn listed<const N: usize, R, F: Fn(&[u32]) -> R>(s: &[u16], m: &[u16], then: F) -> Option<R>
+    requires room { (length s.now ≤ 65535) × (N ≤ 131072) }
+    requires callable { F.IsAlwaysCallable then }
+    ensures { Made s.now m.now N (FnReturnsAt F.Fn then) result }
 {
     let mut acts = [0u32; N];
     let r = list(s, m, &mut acts);
-    if r < FULL { Some(r / 65536) } else { None }
+    if r < FULL {
+        Some(then(&acts[..r / 65536]))
+    } else {
+        None
+    }
+}
+
+// The same, with as many numbers as it takes: few are tried first. Within the limits there is always room for all of them.
+fn of_moves<R, F: Fn(&[u32]) -> R>(s: &[u16], m: &[u16], then: F) -> Option<R>
+    requires short { length s.now ≤ 65535 }
+    requires callable { F.IsAlwaysCallable then }
+    ensures { MadeOfAll s.now m.now (FnReturnsAt F.Fn then) result }
+{
+    if let Some(made) = listed::<256, R, &F>(s, m, &then) {
+        return Some(made);
+    }
+    if let Some(made) = listed::<4096, R, &F>(s, m, &then) {
+        return Some(made);
+    }
+    listed::<131072, R, &F>(s, m, &then)
 }
 
 // How many moves a running term has.
@@ -30,14 +53,7 @@ pub fn count_moves(s: &[u16], m: &[u16]) -> usize
     requires { length s.now ≤ 65535 }
     ensures { (P : Scope) (E : Term) → Whole s.now P E → result ≡ length (moves (holding m.now) E) }
 {
-    if let Some(count) = tally::<256>(s, m) {
-        return count;
-    }
-    if let Some(count) = tally::<4096>(s, m) {
-        return count;
-    }
-    // within the limits there is always room for all of them
-    tally::<131072>(s, m).unwrap_or(0)
+    of_moves(s, m, |acts| acts.len()).unwrap_or(0)
 }
 
 // The place of a number in a list.
@@ -47,32 +63,10 @@ fn seek(a: u32, acts: &[u32]) -> Option<usize>
     acts.iter().position(|act| *act == a)
 }
 
-// The number of the first move with this action, if any; None where the moves take more than N numbers.
-#[inline(never)]
-fn first_in<const N: usize>(s: &[u16], m: &[u16], code: u32) -> Option<Option<usize>>
-    requires { (length s.now ≤ 65535) × (N ≤ 131072) }
-    ensures { FirstSought s.now m.now code N result }
-{
-    let mut acts = [0u32; N];
-    let r = list(s, m, &mut acts);
-    if r < FULL {
-        Some(seek(code, &acts[..r / 65536]))
-    } else {
-        None
-    }
-}
-
 // The number of the first move with this action, or None where no move has it.
 pub fn first_move(s: &[u16], m: &[u16], code: u32) -> Option<usize>
     requires { length s.now ≤ 65535 }
     ensures { (P : Scope) (E : Term) → Whole s.now P E → (ρ : Action) → Small ρ → code ≡ action_code ρ → result ≡ found_at (first_with ρ (moves (holding m.now) E)) }
 {
-    if let Some(found) = first_in::<256>(s, m, code) {
-        return found;
-    }
-    if let Some(found) = first_in::<4096>(s, m, code) {
-        return found;
-    }
-    // within the limits there is always room for all of them
-    first_in::<131072>(s, m, code).unwrap_or(None)
+    of_moves(s, m, |acts| seek(code, acts)).unwrap_or(None)
 }

@@ -29,6 +29,8 @@ pub struct Taken {
 
 // Move k's path sought with room for N numbers, answered as a derivation does: one number (measured in `derivation`), which `place` makes an Option of.
 // Stays a function that only makes an array and asks: not put into its caller, so that a call with few numbers does not pay for a frame with many.
+// Stays, here and below: the words, the store, k, the path and the numbers are parameters, with their bounds as clauses, as `derivation::derive` takes them.
+// The bound of N is of a const parameter, which each call gives as a number.
 #[inline(never)]
 fn path_in<const N: usize>(s: &[u16], m: &[u16], k: usize, path: &mut [u16]) -> usize
     requires { (length s.now ≤ 65535) × (k < 65536) × (length path.old ≤ 65535) × (N ≤ 131072) }
@@ -47,6 +49,8 @@ fn place(r: usize) -> Option<usize>
 }
 
 // The place in a lent array where move k's path begins; it goes to the array's end. The lent numbers are tried first.
+// Stays beside of_moves (counting.rt): that one hands the listed moves to a closure and tries arrays of its own, and this asks a derivation and begins with a
+// lent array; a size is a const parameter, which a closure does not have, so no function of the three tries could be handed what is tried.
 fn find_path(s: &[u16], m: &[u16], k: usize, path: &mut [u16], acts: &mut [u32]) -> Option<usize>
     requires { (length s.now ≤ 65535) × (k < 65536) × (length path.old ≤ 65535) × (length acts.old ≤ 131072) }
     ensures { PathFound s.now m.now k path.old path.new result }
@@ -69,6 +73,7 @@ fn find_path(s: &[u16], m: &[u16], k: usize, path: &mut [u16], acts: &mut [u32])
 // Move k, its successor in a buffer that has room for it. The arrays for the path and for the numbers that finding it takes are lent, so that a
 // run clears them once and not at every move: what they hold before does not count. No term within the limits has a move 65536.
 // Stays: the arrays are lent one by one. Here they are local, in a run parts of its Scratch, and out is the host's: a struct would serve one call only.
+// Stays: that the arrays keep their lengths is a fact of what they were and what they are then, which no field of a struct holds.
 pub fn take_move_in(
     s: &[u16],
     m: &[u16],

@@ -10,6 +10,8 @@ use cells::{Functions, copy_cells, fill};
 use expressions::store;
 
 // The c cells copied after themselves, where before reads them.
+// Stays, here and below: that a lent array keeps its length is said by each function that writes into one. It is a fact of what the array was and what it is
+// then, and a field of a struct holds facts of one moment.
 fn keep(m: &mut [u16], c: usize)
     requires { 36 + 2 * c ≤ length m.old }
     ensures { (length m.new ≡ length m.old) × Kept m.old m.new c }

@@ -6,6 +6,8 @@ use cells::{Functions, fill, lay, load};
 use expressions::store;
 
 // The cells that a memory gives.
+// Stays, here and below: that a lent array keeps its length is said by each function that writes into one. It is a fact of what the array was and what it is
+// then, and a field of a struct holds facts of one moment.
 pub fn load_store(functions: &Functions, m: &mut [u16], memory: &[u8])
     ensures { (length m.new ≡ length m.old) × StoreLoaded functions.now.directory.now memory.now m.old m.new functions.now.width functions.now.count functions.now.cells }
 {

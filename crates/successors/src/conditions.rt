@@ -8,6 +8,7 @@ ghost use Rattle.expressions.specs.Answering.{CondAt};
 use codes::{EDITION_1, skip};
 
 // The words left after the condition at the front.
+// Stays beside `skip` of listing, which calls the same function of `codes`: its contract is of a condition.
 pub fn behind_condition(s: &[u16]) -> usize
     requires { length s.now ≤ 65535 }
     ensures { (result ≤ length s.now) × ((P : Scope) (C : Cond) (rest : List ℕ) → CondAt s.now P C rest → result ≡ length rest) }

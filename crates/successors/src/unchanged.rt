@@ -10,6 +10,7 @@ use scan::{behind, first};
 
 // ── the left operand's size in the path, after the decision ──
 
+// Stays a usize with its bound as a fact, and so does `leading`, since it is added to a number of words next.
 pub fn size_word(path: &[u16]) -> usize
     ensures { (result ≡ get_or path.now 1 0) × (result < 65536) }
 {

@@ -1,8 +1,9 @@
 // The check of a given running term, with its reach and breadth in the same pass (document 01, "Unfolding, size and breadth";
 // refusal 10). An answer is one number, so that no level of nested terms stores one in memory.
-// Stays: measured, an Option of a struct takes 1.07 to 1.29 of the instructions (1,000 guards, 1,000 parallels), and the frame
+// Stays: measured, an Option of a struct takes 1.07 to 1.29 times the instructions (1,000 guards, 1,000 parallels), and the frame
 // of a level grows from 112 bytes to 192 (check_running), and from 80 to 128 (two_terms). So it is with `WRONG` and each test for
-// it, with `left`, `reach`, `breadth`, `weigh` and `pack`, and with each function here that answers such a number.
+// it, with `left`, `reach`, `breadth`, `weigh` and `pack`, and with each function here that answers such a number. So they stay beside the functions for
+// the same codes of rule_terms, which answer a refusal or a struct, in a Result.
 // Stays: six functions ask that they are given at most 8,192 words, by which an answer fits into one number. Each is given another
 // part of the words, and as a struct with this fact every part would be made one anew, with the same proof at the same places.
 #![tactic(auto)]

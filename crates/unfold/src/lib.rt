@@ -61,6 +61,8 @@ impl Joint {
 }
 
 // Two terms in a row.
+// Stays, here and below: scope, n and out are three parameters. The scope is shared, out is written, and most calls are handed another n: how many words are
+// left, a number and no slice, since the answers are such numbers and the tables say by one where a body begins.
 #[cycle(unfolding_terms)]
 fn two_terms(scope: &Scope, n: usize, out: &mut Writer) -> Option<usize>
     ensures { Puts (Here TwoTerms scope.now n) out.old out.new result }
@@ -137,7 +139,7 @@ fn copies(
     requires { (length scope.now.context.variables.now < 8) × (size ≤ 64) }
     ensures { Puts (Here Copies scope.now n (code_of joint ∷ mask.now) 0 (size - 1)) out.old out.new result }
 {
-    let most = (size.max(1) - 1) as u16;
+    let most = size.saturating_sub(1) as u16;
     for x in 0..most {
         out.head(joint.code(), mask)?;
         copy(scope, n, x, out)?;
@@ -251,6 +253,9 @@ fn unfold_into(scope: &Scope, n: usize, out: &mut [u8]) -> Option<usize>
 }
 
 // Main's unfolding, and its size; where there is room for it.
+// Stays a number, 0 where there is no room: both callers have admitted the rule set and have room for its reach, so that an Option would be opened at once.
+// Stays: that the words are at most 65,535 becomes a field of `Scope` here; and that the buffer keeps its length is a fact of what it was and what it is
+// then, which no field of a struct holds.
 pub fn unfold_main(t: &[u16], tb: &[u32], out: &mut [u8]) -> usize
     requires { length t.now ≤ 65535 }
     ensures { (length out.new ≡ length out.old) × ((R : RuleSet) → Ready t.now tb.now R → length (words 1 (unfold_main R)) ≤ 65535 → 2 * length (words 1 (unfold_main R)) ≤ length out.old → (result ≡ length (words 1 (unfold_main R))) × (out.new ≡ written (words 1 (unfold_main R)) out.old)) }

@@ -53,6 +53,7 @@ fn put_front(s: &[u16], vars: &[u16], m: usize, out: &mut Writer) -> Option<()>
 
 // `count` expressions in a row, their variables become constants.
 // Stays `while`: no index is counted, and a code says how many expressions follow it.
+// Stays, here and below: scope, n and out are three parameters, as in lib.rt.
 pub fn put_row(scope: &Scope, n: usize, count: usize, out: &mut Writer) -> Option<usize>
     requires { count ≤ 2305843009213693952 }
     ensures puts { Puts (Instantiates scope.now.words.now scope.now.context.variables.now count n) out.old out.new result }

@@ -14,6 +14,8 @@ pub struct Writer<'a> {
 }
 
 // One word at a place with room for it.
+// Stays beside writing's put_words, which tests for room itself: `head` tests once for a code and its words together.
+// Stays with the place, and not the part of the buffer lent: the contract says of the whole buffer what it is then.
 fn put(w: u16, bytes: &mut [u8], at: usize)
     requires { 2 * at + 2 ≤ length bytes.old }
     ensures { bytes.new ≡ written_from at (w ∷ []) bytes.old }

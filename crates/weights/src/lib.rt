@@ -52,7 +52,8 @@ impl Limits {
     }
 }
 
-// A number of words. Stays: it is public, and what is public keeps its promise; today's form is a cast in place.
+// A number of words.
+// Stays: it is public, and what is public keeps its promise; today's form is a cast in place.
 pub fn narrow(x: usize) -> u64
     ensures { result ≡ x }
 {
@@ -176,6 +177,7 @@ pub fn guard(n: u64, a: Weight) -> Weight
 }
 
 // A weight after n steps, each from the weight before it.
+// Stays: that the closure may always be called is what every call of one asks, and no type says it.
 fn repeated<F: Fn(Weight) -> Weight>(n: usize, from: Weight, step: F) -> Weight
     requires { F.IsAlwaysCallable step }
     ensures { (f : Measure → Measure) → ((w v : Weight) → F.post step w v → measure v ≡ f (measure w)) → measure result ≡ steps f n (measure from) }
@@ -198,6 +200,7 @@ pub fn choices(n: usize, a: Weight) -> Weight
 }
 
 // n copies in parallel, nested to the right.
+// Stays beside `choices`: what they share is `repeated`; and the test for no copy is in each, since stars may be none.
 pub fn parallels(n: usize, zero: bool, a: Weight) -> Weight
     ensures { measure result ≡ right_nest (nothing (sat cap)) (parallel_by zero) n (λ x. measure a) }
 {

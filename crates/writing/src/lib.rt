@@ -13,7 +13,7 @@ pub fn put_word(w: u16, out: &mut [u8]) -> bool
 }
 
 // Words at the front, if they fit.
-// Stays a bool, here and above: it says whether there was room, and a Result would have nothing more to say.
+// Stays a bool, here and above: it says whether there was room, which callers test by `if` or need not know; none hands it on by `?`.
 pub fn put_words(src: &[u16], out: &mut [u8]) -> bool
     ensures { Wrote src.now out.old out.new result }
 {

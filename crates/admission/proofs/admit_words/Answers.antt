@@ -7,8 +7,8 @@ use Rattle.admission.proofs.admit_words.Goals as goal
 pub returns-in_err-r : goal.returns-in_err-r
 returns-in_err-r c = rw (handed_err _ _ c.from_residual.ensures) (record { answer = words_refused c.args.t.now _ c.read.ensures.answer _ c.in_err-r.was; described = c.read.ensures.directory })
 
-pub returns-then-r-ge254 : goal.returns-then-r-ge254
-returns-then-r-ge254 c = record { answer = words_long c.args.t.now _ c.read.ensures.answer _ _ _ c.in_ok-r.was (omega (arith, c.if-r-ge254.true)); described = c.read.ensures.directory }
+pub returns-then-r-ge-CONTENT_WORDS : goal.returns-then-r-ge-CONTENT_WORDS
+returns-then-r-ge-CONTENT_WORDS c = record { answer = words_long c.args.t.now _ c.read.ensures.answer _ _ _ c.in_ok-r.was (omega (arith, c.if-r-ge-CONTENT_WORDS.true)); described = c.read.ensures.directory }
 
 pub returns-then-not-zeros : goal.returns-then-not-zeros
 returns-then-not-zeros c = record { answer = words_behind c.args.t.now _ c.read.ensures.answer _ _ _ c.in_ok-r.was _ c.last.ensures _ c.zeros.ensures c.if-not-zeros.true-raw; described = c.read.ensures.directory }
@@ -17,4 +17,4 @@ pub overflow_cast-r : goal.overflow_cast-r
 overflow_cast-r c = omega (arith, words_few c.args.t.now _ c.read.ensures.answer _ _ _ c.in_ok-r.was)
 
 pub returns : goal.returns
-returns c = record { answer = words_judged c.args.t.now _ c.read.ensures.answer _ _ _ c.in_ok-r.was _ c.last.ensures _ c.zeros.ensures _ _ (omega (arith, c.if-r-ge254.false)) c.if-not-zeros.false-raw refl c.judge.ensures; described = c.read.ensures.directory }
+returns c = record { answer = words_judged c.args.t.now _ c.read.ensures.answer _ _ _ c.in_ok-r.was _ c.last.ensures _ c.zeros.ensures _ _ (omega (arith, c.if-r-ge-CONTENT_WORDS.false)) c.if-not-zeros.false-raw refl c.judge.ensures; described = c.read.ensures.directory }

@@ -1,11 +1,17 @@
-use Rattle.admission.proofs.Cases.{zeros_wrong, zeros_next, zeros_end}
+use Rattle.std.specs.Prelude.{◌≡◌, List, [], ◌∷◌, ℕ, ◌&&◌, refl, nat_eq}
+use Rattle.std.proofs.Common.{rules, tests, ◌∙◌}
+use Rattle.std.specs.List.{list_all}
+use Rattle.std.proofs.lemmas.Iterator.{YieldsList-from_slice}
+use Rattle.std.proofs.lemmas.Iterator.Search.{all_from_yields_List}
+use Rattle.eb3.specs.Admission.{all_zero}
 use Rattle.admission.proofs.zeros.Goals as goal
 
-pub returns-then-w-ne0 : goal.returns-then-w-ne0
-returns-then-w-ne0 c = zeros_wrong _ _ _ c.loop-w.invariant c.loop-w-test.true c.if-w-ne0.true
-
-pub loop-w-preserved : goal.loop-w-preserved
-loop-w-preserved c = zeros_next _ _ _ c.loop-w.invariant c.loop-w-test.true c.if-w-ne0.false
+all_zeros : (s : List ℕ) → list_all (λ w. nat_eq w 0) s ≡ all_zero s
+unfolding all_zero
+all_zeros [] = refl
+all_zeros (w ∷ s) = λ j. nat_eq w 0 && all_zeros s j
 
 pub returns : goal.returns
-returns c = zeros_end _ _ _ c.loop-w.invariant c.loop-w-test.false
+returns c =
+    all_from_yields_List (λ w. nat_eq w 0) _ _ c.all.result c.all.ensures.ran (YieldsList-from_slice c.args.t.now (cc)) (λ x b q k. search (rules, tests))
+    ∙ all_zeros c.args.t.now

@@ -1,17 +1,15 @@
-use native.Mathlib.Omega.{arith}
-use Rattle.blocks.proofs.Chunks.{chunk_at}
-use Rattle.blocks.proofs.Right.{blocks_wrong, blocks_next, blocks_end}
+use Rattle.std.proofs.Common.{rules, tests, ◌∙◌, ap}
+use Rattle.std.specs.Prelude.{ℕ, List}
+use Rattle.std.specs.List.{list_all, enumerate_from}
+use Rattle.std.proofs.lemmas.Iterator.{YieldsList-from_slice}
+use Rattle.std.proofs.lemmas.Iterator.Search.{all_from_yields_List}
+use Rattle.std.proofs.lemmas.Iterator.Consumers.{YieldsList-from_enumerate}
+use Rattle.eb3.specs.Blocks.{block_right}
+use Rattle.blocks.proofs.Right.{all_blocks}
 use Rattle.blocks.proofs.check_blocks.Goals as goal
 
-pub returns-then-not-check_block : goal.returns-then-not-check_block
-returns-then-not-check_block c =
-    let cut = c.as_chunks.ensures in
-    blocks_wrong _ c.args.rules.now _ _ c.loop-i.invariant (omega arith) (chunk_at 512 _ _ _ _ _ cut.front cut.front_len c.loop-i-test.true) c.check_block.ensures c.if-not-check_block.true
-
-pub loop-i-preserved : goal.loop-i-preserved
-loop-i-preserved c =
-    let cut = c.as_chunks.ensures in
-    blocks_next _ c.args.rules.now _ _ c.loop-i.invariant (omega arith) (chunk_at 512 _ _ _ _ _ cut.front cut.front_len c.loop-i-test.true) c.check_block.ensures c.if-not-check_block.false
-
 pub returns : goal.returns
-returns c = blocks_end _ c.args.rules.now _ _ c.loop-i.invariant (omega arith)
+returns c =
+    all_from_yields_List (λ (p : ℕ × List ℕ). block_right p.0 p.1) _ _ c.all.result c.all.ensures.ran (YieldsList-from_enumerate (YieldsList-from_slice c.as_chunks.result.0.now (cc)) (cc)) (λ x b q k. search (rules, tests))
+    ∙ ap (λ bs. list_all (λ (p : ℕ × List ℕ). block_right p.0 p.1) (enumerate_from 0 bs)) c.as_chunks.ensures.front
+    ∙ all_blocks 0 _ c.args.rules.now

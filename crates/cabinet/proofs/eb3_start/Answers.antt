@@ -5,4 +5,4 @@ pub returns-in-Ok : goal.returns-in-Ok
 returns-in-Ok c = let e = c.start.ensures in (start_gives _ _ _ _ e.answer _ c.in-Ok.is, e.term_after, e.memory_after)
 
 pub returns-in-Err : goal.returns-in-Err
-returns-in-Err c = let e = c.start.ensures in (start_refuses _ _ _ _ e.answer _ _ c.in-Err.is c.from.ensures, e.term_after, e.memory_after)
+returns-in-Err c = let e = c.start.ensures in (start_refuses _ _ _ _ e.answer _ _ c.default.result c.in-Err.is c.from.ensures c.default.ensures, e.term_after, e.memory_after)

@@ -6,4 +6,4 @@ pub returns-in-Ok : goal.returns-in-Ok
 returns-in-Ok c = c.taken.ensures ∙ step_gives c.args.r _ c.in-Ok.is
 
 pub returns-in-Err : goal.returns-in-Err
-returns-in-Err c = step_refuses c.args.r _ _ c.in-Err.is c.from.ensures
+returns-in-Err c = step_refuses c.args.r _ _ c.default.result c.in-Err.is c.from.ensures c.default.ensures

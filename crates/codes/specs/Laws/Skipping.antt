@@ -212,6 +212,12 @@ module _ (shape : ℕ) (s : List ℕ) (at due w : ℕ) where
     pub skip_none : (at < length s → 30 < get_or s at 0) → Skipped shape s n 0
     skip_none l = (omega arith, λ P xs rest h e. absurd (no_code P rest (skip_front P xs rest h e) l))
 
+    pub skip_end : length s ≤ at → Skipped shape s n 0
+    skip_end l = skip_none (λ k. absurd (let y : ⊥ = omega (arith, k) in y))
+
+    pub skip_unknown : w ≡ get_or s at 0 → 30 < w → Skipped shape s n 0
+    skip_unknown i l = skip_none (λ k. omega (arith, i))
+
     pub skip_next : (m k : ℕ) (t : List ℕ) → w ≡ get_or s at 0 → m ≡ more_words shape w → k ≡ operand_count shape w t → t ≡ drop (at + 1) s → Skipping shape s n (at + 1 + m) (due - 1 + k)
     skip_next m k t i e f g P xs rest h q = ((skip_front P xs rest h q).later, step P rest (skip_front P xs rest h q) i m k t e f g)
 
@@ -221,6 +227,12 @@ module _ (shape : ℕ) (s : List ℕ) (at due w : ℕ) where
 
     pub idle_none : (at < length s → 30 < get_or s at 0) → Tells shape s false
     idle_none l P E rest h = absurd (no_code P rest (idle_front P E rest h) l)
+
+    pub idle_end : length s ≤ at → Tells shape s false
+    idle_end l = idle_none (λ k. absurd (let y : ⊥ = omega (arith, k) in y))
+
+    pub idle_unknown : w ≡ get_or s at 0 → 30 < w → Tells shape s false
+    idle_unknown i l = idle_none (λ k. omega (arith, i))
 
     pub idle_stops : w ≡ get_or s at 0 → moving_code w ≡ true → Tells shape s false
     idle_stops i l P E rest h = let o = idle_front P E rest h in sym (idle_is P rest o i ∙ ap (λ m. cond m false o.later) l)

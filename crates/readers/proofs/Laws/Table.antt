@@ -92,9 +92,9 @@ unfolding records
 records_length zero ns = refl
 records_length (suc n) ns = length-append (records n ns) (counts_at ns n ∷ []) ∙ ap (λ (k : ℕ). k + 1) (records_length n ns) ∙ sym (one_more n)
 
-pub read_start : (ns : List ℕ) → ReadTo ns 0 (replicate 32 none)
+pub read_start : (ns : List ℕ) (c : Counts) → c ≡ none → ReadTo ns 0 (replicate 32 c)
 unfolding records
-read_start ns = refl
+read_start ns c e = ap (replicate 32) e
 
 pub read_next : (ns : List ℕ) (i : ℕ) (t : List Counts) (c : Counts) → i < 32 → ReadTo ns i t → c ≡ counts_at ns i → ReadTo ns (i + 1) (slice_set t i c)
 unfolding records

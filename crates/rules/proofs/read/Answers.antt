@@ -5,13 +5,13 @@ use Rattle.scan.specs.ReadingLaws.{handed_err}
 use Rattle.rules.proofs.read.Goals as goal
 
 pub copy-requires : goal.copy-requires
-copy-requires c = read_copies c.args.tb.now c.args.t.now _ c.check_domains.ensures _ _ c.requires.0 c.in_ok-m.was c.first-k.ensures.0
+copy-requires c = read_copies c.args.tb.now c.args.t.now _ c.check_domains.ensures _ _ c.told-tb c.in_ok-m.was c.first-k.ensures.0
 
 pub label_section-requires : goal.label_section-requires
-label_section-requires c = let h = read_asks c.args.tb.now c.args.t.now _ c.check_domains.ensures _ _ c.requires.0 c.in_ok-m.was c.first-k.ensures.0 _ c.copy.ensures in (h.0, omega (arith, last_len _ _ _ c.last.ensures), h.1)
+label_section-requires c = (omega (arith, last_len _ _ _ c.last.ensures), read_asks c.args.tb.now c.args.t.now _ c.check_domains.ensures _ _ c.told-tb c.in_ok-m.was c.first-k.ensures.0 _ c.copy.ensures)
 
 pub returns : goal.returns
-returns c = read_in c.args.tb.now c.args.t.now _ c.check_domains.ensures _ _ c.requires.0 c.in_ok-m.was c.first-k.ensures.0 _ c.copy.ensures _ _ c.args.dir.now _ _ c.requires.1 c.last.ensures c.label_section.ensures
+returns c = read_in c.args.tb.now c.args.t.now _ c.check_domains.ensures _ _ c.told-tb c.in_ok-m.was c.first-k.ensures.0 _ c.copy.ensures _ _ c.args.dir.now _ _ c.requires c.last.ensures c.label_section.ensures
 
 pub returns-in_err-m : goal.returns-in_err-m
 returns-in_err-m c = rw (handed_err _ _ c.from_residual.ensures) (read_out c.args.tb.now c.args.t.now _ c.check_domains.ensures c.args.dir.now _ c.in_err-m.was)

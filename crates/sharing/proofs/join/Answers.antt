@@ -1,4 +1,4 @@
-use Rattle.std.proofs.Common.{rules}
+use Rattle.std.proofs.Common.{rules, arith}
 use Rattle.sharing.proofs.ChangingParts.{join_made, join_short, join_roomless}
 use Rattle.sharing.proofs.join.Goals as goal
 use Rattle.sharing.proofs.join.Goals.{then-n-i-via-then-n-i, then-n-i-via-else-n-i+then-is_empty}
@@ -10,4 +10,4 @@ returns-then-n-i c = elim c.then-n-i.branch [
 ]
 
 pub returns : goal.returns
-returns c = join_made c.requires.0 c.requires.2 (search rules) c.splice.ensures
+returns c = rw c.unwrap_or.ensures (join_made c.requires.0 c.requires.2 (omega arith) _ _ (search rules) c.splice.ensures)
