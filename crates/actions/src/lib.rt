@@ -1,6 +1,7 @@
 // Actions as numbers: read off a running term, and tested against a mask (document 01, "Moves, in order").
 // Stays one number: a list of moves is an array of 32 bits a move, at most 131,072 of them, and equal actions are equal numbers; a struct of a label
-// and up to two arguments would take more room in each such array, and a comparison of its fields at each search.
+// and up to two arguments would take more room in each such array, and a comparison of its fields at each search. The internal action is 0, and is tested as 0
+// here and in runs, steps and engine: it is 0 in the definitions too (specs/Codes.antt), and a name for it would be taken for a label's or a code's.
 #![tactic(auto)]
 
 ghost use Rattle.std.specs.Prelude.{◌≡◌, Bool, List, [], ◌∷◌, ◌++◌, ℕ, ◌+◌, ◌*◌, ◌-◌, ◌≤◌, ◌<◌, length, get_or};
@@ -20,8 +21,8 @@ fn word(t: &[u16], i: usize) -> u16
 }
 
 // How many arguments follow a label: none, one or two. Each is the code of a constant and then its word.
-// Stays beside the function of this name in codes, which reads constants of any shape at any place: this one is put into each level of successors::begin,
-// and this crate uses no other of the engine but code_numbers (crates.txt).
+// Stays beside the function of this name in codes: each call of that would give the place 0 and the shape 0, and a law would have to say that the constants
+// which it counts are the arguments of an action (`ActionAt`), in place of the two tests here.
 // Stays a usize with its bound as a fact, since it is multiplied and added next.
 fn arguments(t: &[u16]) -> usize
     ensures { (result ≤ 2) × ((a : VisibleAction) (rest : List ℕ) → ActionAt t.now a rest → result ≡ length a.arguments) }

@@ -5,7 +5,6 @@
 ghost use Rattle.std.specs.Prelude.{◌≡◌, Bool, List, [], ◌∷◌, ◌++◌, ℕ, ◌+◌, ◌*◌, ◌≤◌, ◌<◌, length, take, drop};
 ghost use Rattle.eb3.specs.RuleReading.{read_rules};
 ghost use Rattle.eb3.specs.Blocks.{stream};
-ghost use Rattle.eb3.specs.Admission.{all_zero};
 ghost use Rattle.eb3.specs.Operations.{admit};
 ghost use Rattle.rules.specs.Sections.{rules_weighed};
 ghost use Rattle.weights.specs.Weighing.{measure};
@@ -13,6 +12,7 @@ ghost use Rattle.eb3.specs.Judging.{judged};
 ghost use Rattle.admission.specs.Answering.{admitted, read_whole};
 ghost use Rattle.admission.specs.Admitting.{WordsAdmitted, FileAdmitted};
 
+use arguments::zeros;
 use blocks::opened::Blocks;
 use blocks::{CONTENT_WORDS, join, open};
 use refusals::Refusal;
@@ -31,12 +31,6 @@ fn judge(cells: u32, w: Weight) -> Result<Limits, Refusal>
         return Err(Refusal::Breadth);
     }
     Ok(Limits::new(cells, w))
-}
-
-fn zeros(t: &[u16]) -> bool
-    ensures { result ≡ all_zero t.now }
-{
-    t.iter().all(|&w| w == 0)
 }
 
 // The stream's words after its first two: sections 2 to 5, the end, and main's measures; with the tables and the directory that

@@ -2,6 +2,9 @@
 // rule stream", items 2 to 5). The tables are one array of 500 numbers, of fixed size since there is no heap. These are the places in it;
 // what they hold is `declared` and `callee` of specs/Tables.antt. A clause writes a place as its number, by which the specification knows it.
 
+/// How many numbers the tables are.
+pub const TABLES: usize = 500;
+
 /// How many domains there are; the size of each follows, at most 16.
 pub const DOMAINS: usize = 0;
 
@@ -41,3 +44,14 @@ pub const BREADTH: usize = 7;
 
 /// In a process's row: how many words of the stream are left where its term begins.
 pub const BODY: usize = 8;
+
+// The directory has a row for each function: how many cells it has, and then, at the places in a row that follow here, two numbers and one more for each label.
+
+/// In a function's row of the directory: where its cells begin among all cells.
+pub const FIRST_CELL: usize = 1;
+
+/// In a function's row: how many words of the stream are left where its expression for the empty trace begins.
+pub const AT_START: usize = 2;
+
+/// In a function's row: the same of its expression for the first label; those for the other labels follow.
+pub const AT_LABELS: usize = 3;

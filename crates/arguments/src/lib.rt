@@ -3,6 +3,7 @@
 #![tactic(auto)]
 
 ghost use Rattle.std.specs.Prelude.{◌≡◌, Bool, List, [], ◌∷◌, ◌++◌, ℕ, ◌+◌, ◌-◌, ◌*◌, ◌%◌, ◌^◌, ◌≤◌, ◌<◌, min, drop, take, get_or, length};
+ghost use Rattle.eb3.specs.Admission.{all_zero};
 ghost use Rattle.eb3.specs.Sizes.{zero_mask};
 ghost use Rattle.eb3.specs.RuleSets.{RuleSet, domain_size};
 ghost use Rattle.eb3.specs.TermReading.{mask_of};
@@ -31,7 +32,7 @@ pub struct Context<'a> {
 
 // ── the tables ──
 
-// Stays: these three are public, and what is public keeps its promise, though no crate here calls them any more; today's form is a cast in place.
+// Stays: these three, though no crate here calls them any more and today's form is a cast in place: a rule of the project, a public function keeps its promise.
 // A number of 32 bits as a number.
 pub fn wide32(x: u32) -> usize
     ensures { (result ≡ x) × (result < 4294967296) }
@@ -55,6 +56,8 @@ pub fn narrow32(x: usize) -> u32
 }
 
 // The word at a place, or 0 past the end.
+// Stays, as `first` of scan and `word` of actions: std's chain is the generic function, and this names it, so that its uses are short and its contract says
+// get_or once. One function of all three would be generic and public, and each use would give it the 0.
 pub fn entry(tb: &[u32], at: usize) -> u32
     ensures { result ≡ get_or tb.now at 0 }
 {
@@ -82,7 +85,7 @@ pub fn functions(tb: &[u32]) -> usize
     entry(tb, FUNCTIONS) as usize
 }
 
-// Stays, here and in size_of: the bound is said beside the number, since it is public, and what is public keeps its promise.
+// Stays, here and in size_of: the bound is said beside the number by a rule of the project, a public function keeps its promise.
 pub fn processes(tb: &[u32]) -> usize
     ensures { (result ≡ get_or tb.now 211 0) × (result < 4294967296) }
 {
@@ -127,8 +130,8 @@ fn mask_limit(n: usize) -> usize
 }
 
 // The k words of a mask, where n labels are left.
-// Stays: k does not say how many of the words count, but how many a mask has. All callers give MASK_WORDS; it is public, and what is public keeps its
-// promise.
+// Stays: k does not say how many of the words count, but how many a mask has. All callers give MASK_WORDS; it stays a parameter by a rule of the project, a
+// public function keeps its promise.
 #[tactic(auto, using(crate::proofs::Rounds::a_mask))]
 pub fn check_mask(t: &[u16], k: usize, n: usize) -> Result<usize, Refusal>
     ensures { result ≡ checked (mask_of k n t.now) }
@@ -146,11 +149,18 @@ pub fn check_mask(t: &[u16], k: usize, n: usize) -> Result<usize, Refusal>
     Ok(t.len() - k)
 }
 
+// All words are zero.
+pub fn zeros(t: &[u16]) -> bool
+    ensures { result ≡ all_zero t.now }
+{
+    t.iter().all(|&w| w == 0)
+}
+
 // The four words at the front are zero.
 pub fn mask_zero(t: &[u16]) -> bool
     ensures { result ≡ zero_mask (take 4 t.now) }
 {
-    front(t, MASK_WORDS).iter().all(|&w| w == 0)
+    zeros(front(t, MASK_WORDS))
 }
 
 // ── variables ──

@@ -11,10 +11,10 @@ use Rattle.std.specs.List.{list_all, enumerate_from}
 use Rattle.std.specs.Simd.{first_chunks}
 use Rattle.eb3.specs.Blocks.{Sums, sums, block_right, blocks_right}
 
-wrong : {m n : ℕ} (r : Bool) → (m ≡ n → ⊥) → false ≡ (eqb m n && r)
+pub wrong : {m n : ℕ} (r : Bool) → (m ≡ n → ⊥) → false ≡ (eqb m n && r)
 wrong {m} {n} r h = ap (λ (b : Bool). b && r) (sym (ne_eqb m n h))
 
-right : {m n : ℕ} (r : Bool) → m ≡ n → r ≡ (eqb m n && r)
+pub right : {m n : ℕ} (r : Bool) → m ≡ n → r ≡ (eqb m n && r)
 right {m} {n} r h = ap (λ (b : Bool). b && r) (sym (eq-eqb m n h))
 
 -- A block is tested by its first word, read as w, and then by its sums p.

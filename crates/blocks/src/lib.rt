@@ -2,7 +2,7 @@
 // stream"; refusals 1 to 3).
 #![tactic(auto)]
 
-ghost use Rattle.std.specs.Prelude.{◌≡◌, Ok, ◌++◌, ◌+◌, ◌*◌, ◌/◌, ◌%◌, ◌≤◌, ◌<◌, length, drop, get_or};
+ghost use Rattle.std.specs.Prelude.{◌≡◌, Ok, ◌++◌, ◌+◌, ◌*◌, ◌/◌, ◌%◌, ◌≤◌, ◌<◌, length, drop};
 ghost use Rattle.eb3.specs.Bytes.{words_in};
 ghost use Rattle.eb3.specs.Blocks.{sums, plain_sums, block_right, blocks_right, stream, open_blocks, block_count};
 ghost use Rattle.blocks.specs.Opening.{as_sums, edition_test, opening, counted, Eight};
@@ -10,6 +10,7 @@ ghost use Rattle.blocks.specs.declared.opened.Blocks.{Blocks};
 
 use opened::Blocks;
 use refusals::Refusal;
+use scan::word_at;
 
 pub mod opened;
 
@@ -24,14 +25,6 @@ pub const CONTENT_WORDS: usize = 254;
 pub struct Pair {
     pub a: u64,
     pub b: u64,
-}
-
-// Two bytes as a word, the low byte first.
-fn word(bytes: &[u8], at: usize) -> u16
-    requires { at + 1 < length bytes.now }
-    ensures { result ≡ get_or bytes.now at 0 + 256 * get_or bytes.now (at + 1) 0 }
-{
-    u16::from_le_bytes([bytes[at], bytes[at + 1]])
 }
 
 // A sum with the remainder of x: what x has above bit 32, added to what it has below. 2^32 is 255 * 16843009 + 1, so that
@@ -63,6 +56,8 @@ pub fn under_255(x: u64) -> u64
 
 // What eight bytes add: to a, and to b besides eight times the a before them. In 16 bits, and with
 // the weights 24 to 17, not 8 to 1 (no powers of two): so the compiler multiplies all eight at once.
+// Stays written out: with the bytes added one by one in its place, the sums of 62 blocks take 1.19 times the instructions (123,166 for 103,132, callgrind); in a
+// loop over the weights, an invariant would be of the first i products, where `Eight` names each byte.
 fn eight(x: &[u8; 8]) -> Pair
     ensures { Eight x.now result }
 {
@@ -119,7 +114,7 @@ fn sums_of(block: &[u8; 512]) -> Pair
 fn check_block(block: &[u8; 512], i: usize) -> bool
     ensures { result ≡ block_right i block.now }
 {
-    if word(block, 0) as usize != i {
+    if word_at(block, 0) as usize != i {
         return false;
     }
     let p = sums_of(block);
@@ -137,13 +132,13 @@ fn check_blocks(rules: &[u8]) -> bool
         .all(|(i, block)| check_block(block, i))
 }
 
-// Word 0 is the edition, and word 1 the number of blocks.
+// Of the stream, word 0 is the edition, and word 1 the number of blocks; in the file, two words come before them.
 // Stays: n does not say how many of the bytes count; it is what the second word is compared with.
 fn check_edition(rules: &[u8], n: usize) -> bool
     requires { 512 ≤ length rules.now }
     ensures { result ≡ edition_test rules.now n }
 {
-    word(rules, 4) == 1 && word(rules, 6) as usize == n
+    word_at(rules, 2) == 1 && word_at(rules, 3) as usize == n
 }
 
 // Opens a file: 1 to 64 whole blocks, each with its number and sums, of this edition.
@@ -173,7 +168,7 @@ fn decode(content: &[u8], words: &mut [u16])
     ensures { words.new ≡ words_in content.now }
 {
     for i in 0..words.len() {
-        words[i] = word(content, 2 * i);
+        words[i] = word_at(content, i);
     }
 }
 

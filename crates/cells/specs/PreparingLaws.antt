@@ -1,6 +1,6 @@
 -- Laws of preparing: word by word a store is made ready, and word by word a memory is put into it.
 -- Document 01, "Memory and the history machine".
-use Rattle.std.specs.Prelude.{◌≡◌, refl, Bool, List, [], ◌∷◌, ℕ, zero, suc, ◌+◌, ◌-◌, ◌*◌, ◌/◌, ◌%◌, ◌≤◌, ◌<◌, length, get_or, set, take, drop, replicate}
+use Rattle.std.specs.Prelude.{◌≡◌, refl, Bool, List, ℕ, ◌+◌, ◌-◌, ◌*◌, ◌/◌, ◌%◌, ◌≤◌, ◌<◌, length, get_or, set, take, drop, replicate}
 use Rattle.std.proofs.Common.{sym, ap, subst, ◌∙◌, length-set, length-drop, length-take-le}
 use native.Mathlib.Omega.{arith}
 use borrow.Rule.Slice.PartMut.{put_mid}
@@ -115,20 +115,6 @@ cleared_part M Y from to h l e =
     })
 
 -- ── words of a memory ──
-
-pub word_at : (B : List ℕ) (i : ℕ) → 2 * i + 1 < length B → get_or (words_in B) i 0 ≡ get_or B (2 * i) 0 + 256 * get_or B (2 * i + 1) 0
-unfolding words_in
-word_at [] i h = absurd (let z : ⊥ = omega arith in z)
-word_at (a ∷ []) i h = absurd (let z : ⊥ = omega arith in z)
-word_at (a ∷ b ∷ s) zero h = refl
-word_at (a ∷ b ∷ s) (suc i) h =
-    let p : 2 * suc i ≡ suc (suc (2 * i)) = omega arith in
-    let q : 2 * suc i + 1 ≡ suc (suc (2 * i + 1)) = omega arith in
-    word_at s i (omega arith)
-    ∙ sym (ap (λ k. get_or (a ∷ b ∷ s) k 0 + 256 * get_or (a ∷ b ∷ s) (2 * suc i + 1) 0) p ∙ ap (λ k. get_or s (2 * i) 0 + 256 * get_or (a ∷ b ∷ s) k 0) q)
-
-pub loaded_word : (B : List ℕ) (i a b : ℕ) → 2 * i + 1 < length B → a ≡ get_or B (2 * i) 0 → b ≡ get_or B (2 * i + 1) 0 → a + 256 * b ≡ get_or (words_in B) i 0
-loaded_word B i a b h e f = (λ j. e j + 256 * f j) ∙ sym (word_at B i h)
 
 pub word_past : (B : List ℕ) (i : ℕ) → length B / 2 ≤ i → get_or (words_in B) i 0 ≡ 0
 word_past B i h = get_or-eq_default (words_in B) 0 (omega (arith, words_counted B))

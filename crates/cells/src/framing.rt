@@ -12,6 +12,7 @@ use expressions::{eval_data, store, word};
 use scan::last;
 
 // The codes as words of the stream.
+// Stays beside those of code_numbers: they are matched in slices of words below, and a pattern has no cast.
 const VARIABLE: u16 = code_numbers::VARIABLE as u16;
 
 const IF: u16 = code_numbers::IF as u16;

@@ -12,9 +12,11 @@ ghost use Rattle.cells.specs.Frames.{Copied};
 ghost use Rattle.cells.specs.Preparing.{Prepared, ready_word, Loaded, Saved};
 ghost use Rattle.cells.specs.PreparingLaws.{Loading};
 
+use arguments::layout::AT_LABELS;
 use arguments::{entry, functions, labels};
 use expressions::store;
 use framing::fill_function;
+use scan::word_at;
 use writing::put_words;
 
 mod framing;
@@ -26,8 +28,7 @@ pub struct Functions<'a> {
     pub words: &'a [u16],
     /// The directory, with a row of `width` words for each function: how many cells it has, where they begin among all cells, and
     /// where each of its expressions is.
-    // Stays: the columns of a row are numbers, here and in declarations, steps and engine: 0 and 1 are read at i % 2, and an expression's column, 2 for the
-    // start and 3 and the label for an event, is a parameter, so that no name for a column would be said where one is read.
+    // Stays: columns 0 and 1 are read at i % 2 in `ready_word`: in a store's row the same two numbers stand in the same order.
     pub directory: &'a [u32],
     /// How many words a row of the directory has.
     pub width: usize,
@@ -51,7 +52,7 @@ impl<'a> Functions<'a> {
         Functions {
             words,
             directory,
-            width: 3 + labels(tables),
+            width: AT_LABELS + labels(tables),
             count: functions(tables),
             cells,
         }
@@ -123,7 +124,7 @@ pub fn lay(functions: &Functions, m: &mut [u16])
 // ── memories ──
 
 // k words that the memory has.
-// Stays beside decode of blocks, a crate that this one does not use (crates.txt): that fills a whole array, this a part of one.
+// Stays beside decode of blocks: with the part of m lent to that, laws would have to say here of the whole store what `Loading` says, in place of this loop.
 // Stays with the place and k, and not the part of m lent: the contract says of the whole array what it is then. So do those of `load` and `save`, which are
 // public, and do what there is room for.
 fn load_words(memory: &[u8], m: &mut [u16], at: usize, k: usize)
@@ -131,7 +132,7 @@ fn load_words(memory: &[u8], m: &mut [u16], at: usize, k: usize)
     ensures { Loading memory.now m.old m.new at k }
 {
     for i in 0..k {
-        m[at + i] = u16::from_le_bytes([memory[2 * i], memory[2 * i + 1]]);
+        m[at + i] = word_at(memory, i);
     }
 }
 

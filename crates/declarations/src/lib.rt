@@ -14,13 +14,17 @@ ghost use Rattle.declarations.specs.Entering.{Entered, CellsBound};
 ghost use Rattle.declarations.specs.Directory.{row_width};
 ghost use Rattle.declarations.specs.Noting.{LabelsNoted, ExpressionsNoted, FunctionNoted, FunctionsNoted};
 
-use arguments::layout::{LABEL_ROWS, LABEL_WORDS};
+use arguments::layout::{AT_LABELS, AT_START, FIRST_CELL, LABEL_ROWS, LABEL_WORDS};
 use arguments::{domains, labels, row_at, size_of};
 use grammar::{Scope, check_data};
 use refusals::Refusal;
 use scan::{count, first, last, number};
 
+/// How many numbers a directory has: a row for each of up to 16 functions, of 3 numbers and one for each of up to 64 labels.
+pub const DIRECTORY: usize = 1072;
+
 // How many words are left after some functions, and how many cells they have.
+// Stays, here and as `Weighed` in rule_terms: a struct for what is left and one thing more. One of both would be generic, and name neither cells nor weight.
 #[derive(Clone, Copy)]
 pub struct Counted {
     pub left: usize,
@@ -162,7 +166,7 @@ impl Context<'_> {
         requires { i < 65536 }
         ensures { (result ≡ row_width (get_or self.now.tables.now 17 0) * i) × (result ≤ 4390912) }
     {
-        (3 + labels(self.tables)) * i
+        (AT_LABELS + labels(self.tables)) * i
     }
 
     // Function i, and its row of the directory: its parameter's domain, whose elements are its cells, which begin where
@@ -182,8 +186,8 @@ impl Context<'_> {
         let d = first(t);
         let cells = size_of(self.tables, d);
         note(dir, at, cells);
-        note(dir, at + 1, begin);
-        let left = self.expressions(last(t, m), dir, i, at + 2)?;
+        note(dir, at + FIRST_CELL, begin);
+        let left = self.expressions(last(t, m), dir, i, at + AT_START)?;
         Ok(Counted { left, cells })
     }
 }

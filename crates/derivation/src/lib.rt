@@ -18,9 +18,11 @@ use scan::{behind, first, last};
 use searching::{BOTH, RIGHT, locate};
 
 mod arrays;
+mod scratch;
 mod searching;
 
 pub use arrays::Arrays;
+pub use scratch::Scratch;
 pub use searching::PASSED;
 
 // ── answers ──

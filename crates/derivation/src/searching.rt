@@ -40,7 +40,8 @@ fn together(x: u64, mask: u64, a: u32) -> bool
 }
 
 // The k-th pair of a number on the left with an equal one on the right, of those that both sides make together: both places in one number.
-// Stays beside listing's put_pairs: that writes each pair, this counts the first k and names the places of one.
+// Stays beside listing's put_pairs, which writes each pair: one function for both would be lent a closure that may write and may stop, and its contract would
+// say of any closure what it did at each pair before.
 fn seek_pair(x: u64, mask: u64, left: &[u32], right: &[u32], k: usize) -> usize
     requires { (length left.now ≤ 131072) × (length right.now ≤ 131072) × (k < 131072) }
     ensures { result ≡ nth_pair (paired x mask) 0 left.now right.now k }

@@ -9,6 +9,7 @@ use Rattle.eb3.specs.WellFormedness.{Form}
 use Rattle.eb3.specs.Sizes.{reach}
 use Rattle.eb3.specs.Bytes.{word_count}
 use Rattle.eb3.specs.Memory.{cell_room}
+use Rattle.eb3.specs.Answers.{Moved as Answer_moved, Written}
 use Rattle.eb3.proofs.Laws.Editions.{width_is_1}
 use Rattle.declarations.specs.Declaring.{Declares}
 use Rattle.mains.specs.declared.admitted.Admitted.{Admitted}
@@ -26,6 +27,11 @@ use Rattle.std.specs.Prelude.{Err, Result, Some, None, Option}
 use Rattle.refusals.specs.declared.Refusal.{Refusal}
 use Rattle.refusals.specs.declared.Refusal.TheVariants.{Space, Stranger}
 use Rattle.engine.specs.declared.stepping.Step.{Step}
+
+-- ── what a buffer holds that was lent on and given back ──
+
+pub done_there : {w : Written Answer_moved} {r : Result Step Refusal} {B C B' C' : List ℕ} → B' ≡ B → C' ≡ C → Done w r B C → Done w r B' C'
+done_there e f d = record { answer = d.answer; term_after = e ∙ d.term_after; memory_after = f ∙ d.memory_after }
 
 -- ── a rule set and a term given ──
 

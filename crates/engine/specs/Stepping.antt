@@ -19,6 +19,7 @@ use Rattle.eb3.specs.Operations.{listed, writing, moved, chosen}
 use Rattle.steps.specs.Storing.{Stored}
 use Rattle.mains.specs.declared.admitted.Admitted.{Admitted}
 use Rattle.engine.specs.declared.stepping.Step.{Step}
+use Rattle.engine.specs.declared.stepping.Next.{Next}
 use Rattle.engine.specs.declared.stepping.Visible.{Visible}
 use Rattle.engine.specs.Describing.{DescribedBy}
 use Rattle.given.specs.Giving.{given_in}
@@ -42,7 +43,12 @@ unfoldable pub moved_as : Answer Answer_moved → Result Step Refusal
 moved_as (refused k) = Err (refusal k)
 moved_as (answered m) = Ok (told m.action m.size)
 
--- With the lent buffers afterwards.
+-- The two lent buffers of a step, afterwards: they are the same buffers, whatever they hold.
+pub record SameBuffers (b e : Next) : Type 0 where
+  pub term_is : e.term.ghost_name ≡ b.term.ghost_name
+  pub memory_is : e.memory.ghost_name ≡ b.memory.ghost_name
+
+-- With what the lent buffers hold afterwards.
 pub record Done (w : Written Answer_moved) (r : Result Step Refusal) (term' memory' : List ℕ) : Type 0 where
   pub answer : r ≡ moved_as w.answer
   pub term_after : term' ≡ w.term

@@ -9,8 +9,11 @@ ghost use Rattle.engine.specs.Describing.{DescribedBy};
 ghost use Rattle.engine.specs.Counting.{counted_as};
 
 use super::room;
-use blocks::open;
+use arguments::layout::TABLES;
 use blocks::opened::Blocks;
+use blocks::{CONTENT_WORDS, open};
+use declarations::DIRECTORY;
+use expressions::store;
 use given::giving::given_in;
 use mains::admitted::Admitted;
 use refusals::Refusal;
@@ -23,7 +26,7 @@ fn count_at(rules: &Admitted, s: &[u16], memory: &[u8]) -> u32
     requires { length s.now ≤ 65535 }
     ensures { (R : RuleSet) (E : Term) → DescribedBy rules.now R E s.now → rules.now.functions.cells ≤ cell_room memory.now → result ≡ length (listed R E memory.now) }
 {
-    let mut m = [0u16; 2084];
+    let mut m = [0u16; store::WORDS];
     load_store(&rules.functions, &mut m, memory);
     (count_moves(s, &m) % 4294967296) as u32
 }
@@ -40,12 +43,12 @@ fn count_in(
     requires { (254 * file.now.count ≤ length words.old) × (length term.now / 2 ≤ 8192 → length term.now / 2 ≤ length ws.old) }
     ensures { result ≡ counted_as (count file.now.bytes.now term.now memory.now) }
 {
-    let mut tables = [0u32; 500];
-    let mut dir = [0u32; 1072];
+    let mut tables = [0u32; TABLES];
+    let mut dir = [0u32; DIRECTORY];
     let given = given_in(file, words, &mut tables, &mut dir, term, ws)?;
-    room(memory, given.cells)?;
+    room(memory.len(), given.cells)?;
     let s = front(ws, term.len() / 2);
-    let end = 254 * file.count;
+    let end = CONTENT_WORDS * file.count;
     let rules = Admitted::of(&words[2..end], &tables, &dir, given.cells);
     Ok(count_at(&rules, s, memory))
 }

@@ -4,8 +4,7 @@
 // has none, so one function for all four could not be given what to do next; each of them is three statements.
 #![tactic(auto)]
 
-ghost use Rattle.std.specs.Prelude.{◌≡◌, Ok, Err, leb};
-ghost use Rattle.eb3.specs.Bytes.{word_count};
+ghost use Rattle.std.specs.Prelude.{◌≡◌, ◌/◌, Ok, Err, leb};
 ghost use Rattle.eb3.specs.Reading.{pick};
 ghost use Rattle.refusals.specs.declared.Refusal.TheVariants.{Space};
 
@@ -16,11 +15,12 @@ pub mod running;
 pub mod starting;
 pub mod stepping;
 
-// Whether the bytes have room for n words; if not, refusal 9.
-fn room(bytes: &[u8], n: usize) -> Result<(), Refusal>
-    ensures { result ≡ pick (leb n (word_count bytes.now)) (Ok tt) (Err Space) }
+// Whether this many bytes have room for n words; if not, refusal 9.
+// Stays a number of bytes, and not the bytes: of a buffer in a struct, as `Next` is, a check knows no more than its length once it was lent to be read.
+fn room(bytes: usize, n: usize) -> Result<(), Refusal>
+    ensures { result ≡ pick (leb n (bytes / 2)) (Ok tt) (Err Space) }
 {
-    if bytes.len() / 2 < n {
+    if bytes / 2 < n {
         return Err(Refusal::Space);
     }
     Ok(())

@@ -5,8 +5,10 @@ ghost use Rattle.engine.specs.Running.{RunDone};
 
 use super::room;
 use admission::admit_in;
-use blocks::open;
+use arguments::layout::TABLES;
 use blocks::opened::Blocks;
+use blocks::{CONTENT_WORDS, open};
+use declarations::DIRECTORY;
 use mains::admitted::{Admitted, Course};
 use mains::{Totals, run_main};
 use refusals::Refusal;
@@ -26,16 +28,16 @@ fn run_in(
     requires { 254 * file.now.count ≤ length words.old }
     ensures { RunDone file.now.bytes.now numbers.now term.old memory.old spare.old cells.now result term.new memory.new spare.new }
 {
-    let mut tables = [0u32; 500];
-    let mut dir = [0u32; 1072];
+    let mut tables = [0u32; TABLES];
+    let mut dir = [0u32; DIRECTORY];
     let sizes = admit_in(file.bytes, words, &mut tables, &mut dir, file.count)?;
     let c = sizes.cells as usize;
     let reach = sizes.reach as usize;
-    room(term, reach)?;
-    room(memory, c)?;
-    room(spare, reach)?;
-    room(cells, c)?;
-    let end = 254 * file.count;
+    room(term.len(), reach)?;
+    room(memory.len(), c)?;
+    room(spare.len(), reach)?;
+    room(cells.len(), c)?;
+    let end = CONTENT_WORDS * file.count;
     let rules = Admitted::of(&words[2..end], &tables, &dir, c);
     let course = Course {
         rules,

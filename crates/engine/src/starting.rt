@@ -6,9 +6,11 @@ ghost use Rattle.engine.specs.Starting.{StartDone};
 
 use super::room;
 use admission::admit_in;
-use blocks::open;
+use arguments::layout::{AT_START, TABLES};
 use blocks::opened::Blocks;
+use blocks::{CONTENT_WORDS, open};
 use cells::{fill, lay, save};
+use declarations::DIRECTORY;
 use mains::admitted::Admitted;
 use refusals::Refusal;
 use unfold::unfold_main;
@@ -20,9 +22,14 @@ fn start_store(rules: &Admitted, m: &mut [u16], memory: &mut [u8])
 {
     let functions = &rules.functions;
     lay(functions, m);
-    fill(functions, m, 2);
+    fill(functions, m, AT_START);
     save(m, memory, functions.cells);
 }
+
+// How many words a store has without old cells, for up to 1,024 cells and for up to 64.
+const NEW_WORDS: usize = 1060;
+
+const FEW_WORDS: usize = 100;
 
 // A store for at most 64 cells, or for the most that there may be: a small rule set does not pay for clearing a large array.
 // Stays two branches: a function with the size as a const parameter would repeat the contract of `start_store` for two lines.
@@ -30,11 +37,11 @@ fn start_memory(rules: &Admitted, memory: &mut [u8])
     ensures { MemoryStarted rules.now.functions.words.now rules.now.tables.now rules.now.functions.directory.now 1060 rules.now.functions.cells memory.old memory.new }
 {
     if rules.functions.cells <= 64 {
-        let mut m = [0u16; 100];
+        let mut m = [0u16; FEW_WORDS];
         start_store(rules, &mut m, memory);
         return;
     }
-    let mut m = [0u16; 1060];
+    let mut m = [0u16; NEW_WORDS];
     start_store(rules, &mut m, memory);
 }
 
@@ -48,8 +55,8 @@ fn begin(rules: &Admitted, term: &mut [u8], memory: &mut [u8])
 }
 
 // An opened file, decoded into lent words.
-// Stays: the words, the term and the memory are three arrays, lent apart: the last two are the host's buffers, and the words are the caller's,
-// whose length depends on the file's.
+// Stays: the words, the term and the memory are three arrays, lent apart: the last two are what Start writes, and the words are the function's below, whose
+// length depends on the file's.
 // Stays: that the words have room for the blocks is the clause of `blocks::join`, whose line says why.
 // Stays, in `run_in`, `count_in` and `step_in` too: the tables and the directory are local arrays, which the struct that `Admitted::of` makes borrows, so
 // a function for all four could not return it. Lent the arrays, a function for the last two statements alone would need the words, the tables, the directory,
@@ -63,13 +70,13 @@ fn start_in(
     requires { 254 * file.now.count ≤ length words.old }
     ensures { StartDone file.now.bytes.now term.old memory.old result term.new memory.new }
 {
-    let mut tables = [0u32; 500];
-    let mut dir = [0u32; 1072];
+    let mut tables = [0u32; TABLES];
+    let mut dir = [0u32; DIRECTORY];
     let sizes = admit_in(file.bytes, words, &mut tables, &mut dir, file.count)?;
     let c = sizes.cells as usize;
-    room(term, sizes.reach as usize)?;
-    room(memory, c)?;
-    let end = 254 * file.count;
+    room(term.len(), sizes.reach as usize)?;
+    room(memory.len(), c)?;
+    let end = CONTENT_WORDS * file.count;
     let rules = Admitted::of(&words[2..end], &tables, &dir, c);
     begin(&rules, term, memory);
     Ok(sizes.size)

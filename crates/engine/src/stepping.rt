@@ -11,13 +11,16 @@ ghost use Rattle.actions.specs.Codes.{action_code, Small};
 ghost use Rattle.listing.specs.Listing.{holding};
 ghost use Rattle.steps.specs.Counting.{Whole};
 ghost use Rattle.given.specs.Asking.{Chooses};
-ghost use Rattle.engine.specs.Stepping.{told, Done, move_at, stepped, SteppedFrom, SteppedAt, Steps};
+ghost use Rattle.engine.specs.Stepping.{told, SameBuffers, Done, move_at, stepped, SteppedFrom, SteppedAt, Steps};
 
 use super::room;
 use actions::{argument_at, argument_count, label_of};
-use blocks::open;
+use arguments::layout::TABLES;
 use blocks::opened::Blocks;
+use blocks::{CONTENT_WORDS, open};
 use cells::save;
+use declarations::DIRECTORY;
+use expressions::store;
 use given::asking::{Request, Wanted, ask};
 use given::giving::given_in;
 use mains::admitted::Admitted;
@@ -29,6 +32,8 @@ use steps::renewing::renew;
 use steps::storing::load_store;
 
 /// A visible action: its label, how many arguments it has, and the two that it may have, 0 where there is none.
+// Stays with a count: C hosts get one (`Moved` of cabinet), which is how many arguments the action has. Of two Options it would be how many of the
+// first two there are, which is the same only where no action has three: Move and Present would have to promise that, too.
 #[derive(Clone, Copy)]
 pub struct Visible {
     pub label: u32,
@@ -50,6 +55,13 @@ pub struct Asked<'a> {
     pub term: &'a [u8],
     pub memory: &'a [u8],
     pub request: Request<'a>,
+}
+
+/// Where the successor and the memory after a step are written.
+#[derive(Drop)]
+pub struct Next<'a> {
+    pub term: &'a mut [u8],
+    pub memory: &'a mut [u8],
 }
 
 // ── the answer ──
@@ -76,27 +88,22 @@ fn tell(code: u32, size: usize) -> Step
 // ── the step ──
 
 // Move k from a loaded store, into buffers with room.
-// Stays: the store and the two buffers are three lent arrays: the store is the caller's own, and the buffers are the host's.
 fn step_from(
     rules: &Admitted,
     s: &[u16],
     m: &mut [u16],
     k: usize,
-    next_term: &mut [u8],
-    next_memory: &mut [u8],
+    next: &mut Next,
 ) -> Result<Step, Refusal>
     requires { length s.now ≤ 65535 }
-    ensures { SteppedFrom rules.now s.now m.old k next_term.old next_memory.old result next_term.new next_memory.new }
+    ensures buffers { SameBuffers next.old next.new }
+    ensures done { SteppedFrom rules.now s.now m.old k next.old.term.now next.old.memory.now result next.new.term.now next.new.memory.now }
 {
     let functions = &rules.functions;
-    match take_move(s, m, k, next_term) {
-        Some(taken) => {
-            renew(functions, m, taken.action);
-            save(m, next_memory, functions.cells);
-            Ok(tell(taken.action, taken.size))
-        }
-        None => Err(Refusal::NotOffered),
-    }
+    let taken = take_move(s, m, k, next.term).ok_or(Refusal::NotOffered)?;
+    renew(functions, m, taken.action);
+    save(m, next.memory, functions.cells);
+    Ok(tell(taken.action, taken.size))
 }
 
 // The number of the move that is wanted, at a loaded store, or none where no move has the wanted action.
@@ -116,68 +123,62 @@ fn step_at(
     s: &[u16],
     memory: &[u8],
     wanted: Wanted,
-    next_term: &mut [u8],
-    next_memory: &mut [u8],
+    next: &mut Next,
 ) -> Result<Step, Refusal>
     requires { length s.now ≤ 65535 }
-    ensures { SteppedAt rules.now s.now memory.now wanted next_term.old next_memory.old result next_term.new next_memory.new }
+    ensures buffers { SameBuffers next.old next.new }
+    ensures done { SteppedAt rules.now s.now memory.now wanted next.old.term.now next.old.memory.now result next.new.term.now next.new.memory.now }
 {
-    let mut m = [0u16; 2084];
+    let mut m = [0u16; store::WORDS];
     load_store(&rules.functions, &mut m, memory);
-    match find(s, &m, wanted) {
-        Some(k) => step_from(rules, s, &mut m, k, next_term, next_memory),
-        None => Err(Refusal::NotOffered),
-    }
+    let k = find(s, &m, wanted).ok_or(Refusal::NotOffered)?;
+    step_from(rules, s, &mut m, k, next)
 }
 
 // Refusal 11, then 9, then 12.
-// Stays, here and below: what is asked is one struct, and the two buffers are lent beside it, since they are written.
 fn step_given(
     rules: &Admitted,
     s: &[u16],
     reach: usize,
     asked: &Asked,
-    next_term: &mut [u8],
-    next_memory: &mut [u8],
+    next: &mut Next,
 ) -> Result<Step, Refusal>
     requires { length s.now ≤ 65535 }
-    ensures { Steps rules.now s.now reach asked.now.memory.now asked.now.request next_term.old next_memory.old result next_term.new next_memory.new }
+    ensures buffers { SameBuffers next.old next.new }
+    ensures done { Steps rules.now s.now reach asked.now.memory.now asked.now.request next.old.term.now next.old.memory.now result next.new.term.now next.new.memory.now }
 {
     let tables = rules.tables;
-    let Some(wanted) = ask(tables, asked.request) else {
-        return Err(Refusal::Stranger);
-    };
+    let wanted = ask(tables, asked.request).ok_or(Refusal::Stranger)?;
     let memory = asked.memory;
     let c = rules.functions.cells;
-    room(next_term, reach)?;
-    room(memory, c)?;
-    room(next_memory, c)?;
-    step_at(rules, s, memory, wanted, next_term, next_memory)
+    room(next.term.len(), reach)?;
+    room(memory.len(), c)?;
+    room(next.memory.len(), c)?;
+    step_at(rules, s, memory, wanted, next)
 }
 
 // An opened file and a term, decoded into lent words.
-// Stays: the words of both and the two buffers are four lent arrays: the words are the caller's, whose length depends on the file's and on the
-// term's, and the buffers are the host's.
+// Stays: the words of the file and those of the term are two arrays, lent apart: they are the caller's, and the length of each depends on what it is for.
 // Stays: the two clauses are those of `given::giving::given_in`, whose line says why.
 fn step_in(
     file: &Blocks,
     words: &mut [u16],
     ws: &mut [u16],
     asked: &Asked,
-    next_term: &mut [u8],
-    next_memory: &mut [u8],
+    next: &mut Next,
 ) -> Result<Step, Refusal>
     requires { (254 * file.now.count ≤ length words.old) × (length asked.now.term.now / 2 ≤ 8192 → length asked.now.term.now / 2 ≤ length ws.old) }
-    ensures { Done (stepped file.now.bytes.now asked.now.term.now asked.now.memory.now asked.now.request next_term.old next_memory.old) result next_term.new next_memory.new }
+    ensures buffers { SameBuffers next.old next.new }
+    ensures done { Done (stepped file.now.bytes.now asked.now.term.now asked.now.memory.now asked.now.request next.old.term.now next.old.memory.now) result next.new.term.now next.new.memory.now }
 {
-    let mut tables = [0u32; 500];
-    let mut dir = [0u32; 1072];
+    let mut tables = [0u32; TABLES];
+    let mut dir = [0u32; DIRECTORY];
     let term = asked.term;
     let given = given_in(file, words, &mut tables, &mut dir, term, ws)?;
     let s = front(ws, term.len() / 2);
-    let end = 254 * file.count;
+    let end = CONTENT_WORDS * file.count;
     let rules = Admitted::of(&words[2..end], &tables, &dir, given.cells);
-    step_given(&rules, s, given.reach, asked, next_term, next_memory)
+    step_given(&rules, s, given.reach, asked, next)
 }
 
 // Local words for the blocks and for the term: a rule set of one block and a term of at most 256 words do not pay for clearing large arrays.
@@ -186,31 +187,27 @@ fn step_in(
 fn step_sized<const WORDS: usize, const TERM: usize>(
     file: &Blocks,
     asked: &Asked,
-    next_term: &mut [u8],
-    next_memory: &mut [u8],
+    next: &mut Next,
 ) -> Result<Step, Refusal>
     requires { (254 * file.now.count ≤ WORDS) × (length asked.now.term.now / 2 ≤ 8192 → length asked.now.term.now / 2 ≤ TERM) × (WORDS ≤ 16256) × (TERM ≤ 8192) }
-    ensures { Done (stepped file.now.bytes.now asked.now.term.now asked.now.memory.now asked.now.request next_term.old next_memory.old) result next_term.new next_memory.new }
+    ensures buffers { SameBuffers next.old next.new }
+    ensures done { Done (stepped file.now.bytes.now asked.now.term.now asked.now.memory.now asked.now.request next.old.term.now next.old.memory.now) result next.new.term.now next.new.memory.now }
 {
     let mut words = [0u16; WORDS];
     let mut ws = [0u16; TERM];
-    let r = step_in(file, &mut words, &mut ws, asked, next_term, next_memory);
+    let r = step_in(file, &mut words, &mut ws, asked, next);
     r
 }
 
-fn step_by(
-    rules: &[u8],
-    asked: &Asked,
-    next_term: &mut [u8],
-    next_memory: &mut [u8],
-) -> Result<Step, Refusal>
-    ensures { Done (stepped rules.now asked.now.term.now asked.now.memory.now asked.now.request next_term.old next_memory.old) result next_term.new next_memory.new }
+fn step_by(rules: &[u8], asked: &Asked, next: &mut Next) -> Result<Step, Refusal>
+    ensures buffers { SameBuffers next.old next.new }
+    ensures done { Done (stepped rules.now asked.now.term.now asked.now.memory.now asked.now.request next.old.term.now next.old.memory.now) result next.new.term.now next.new.memory.now }
 {
     let file = open(rules)?;
     if file.count <= 1 && asked.term.len() <= 512 {
-        return step_sized::<254, 256>(&file, asked, next_term, next_memory);
+        return step_sized::<254, 256>(&file, asked, next);
     }
-    step_sized::<16256, 8192>(&file, asked, next_term, next_memory)
+    step_sized::<16256, 8192>(&file, asked, next)
 }
 
 // ── the operations ──
@@ -218,7 +215,7 @@ fn step_by(
 // Stays two functions: Move and Present are two operations, with a contract each, and what they share is `step_by`.
 
 // Move k: its successor and the memory that its action leaves; or the first refusal of 1 to 8, 10, 9 and 12, and nothing is written.
-// Stays, here and in `present`: all comes one by one, as a host has it; the term and the memory become `Asked` here.
+// Stays, here and in `present`: all comes one by one, as a host has it; the term and the memory become `Asked` here, and the two buffers `Next`.
 pub fn make_move<'a>(
     rules: &[u8],
     term: &'a [u8],
@@ -234,7 +231,11 @@ pub fn make_move<'a>(
         memory,
         request: Request::Move(k),
     };
-    step_by(rules, &asked, next_term, next_memory)
+    let mut next = Next {
+        term: next_term,
+        memory: next_memory,
+    };
+    step_by(rules, &asked, &mut next)
 }
 
 // Present: the first move whose action is the given event; or the first refusal of 1 to 8, 10, 11, 9 and 12.
@@ -253,5 +254,9 @@ pub fn present<'a>(
         memory,
         request: Request::Event(event),
     };
-    step_by(rules, &asked, next_term, next_memory)
+    let mut next = Next {
+        term: next_term,
+        memory: next_memory,
+    };
+    step_by(rules, &asked, &mut next)
 }

@@ -2,3 +2,4 @@
 pub mod Giving
 pub mod GivingLaws
 pub mod Asking
+pub mod Handing

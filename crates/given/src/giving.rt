@@ -7,8 +7,10 @@ ghost use Rattle.declarations.specs.Declaring.{Declares};
 ghost use Rattle.given.specs.Giving.{TermChecked, GivenDone};
 
 use admission::admit_in;
+use arguments::layout::TABLES;
 use blocks::opened::Blocks;
 use cells::load;
+use declarations::DIRECTORY;
 use refusals::Refusal;
 use terms::given_term;
 
@@ -35,13 +37,11 @@ fn check_term(tb: &[u32], c: usize, term: &[u8], ws: &mut [u16]) -> Result<Given
         return Err(Refusal::Term);
     }
     load(term, ws, 0, n);
-    match given_term(&ws[0..n], tb) {
-        Some(term) => Ok(Given {
-            cells: c,
-            reach: term.reach as usize,
-        }),
-        None => Err(Refusal::Term),
-    }
+    let weighed = given_term(&ws[0..n], tb).ok_or(Refusal::Term)?;
+    Ok(Given {
+        cells: c,
+        reach: weighed.reach as usize,
+    })
 }
 
 // An opened file, decoded into lent words, and a term.
@@ -51,8 +51,8 @@ fn check_term(tb: &[u32], c: usize, term: &[u8], ws: &mut [u16]) -> Result<Given
 pub fn given_in(
     file: &Blocks,
     words: &mut [u16],
-    tables: &mut [u32; 500],
-    dir: &mut [u32; 1072],
+    tables: &mut [u32; TABLES],
+    dir: &mut [u32; DIRECTORY],
     term: &[u8],
     ws: &mut [u16],
 ) -> Result<Given, Refusal>

@@ -1,54 +1,57 @@
 -- A case for each way that the front of a row is said; the premises have the form of what the code says there, so that `search` finds them.
 -- Document 01, "Values and conditions"; refusals 4 and 5.
-use Prim.Native.Nat.{ℕ, suc, ◌+◌, ◌≤◌, ◌<◌}
+use Prim.Native.Nat.{ℕ, suc, ◌+◌, ◌-◌, ◌≤◌, ◌<◌}
 use native.Mathlib.Omega.{arith}
 use native.Mathlib.Decide.{dec_le}
 use mathlib.Core.Logic.{⊎_elim}
 use mathlib.Core.Path.{◌≡◌, refl, sym, ap, ◌∙◌}
 use mathlib.Core.List.{List, [], ◌∷◌}
-use mathlib.Core.Bool.{true, false}
+use mathlib.Core.Bool.{Bool, true, false}
 use lib.Dec.{ltb}
-use lib.ListN.{length, drop, get_or, drop_of_length-le}
+use lib.ListN.{length, take, drop, get_or, drop_of_length-le}
 use lib.Seq.{drop-cons}
 use borrow.Author.Tests.{ne_eqb, lt-ltb, le-ltb, le-leb, lt-leb}
 use Rattle.eb3.specs.Expressions.{Data, Undefined, Cond, Args, Constant, Variable, Add, Subtract, Now, Before, Equal, Less, And, Or, Not, True}
 use Rattle.eb3.specs.Scopes.{Scope}
 use Rattle.eb3.specs.Reading.{Read, refused, taken, Reader, pick, giving, then, both, number_of, by_number, number_in, repeat}
 use Rattle.eb3.specs.ExpressionReading.{DataKind, CondKind, data_kind, cond_kind, constant_of, args_of, data_by, cond_by, readers, read_data, read_cond}
-use Rattle.scan.specs.Checking.{checked}
-use Rattle.scan.specs.Laws.{then_checked}
+use Rattle.scan.specs.Checking.{Checked, checked}
+use Rattle.scan.specs.Laws.{then_checked, part}
+use Rattle.scan.specs.ReadingLaws.{handed_err, checked_refused}
 use Rattle.grammar.specs.declared.Front.{Front}
 use Rattle.grammar.specs.declared.Front.TheVariants.{On, Other}
 use Rattle.grammar.specs.Fronts.{Behind, Operand, Facing, DataFront, CondFront}
 use Rattle.grammar.specs.Laws.{whole, data_case, cond_case, two_ways}
 use Rattle.grammar.specs.RowLaws.{forget, forget_giving, then_then, then_left, then_ended, row_step, row_join, row_more, one_left, two_left, led}
-use Rattle.std.specs.Prelude.{Ok, Err, Result}
+use Rattle.std.proofs.Common.{subst, length-drop, drop-drop}
+use Rattle.std.specs.Prelude.{Ok, Err, Result, IsErr, IsErrAnd}
 use Rattle.refusals.specs.declared.Refusal.{Refusal}
 use Rattle.refusals.specs.declared.Refusal.TheVariants.{Form, Reference}
-use Rattle.refusals.specs.Numbers.{refusal, number, refusal_number}
+use Rattle.refusals.specs.Numbers.{refusal, number}
 
 -- ── a number at the front ──
 
-pub operand_none : (k : Refusal) (limit : ℕ) (s : List ℕ) (at m : ℕ) → length s ≤ at → Operand k limit s at m (Err Form)
-unfolding number_of refusal
-operand_none k limit s at m h = record { code = 4; read = rw (drop_of_length-le s {i = at} h); named = refl }
+after_number : (k limit n : ℕ) (t : List ℕ) → Ok n ≡ checked (number_of k limit t) → (0 < length t) × (number_of k limit t ≡ taken (get_or t 0 0) (drop 1 t))
+unfolding number_of checked
+after_number k limit n [] e = absurd (let z : ◌≡◌ {A = ℕ} 0 1 = cc in omega arith)
+after_number k limit n (w ∷ t) e = (omega arith, go (ltb w limit) e)
+  where
+    go : (b : Bool) → Ok n ≡ checked (pick b (taken w t) (refused k)) → pick b (taken w t) (refused k) ≡ taken w t
+    go true f = refl
+    go false f = cc
 
-pub operand_some : (k : Refusal) (limit : ℕ) (s : List ℕ) (at m x : ℕ) → at < length s → x ≡ get_or s at 0 → x < limit → Operand k limit s at m (Ok (On (at + 1) m))
-unfolding number_of
-operand_some k limit s at m x h e l =
-    let i : ltb (get_or s at 0) limit ≡ true = lt-ltb (get_or s at 0) limit (rw (← e) l) in
-    let j : suc at ≡ at + 1 = omega arith in
-    (refl, h, refl, (get_or s at 0, ap (number_of (number k) limit) (drop-cons s at 0 h) ∙ ap (λ b. pick b (taken (get_or s at 0) (drop (suc at) s)) (refused (number k))) i ∙ ap (λ i. taken (get_or s at 0) (drop i s)) j))
+-- What the check of the number answered, of the part of the words from the place on.
+module _ (k : Refusal) (limit : ℕ) (s : List ℕ) (at m : ℕ) (q : Checked) (is : q ≡ checked (number_of (number k) limit (take (length s - at) (drop at s)))) where
+  here : q ≡ checked (number_of (number k) limit (drop at s))
+  here = is ∙ ap (λ t. checked (number_of (number k) limit t)) (part at s)
 
-pub operand_over : (k : Refusal) (limit : ℕ) (s : List ℕ) (at m x : ℕ) → at < length s → x ≡ get_or s at 0 → limit ≤ x → Operand k limit s at m (Err k)
-unfolding number_of
-operand_over k limit s at m x h e l =
-    let i : ltb (get_or s at 0) limit ≡ false = le-ltb (get_or s at 0) limit (rw (← e) l) in
-    record {
-      code = number k;
-      read = ap (number_of (number k) limit) (drop-cons s at 0 h) ∙ ap (λ b. pick b (taken (get_or s at 0) (drop (suc at) s)) (refused (number k))) i;
-      named = sym (refusal_number k);
-    }
+  pub operand_taken : (n : ℕ) → q ≡ Ok n → Operand k limit s at m (Ok (On (at + 1) m))
+  operand_taken n e =
+      let p = after_number (number k) limit n (drop at s) (sym e ∙ here) in
+      (refl, omega (arith, p.0, length-drop at s), refl, (get_or (drop at s) 0 0, p.1 ∙ ap (taken (get_or (drop at s) 0 0)) (drop-drop 1 at s)))
+
+  pub operand_refused : (j : Refusal) (r : Result Front Refusal) → q ≡ Err j → IsErr r × IsErrAnd r (λ e. e ≡ j) → Operand k limit s at m r
+  operand_refused j r e h = subst (Operand k limit s at m) (sym (handed_err r j h)) (checked_refused (number_of (number k) limit (drop at s)) j (sym e ∙ here))
 
 -- ── edition 1: a constant is one word, a function has one parameter ──
 
@@ -229,4 +232,4 @@ module _ (P : Scope) (s : List ℕ) (at rest : ℕ) (h : at < length s) (few : r
   cond_high o l = astray (cond_other (get_or s at 0) (λ e. omega arith) (λ e. omega arith) (λ e. omega arith) (λ e. omega arith) o)
 
 pub ruleset fronts =
-    (operand_none, operand_some, operand_over, data_none, cond_none, data_undefined, data_constant, data_variable, data_pair, data_select, data_now, data_before, data_barred, data_high, cond_compare, cond_join, cond_negate, cond_always, cond_low, cond_high)
+    (data_none, cond_none, data_undefined, data_constant, data_variable, data_pair, data_select, data_now, data_before, data_barred, data_high, cond_compare, cond_join, cond_negate, cond_always, cond_low, cond_high)

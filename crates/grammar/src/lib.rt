@@ -16,6 +16,7 @@ use code_numbers::{
     VARIABLE,
 };
 use refusals::Refusal;
+use scan::number;
 
 // How many variables there are, and how many functions now and before may name.
 // Where before may name none, its code itself is refused.
@@ -36,16 +37,11 @@ enum Front {
 
 // A number below a limit with m expressions after it, else the refusal given.
 fn operand(s: &[u16], at: usize, refusal: Refusal, limit: usize, m: usize) -> Result<Front, Refusal>
+    requires { at ≤ length s.now }
     ensures { Operand refusal limit s.now at m result }
 {
-    if s.len() <= at {
-        return Err(Refusal::Form);
-    }
-    let n = s[at] as usize;
-    if n < limit {
-        return Ok(Front::On(at + 1, m));
-    }
-    Err(refusal)
+    number(&s[at..], refusal, limit)?;
+    Ok(Front::On(at + 1, m))
 }
 
 // Stays, and so do the two rows below: one function for data and one for conditions, where an enum of the two sorts would make one of both. It was

@@ -63,7 +63,8 @@ fn put_pairs(mask: u64, left: &[u32], right: &[u32], e: usize, out: &mut [u32]) 
 // Copies the numbers from b to e to the front.
 // Stays number by number: copy_within calls memmove, and the library promises C hosts to call memcpy and memset only (host/eb3.h, Linking).
 // Stays with b and e: what is read and what is written are parts of one array that may overlap, so they are no two slices.
-// Stays beside copy_cells of cells: that is of words, and from any place to any.
+// Stays beside copy_cells of cells: made generic, that would say item by item what was copied (`Copied`), and a law would have to make of it the list that
+// this says.
 // Stays: that the array keeps its length is a fact of what it was and what it is then, which no field of a struct holds.
 fn shift(b: usize, e: usize, acts: &mut [u32])
     requires { (b ≤ e) × (e ≤ length acts.old) }

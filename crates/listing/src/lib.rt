@@ -13,11 +13,12 @@ ghost use Rattle.listing.specs.Listing.{TermAt, Listed};
 ghost use Rattle.listing.specs.Rows.{RowAt};
 
 use actions::{behind_action, code_at, in_set, join, mask_set};
+use arguments::MASK_WORDS;
 use code_numbers::{ACTION, CHOICE, DONE, GUARD, INTERNAL, PARALLEL, SEQUENCE, STAR};
 use codes::EDITION_1;
 use combining::combine;
 use expressions::eval_cond;
-use scan::{behind, first, last};
+use scan::{after, behind, first, last};
 
 mod combining;
 
@@ -79,8 +80,7 @@ fn list_one(code: u32, left: usize, acts: &mut [u32]) -> usize
 pub fn behind_mask(d: &[u16]) -> &[u16]
     ensures { result.now ≡ drop 4 d.now }
 {
-    let n = d.len().min(4);
-    &d[n..]
+    after(d, MASK_WORDS)
 }
 
 // Whether both of the terms at the front are done.

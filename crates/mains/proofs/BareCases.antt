@@ -1,6 +1,6 @@
 -- The run of main from the words of its unfolding, which has no masks: at the start the term is one part of it, and at the end it is spelled out (document 01,
 -- "Operations": Run writes the last term; "Memory and the history machine").
-use mathlib.Core.Path.{◌≡◌, refl, sym, ap, ◌∙◌}
+use mathlib.Core.Path.{◌≡◌, refl, sym, ap, ◌∙◌, subst}
 use mathlib.Core.Bool.{cond}
 use mathlib.Core.List.{List, [], ◌∷◌, append-nil}
 use Prim.Native.Nat.{ℕ, ◌+◌, ◌/◌, ◌%◌, ◌≤◌}
@@ -23,6 +23,9 @@ use Rattle.steps.specs.Judging.{whole}
 use Rattle.sharing.specs.Shared.{Shared, Ended as Done_there, Part, term_of, shared_words, Unmasked, PartAt, Stands}
 use Rattle.sharing.specs.Beginning.{put_at}
 use Rattle.sharing.specs.Splicing.{Expanded}
+use Rattle.sharing.specs.Expanding.{told}
+use Rattle.sharing.specs.declared.expansion.Extent.{Extent}
+use Rattle.std.specs.Prelude.{Option, None, Some}
 use Rattle.runs.specs.ScratchLaws.{words_kept}
 use Rattle.runs.specs.Running.{Spelled, Ended}
 use Rattle.runs.specs.Sharing.{SharedOver, RunsShared}
@@ -87,6 +90,16 @@ expanded_so u R E n d f mid mid' q h ef expanded room =
       spelled = ap (take (q / 65536)) (z.1 ∙ ap (λ v. put_at 0 v mid) eo) ∙ take_at o (drop (0 + length o) mid) (q / 65536) (sym size_is);
     }
 
+-- The place after the words written, by the number that says both; 0 where there was no room.
+abbrev end_of : Option Extent → ℕ
+end_of None = 0
+end_of (Some x) = x.end
+
+told_end : (x : Option Extent) → told x / 65536 ≡ end_of x
+unfolding answer
+told_end None = refl
+told_end (Some x) = omega (arith, x.few)
+
 -- ── the returns ──
 
 module _ {numbers t D : List ℕ} {w functions c reach : ℕ} {u d M : List ℕ} {paths acts middle : ℕ} {term memory term' memory' : List ℕ} where
@@ -95,12 +108,12 @@ module _ {numbers t D : List ℕ} {w functions c reach : ℕ} {u d M : List ℕ}
   bare_none h R T at room eu unmasked spare =
       absurd (let z : ⊥ = omega (arith, room.words_room, at.reach_is, main_size R at.well, spelled_length R at.well (unfold_main R) (main_there R at.well), size_pos 1 (unfold_main R)) in z)
 
-  pub bare_run : {d₁ d₂ M₂ f mid₁ mid₂ : List ℕ} {word q low : ℕ} {tally : Tally} → word ≡ whole_word u → take 1 d₁ ≡ word ∷ [] → length d₁ ≡ length d
-      → RunsShared numbers t D w functions c u 1 d₁ M paths acts middle d₂ M₂ tally → f ≡ take tally.size d₂ → Expanded f u 0 mid₁ mid₂ q → length mid₁ ≡ middle
-      → Finished mid₂ (q / 65536) reach M₂ c term memory term' memory' → low ≡ q / 65536 % 4294967296
+  pub bare_run : (x : Option Extent) {d₁ d₂ M₂ f mid₁ mid₂ : List ℕ} {word size low : ℕ} {tally : Tally} → word ≡ whole_word u → take 1 d₁ ≡ word ∷ [] → length d₁ ≡ length d
+      → RunsShared numbers t D w functions c u 1 d₁ M paths acts middle d₂ M₂ tally → f ≡ take tally.size d₂ → Expanded f u 0 mid₁ mid₂ (told x) → size ≡ end_of x → length mid₁ ≡ middle
+      → Finished mid₂ size reach M₂ c term memory term' memory' → low ≡ size % 4294967296
       → RunsBare numbers t D w functions c reach u d M paths acts middle term memory (record { size = low; visible = tally.visible; internal = tally.internal; refused = tally.refused }) term' memory'
   unfolding memory_run
-  bare_run {d₁} {d₂} {M₂} {f} {mid₁} {mid₂} {word} {q} {low} {tally} is_word first same runs ef expanded same_middle done el R T at room eu unmasked spare =
+  bare_run x {d₁} {d₂} {M₂} {f} {mid₁} {mid₂} {word} {size} {low} {tally} is_word first same runs ef expanded is_size same_middle done el R T at room eu unmasked spare =
       let well = at.well in
       let er = at.reach_is in
       let ec = at.ruled.cells_are in
@@ -109,7 +122,7 @@ module _ {numbers t D : List ℕ} {w functions c reach : ℕ} {u d M : List ℕ}
       (record { running = main_there R well; held = held_alone R well.form (unfold_main R) (main_there R well) unmasked u d₁ eu word is_word first; stored = at.stored })
       (omega (arith, er, main_reaches R well)) in
       let last_term : Term = (memory_run (attributes R) (unfold_main R) (words_in numbers)).state.term in
-      let spelled : Spelled R last_term (q / 65536) mid₂ =
-      expanded_so u R last_term tally.size d₂ f mid₁ mid₂ q e.0.after.held ef expanded (omega (arith, run_fits R well (words_in numbers) e.0.after.running, er, room.middle_room)) in
+      let spelled : Spelled R last_term size mid₂ =
+      subst (λ n. Spelled R last_term n mid₂) (told_end x ∙ sym is_size) (expanded_so u R last_term tally.size d₂ f mid₁ mid₂ (told x) e.0.after.held ef expanded (omega (arith, run_fits R well (words_in numbers) e.0.after.running, er, room.middle_room))) in
       main_ended R well numbers e.0 spelled ec er (omega (arith, room.middle_room, expanded.same_length)) (omega (arith, ec, e.0.after.stored.room)) at.term_room at.memory_room done el
       (words_kept spare spare refl)

@@ -1,5 +1,5 @@
 -- The run of main from the start by a list of numbers is the history machine's (document 01, "Operations": Run; "Memory and the history machine").
-use Rattle.std.specs.Prelude.{◌≡◌, List, ◌++◌, ℕ, ◌+◌, ◌-◌, ◌≤◌, length, take, drop, replicate}
+use Rattle.std.specs.Prelude.{◌≡◌, List, ◌++◌, ℕ, ◌+◌, ◌-◌, ◌%◌, ◌≤◌, length, take, drop, replicate}
 use Rattle.eb3.specs.RuleSets.{RuleSet}
 use Rattle.eb3.specs.WellFormedness.{WellFormed}
 use Rattle.eb3.specs.Bytes.{word_count, written}
@@ -9,7 +9,12 @@ use Rattle.eb3.specs.Operations.{cells_needed, main_reach, ran}
 use Rattle.declarations.specs.Directory.{Directory}
 use Rattle.expressions.specs.Stores.{now_place}
 use Rattle.runs.specs.Scratch.{WordsOnly}
+use Rattle.runs.specs.declared.Tally.{Tally}
 use Rattle.mains.specs.declared.Totals.{Totals}
+
+-- A tally as it is told: its size in 32 bits.
+abbrev pub totals : Tally → Totals
+totals t = record { size = t.size % 4294967296; visible = t.visible; internal = t.internal; refused = t.refused }
 
 -- The last term's size and the three counts.
 abbrev pub told : Totals → Ran

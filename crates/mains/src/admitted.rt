@@ -1,6 +1,7 @@
 // The rule set that was admitted, in the form that the later steps use, and what a run of it is given (document 01, "Operations": each begins with Admit; Run).
 ghost use Rattle.std.specs.Prelude.{◌≡◌, ◌+◌, ◌≤◌, length, get_or};
 
+use arguments::layout::TABLES;
 use cells::Functions;
 
 /// An admitted rule set: its functions, and the tables that they belong to.
@@ -9,7 +10,7 @@ pub struct Admitted<'a> {
     /// Its attribute functions, with the stream's words that they and all processes are in.
     pub functions: Functions<'a>,
     /// The tables that declare it: an array and no slice, so that the compiler knows their number, and no recursion keeps it in its frames.
-    pub tables: &'a [u32; 500],
+    pub tables: &'a [u32; TABLES],
     pub ghost labels_counted: { functions.width ≡ 3 + get_or tables.now 17 0 },
     pub ghost functions_counted: { functions.count ≡ get_or tables.now 210 0 },
     pub ghost few_cells: { functions.cells ≤ 1024 },
@@ -30,7 +31,7 @@ impl<'a> Admitted<'a> {
     // Stays: what is asked are the facts of the fields that are made here and in `Functions`; from then on they are asked of no function.
     pub fn of(
         words: &'a [u16],
-        tables: &'a [u32; 500],
+        tables: &'a [u32; TABLES],
         directory: &'a [u32],
         cells: usize,
     ) -> Admitted<'a>

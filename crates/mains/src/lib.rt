@@ -5,14 +5,15 @@
 #![tactic(auto)]
 
 ghost use Rattle.std.specs.Prelude.{◌≡◌, ◌≤◌, length};
-ghost use Rattle.mains.specs.Mains.{Padded, Finished};
+ghost use Rattle.mains.specs.Mains.{Padded, Finished, totals};
 ghost use Rattle.mains.specs.Starts.{CourseBare, CourseMasked, CourseMain};
 
 use admitted::Course;
 use cells::{load, save};
-use runs::run_moves;
+use expressions::store;
 use runs::scratch::Scratch;
 use runs::shared::run_shared;
+use runs::{Tally, run_moves};
 use scan::front;
 use sharing::beginning::part_word;
 use sharing::expanding::expand;
@@ -24,7 +25,7 @@ use writing::put_words;
 pub mod admitted;
 
 // The last term's size in words, and how many numbers took a visible move, took an internal one, or were refused.
-// Stays beside runs' Tally, whose size is a place in an array (usize): C hosts get this one, which has 32 bits (`Ran` of cabinet).
+// Stays beside runs' Tally, whose size is a place in an array (usize): here it has 32 bits, as a size has in every other answer.
 #[derive(Clone, Copy, Default)]
 pub struct Totals {
     pub size: u32,
@@ -45,31 +46,37 @@ fn pad(ws: &mut [u16], from: usize, to: usize)
     ws[from..to].fill(0);
 }
 
-// The first words, zeros up to main's reach, and the c cells of the store, written into the lent buffers.
+// The end of a run: as many words as the tally says, zeros after them up to main's reach, and the cells of the store, written into the lent buffers; and the
+// tally as it is told.
 // Stays, here and in the functions after it: the term, the memory and the spare buffer are lent apart, and so are the words and the store: memory
-// is fixed and there is no heap, and each is a different thing. A struct of the three buffers: each contract would have to say that its
-// references stay the same (`ghost_name`), and read what they leave as `exit.0`, `exit.1.0` and so on, which is no plainer.
+// is fixed and there is no heap, and each is a different thing. Main is read back from the spare buffer, and of a buffer in a lent struct, as engine's `Next`
+// is, a check knows no more than its length once it was lent to be read.
 fn finish(
+    course: &Course,
     ws: &mut [u16],
-    size: usize,
-    reach: usize,
+    tally: Tally,
     m: &[u16],
-    c: usize,
     term: &mut [u8],
     memory: &mut [u8],
-)
-    ensures { Finished ws.old size reach m.now c term.old memory.old term.new memory.new }
+) -> Totals
+    ensures written { Finished ws.old tally.size course.now.reach m.now course.now.rules.functions.cells term.old memory.old term.new memory.new }
+    ensures told { result ≡ totals tally }
 {
-    pad(ws, size, reach);
+    let reach = course.reach;
+    pad(ws, tally.size, reach);
     put_words(front(ws, reach), term);
-    save(m, memory, c);
+    save(m, memory, course.rules.functions.cells);
+    Totals {
+        size: (tally.size % 4294967296) as u32,
+        visible: tally.visible,
+        internal: tally.internal,
+        refused: tally.refused,
+    }
 }
 
 // From the words of main's unfolding, which has no masks, and the cells of the start: at first the term is the whole of it, and the last
 // one is written out in full.
-// Stays: the answer of `expand` is one number, measured in sharing (expanding.rt), which is taken apart here.
-// Stays field by field, here and in run_masked: the three counts are a tally's and the size is another number, and a function for both places would have a
-// contract as long as these lines. Stays: that u has at most 65,503 words is what sharing asks.
+// Stays: that u has at most 65,503 words is what sharing asks.
 fn run_bare(
     course: &Course,
     u: &[u16],
@@ -89,22 +96,10 @@ fn run_bare(
     d[0] = part_word(u);
     let functions = &course.rules.functions;
     let r = run_shared(course.numbers, functions, u, 1, d, m, scratch);
-    let q = expand(u, front(d, r.size), scratch.mid, 0);
-    finish(
-        scratch.mid,
-        q / 65536,
-        course.reach,
-        m,
-        functions.cells,
-        term,
-        memory,
-    );
-    Totals {
-        size: (q / 65536 % 4294967296) as u32,
-        visible: r.visible,
-        internal: r.internal,
-        refused: r.refused,
-    }
+    // never None: there is room for main's reach
+    let end = expand(u, front(d, r.size), scratch.mid, 0).map_or(0, |last| last.end);
+    let last = Tally { size: end, ..r };
+    finish(course, scratch.mid, last, m, term, memory)
 }
 
 // With masks, or with operands too deep to be shared, the term is held in its own words.
@@ -125,13 +120,7 @@ fn run_masked(
 {
     let functions = &course.rules.functions;
     let r = run_moves(course.numbers, functions, n, ws, m, spare, scratch);
-    finish(ws, r.size, course.reach, m, functions.cells, term, memory);
-    Totals {
-        size: (r.size % 4294967296) as u32,
-        visible: r.visible,
-        internal: r.internal,
-        refused: r.refused,
-    }
+    finish(course, ws, r, m, term, memory)
 }
 
 // Main's unfolding and the cells of the start, then all numbers, in lent words with room for main's reach; every other array is as long.
@@ -151,7 +140,7 @@ fn run_words(
     let tables = rules.tables;
     let n = unfold_main(rules.functions.words, tables, spare);
     load(spare, ws, 0, n);
-    let mut m = [0u16; 2084];
+    let mut m = [0u16; store::WORDS];
     start_store(&rules.functions, &mut m);
     if shareable(front(ws, n)) {
         return run_bare(course, front(ws, n), d, &mut m, scratch, term, memory);

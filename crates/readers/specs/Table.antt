@@ -2,6 +2,8 @@
 use Rattle.std.specs.Prelude.{ℕ, zero, suc, ◌+◌, ◌*◌, ◌%◌, ◌<◌, List, [], ◌∷◌, ◌++◌, get_or, slice_index, slice_index_or, slice_set}
 use Rattle.eb3.specs.TransitionSystems.{Outcome, took_visible, took_internal, refused}
 use Rattle.readers.specs.declared.Counts.{Counts}
+use Rattle.readers.specs.declared.Outcome.{Outcome as Counted}
+use Rattle.readers.specs.declared.Outcome.TheVariants.{Visible, Internal, Refused}
 
 abbrev pub none : Counts
 none = record { visible = 0; internal = 0; refused = 0 }
@@ -43,6 +45,12 @@ numbers (suc n) t = numbers n t ++ ((get_or t n none).visible ∷ (get_or t n no
 -- One more of an outcome at a reader, both from 0, modulo 4,294,967,296.
 unfoldable pub one_more : List ℕ → ℕ → ℕ → List ℕ
 one_more ns reader outcome = slice_set ns (3 * reader + outcome) ((slice_index ns (3 * reader + outcome) + 1) % 4294967296)
+
+-- The place of an outcome's count in a record, as a run counts it and as the specification has it.
+abbrev pub place_of : Counted → ℕ
+place_of Visible = 0
+place_of Internal = 1
+place_of Refused = 2
 
 abbrev pub outcome_place : Outcome → ℕ
 outcome_place took_visible = 0

@@ -6,7 +6,7 @@ ghost use Rattle.std.specs.Prelude.{◌≡◌, ℕ, ◌+◌, ◌*◌, ◌%◌, �
 ghost use Rattle.eb3.specs.Bytes.{words_in};
 ghost use Rattle.readers.specs.Readers.{doubles_in};
 ghost use Rattle.readers.specs.Readers.{increased};
-ghost use Rattle.readers.specs.Table.{none, Of32Bits, plus as sums, added_to, counts_at, added_first, records, one_more};
+ghost use Rattle.readers.specs.Table.{none, Of32Bits, plus as sums, added_to, counts_at, added_first, records, place_of, one_more};
 ghost use Rattle.readers.specs.Placing.{put_number, put_record, put_first};
 
 pub mod list;
@@ -51,15 +51,35 @@ pub fn add_in(mut table: [Counts; 32], reader: usize, more: Counts) -> [Counts; 
 
 // ── what a run counts: three numbers a reader, in the order of a record ──
 
-// One more of an outcome at a reader, both from 0.
-// Stays, here and below: a slice with its length as a fact, since it is public, and what is public asks no more of its callers. So it is with the
-// outcome, which is the place of a number in a record.
+// What a number did.
+#[derive(Clone, Copy)]
+pub enum Outcome {
+    Visible,
+    Internal,
+    Refused,
+}
+
+impl Outcome {
+    // The place of its count in a record.
+    fn place(self) -> usize
+        ensures { (result ≡ place_of self) × (result < 3) }
+    {
+        match self {
+            Outcome::Visible => 0,
+            Outcome::Internal => 1,
+            Outcome::Refused => 2,
+        }
+    }
+}
+
+// One more of an outcome at a reader; readers are counted from 0.
+// Stays, here and below: a slice with its length as a fact, since it is public, and what is public asks no more of its callers.
 // Stays, here and below: that what is lent keeps its length is a fact of what it was and what it is then, which no field of a struct holds.
-pub fn count_one(counted: &mut [u32], reader: usize, outcome: usize)
-    requires { (reader < 32) × (outcome < 3) × (length counted.old ≡ 96) }
-    ensures { (counted.new ≡ one_more counted.old reader outcome) × (length counted.new ≡ length counted.old) }
+pub fn count_one(counted: &mut [u32], reader: usize, outcome: Outcome)
+    requires { (reader < 32) × (length counted.old ≡ 96) }
+    ensures { (counted.new ≡ one_more counted.old reader (place_of outcome)) × (length counted.new ≡ length counted.old) }
 {
-    let at = 3 * reader + outcome;
+    let at = 3 * reader + outcome.place();
     counted[at] = counted[at].wrapping_add(1);
 }
 
@@ -109,7 +129,8 @@ fn read_number(table: &[u8], i: usize) -> u32
     u32::from_le_bytes([table[at], table[at + 1], table[at + 2], table[at + 3]])
 }
 
-// Stays beside counts_at: this reads the bytes of a host, that one the numbers that a run has counted.
+// Stays beside counts_at: one function for both would be lent a closure that reads number i, of a host's bytes or of what a run has counted, and what each
+// closure answers would have to be a clause: more than three fields.
 fn read_record(table: &[u8], reader: usize) -> Counts
     requires { (reader < 32) × (384 ≤ length table.now) }
     ensures { result ≡ counts_at (doubles_in (words_in table.now)) reader }

@@ -1,24 +1,18 @@
 // Run's list (document 02, K1): each number is followed by a word, its reader. Refusal 13's test of it.
-ghost use Rattle.std.specs.Prelude.{◌≡◌, ◌+◌, ◌*◌, ◌%◌, ◌<◌, ◌≤◌, length, slice_index};
+ghost use Rattle.std.specs.Prelude.{◌≡◌, ◌+◌, ◌%◌, ◌<◌};
 ghost use Rattle.eb3.specs.Bytes.{words_in};
 ghost use Rattle.readers.specs.Readers.{all_read, reader? as is_reader, lets_through};
 
-// Word i of a list.
-// Stays a usize with its bound as a fact, here and in `place`: both are public, and what is public keeps its promise.
-pub fn word_at(list: &[u8], i: usize) -> usize
-    requires { 2 * i + 2 ≤ length list.now }
-    ensures { (result ≡ slice_index (words_in list.now) i) × (result < 65536) }
-{
-    u16::from_le_bytes([list[2 * i], list[2 * i + 1]]) as usize
-}
+use scan::word_at;
 
-fn is_reader(r: usize) -> bool
+fn is_reader(r: u16) -> bool
     ensures { result ≡ is_reader r }
 {
     (1..=32).contains(&r)
 }
 
 // Readers from 1, records from 0. Of a word that is no reader, some record; such a list is never counted.
+// Stays a usize with its bound as a clause: a rule of the project, a public function keeps its promise.
 pub fn place(r: usize) -> usize
     requires { r < 65536 }
     ensures { (result ≡ (r + 31) % 32) × (result < 32) }

@@ -7,37 +7,24 @@ ghost use Rattle.refusals.specs.Numbers.{number};
 
 #[derive(Clone, Copy, Debug, PartialEq, Eq)]
 pub enum Refusal {
-    Length,
-    Block,
-    Edition,
-    Form,
-    Reference,
-    Kind,
-    Size,
-    Breadth,
-    Space,
-    Term,
-    Stranger,
-    NotOffered,
+    Length = 1,
+    Block = 2,
+    Edition = 3,
+    Form = 4,
+    Reference = 5,
+    Kind = 6,
+    Size = 7,
+    Breadth = 8,
+    Space = 9,
+    Term = 10,
+    Stranger = 11,
+    NotOffered = 12,
 }
 
 impl From<Refusal> for u32 {
     ghost from_gives = { λ r k. k ≡ number r };
 
     fn from(refusal: Refusal) -> u32 {
-        match refusal {
-            Refusal::Length => 1,
-            Refusal::Block => 2,
-            Refusal::Edition => 3,
-            Refusal::Form => 4,
-            Refusal::Reference => 5,
-            Refusal::Kind => 6,
-            Refusal::Size => 7,
-            Refusal::Breadth => 8,
-            Refusal::Space => 9,
-            Refusal::Term => 10,
-            Refusal::Stranger => 11,
-            Refusal::NotOffered => 12,
-        }
+        refusal as u32
     }
 }

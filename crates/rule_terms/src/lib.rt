@@ -2,7 +2,7 @@
 // item 5; "Unfolding, size and breadth").
 #![tactic(auto)]
 
-ghost use Rattle.std.specs.Prelude.{◌≡◌, Bool, ◌-◌, ◌≤◌, ◌<◌, drop, get_or, length};
+ghost use Rattle.std.specs.Prelude.{◌≡◌, Bool, ◌-◌, ◌<◌, get_or, length};
 ghost use Rattle.eb3.specs.RuleSets.{attributes};
 ghost use Rattle.eb3.specs.Scopes.{guard_scope};
 ghost use Rattle.eb3.specs.Reading.{both};
@@ -26,8 +26,8 @@ use code_numbers::{
 use grammar::{Scope, check_cond};
 use refusals::Refusal;
 use scan::repeats::leading;
-use scan::{behind, first, last, number};
-use weights::{Joint, Weight, choices, empty, guard, joined, narrow, parallels, single, stars};
+use scan::{after, behind, first, last, number};
+use weights::{Joint, Weight, empty, guard, joined, single, stars};
 
 // The most variables in scope: a process's parameters, and one for each quantifier around.
 const VARIABLES: usize = 8;
@@ -75,7 +75,7 @@ fn action(t: &[u16], context: &Context) -> Result<Weighed, Refusal>
     let left = check_arguments(last(t, n), context.tables, context.variables, ds)?;
     Ok(Weighed {
         left,
-        weight: single(2 + 2 * narrow(ds.len())),
+        weight: single(2 + 2 * ds.len() as u64),
     })
 }
 
@@ -154,7 +154,7 @@ fn guarded(t: &[u16], context: &Context) -> Result<Weighed, Refusal>
     let a = operand(last(t, n), context)?;
     Ok(Weighed {
         left: a.left,
-        weight: guard(narrow(t.len().saturating_sub(n)), a.weight),
+        weight: guard(t.len().saturating_sub(n) as u64, a.weight),
     })
 }
 
@@ -172,13 +172,13 @@ fn mask_if(over: Quantifier, t: &[u16], tb: &[u32]) -> Result<usize, Refusal>
 
 // Copies of a term of that weight, n of them.
 // Stays: whether the mask is zero is a Bool, as in `weights`, whose line says why.
-#[tactic(auto, unfolding(crate::specs::Weighed::copies_of))]
+#[tactic(auto, unfolding(crate::specs::Weighed::copies_of, weights::specs::Weighing::joint_of))]
 fn copied(over: Quantifier, n: usize, zero: bool, a: Weight) -> Weight
     ensures { measure result ≡ copies_of over zero n (measure a) }
 {
     match over {
-        Quantifier::Choice => choices(n, a),
-        Quantifier::Parallel => parallels(n, zero, a),
+        Quantifier::Choice => weights::copies(Joint::Choice, n, a),
+        Quantifier::Parallel => weights::copies(Joint::Parallel(zero), n, a),
     }
 }
 
@@ -216,15 +216,6 @@ fn quantified(t: &[u16], context: &Context, over: Quantifier) -> Result<Weighed,
 }
 
 // ── any term ──
-
-// The words after the first k.
-// Stays with k: this is what makes a slice of the words after.
-fn beyond(s: &[u16], k: usize) -> &[u16]
-    requires { k ≤ length s.now }
-    ensures { result.now ≡ drop k s.now }
-{
-    &s[k..]
-}
 
 // A term that is no star.
 #[cycle(terms)]
@@ -272,7 +263,7 @@ pub fn check_term(s: &[u16], context: &Context) -> Result<Weighed, Refusal>
     ensures { result ≡ weighed (declared context.now.tables.now) (callee context.now.tables.now) (read_rule_term (declared context.now.tables.now) context.now.variables.now s.now) }
 {
     let k = leading(s, STAR);
-    let a = check_plain(beyond(s, k), context)?;
+    let a = check_plain(after(s, k), context)?;
     Ok(Weighed {
         left: a.left,
         weight: stars(k, a.weight),

@@ -1,5 +1,4 @@
 -- The memory machine run by a list of numbers (document 01, "Memory and the history machine"; "Operations": Run).
-pub mod Arrays
 pub mod Scratch
 pub mod ScratchLaws
 pub mod Running

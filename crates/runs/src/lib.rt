@@ -4,17 +4,20 @@
 // Stays: that words are at most 65,535 is a clause of each function here, for the reason in successors (docs/DESIGN-PASS.md, "A struct for words").
 #![tactic(auto)]
 
-ghost use Rattle.std.specs.Prelude.{◌≡◌, ◌+◌, ◌*◌, ◌≤◌, ◌<◌, length, get_or};
-ghost use Rattle.eb3.specs.Bytes.{words_in};
-ghost use Rattle.runs.specs.Arrays.{SameArrays};
+ghost use Rattle.std.specs.Prelude.{◌≡◌, ◌+◌, ◌≤◌, ◌<◌, length};
+ghost use Rattle.derivation.specs.Arrays.{SameArrays};
 ghost use Rattle.runs.specs.Running.{StepsOnce, counted, Runs};
 
-pub mod scratch;
 pub mod shared;
 
+// The arrays that a run works in, under the name that callers know.
+pub mod scratch {
+    pub use derivation::Scratch;
+}
+
 use cells::{Functions, load};
-use scan::front;
-use scratch::Scratch;
+use derivation::Scratch;
+use scan::{front, word_at};
 use steps::moving::take_move_in;
 use steps::renewing::renew;
 
@@ -32,16 +35,6 @@ pub struct Tally {
     pub visible: u64,
     pub internal: u64,
     pub refused: u64,
-}
-
-// Number i of a list.
-// Stays: from_le_bytes is the generic function, here and in blocks, cells, readers and session; this names it, so that a contract says once what it gives.
-// Stays a usize with its bound as a fact, since it is the number of a move, which all below take as a usize.
-fn number_at(numbers: &[u8], i: usize) -> usize
-    requires { 2 * i + 2 ≤ length numbers.now }
-    ensures { (result ≡ get_or (words_in numbers.now) i 0) × (result < 65536) }
-{
-    usize::from(u16::from_le_bytes([numbers[2 * i], numbers[2 * i + 1]]))
 }
 
 // Move k of the term in the first n words: its successor is built in lent bytes and put in the term's place, the cells are renewed.
@@ -63,7 +56,7 @@ fn step_once(
     ensures arrays { SameArrays scratch.old scratch.new }
     ensures stepped { StepsOnce functions.now.words.now functions.now.directory.now functions.now.width functions.now.count functions.now.cells n k ws.old m.old out.old scratch.old.path.now ws.new m.new out.new result }
 {
-    let taken = take_move_in(front(ws, n), m, k, scratch.path, scratch.acts, out)?;
+    let taken = take_move_in(front(ws, n), m, k, scratch, out)?;
     renew(functions, m, taken.action);
     load(out, ws, 0, taken.size);
     if 0 < taken.action {
@@ -120,7 +113,7 @@ pub fn run_moves(
         ..Tally::default()
     };
     for i in 0..numbers.len() / 2 {
-        let k = number_at(numbers, i);
+        let k = usize::from(word_at(numbers, i));
         let done = step_once(functions, tally.size, k, ws, m, out, scratch);
         tally = counted(tally, done);
     }

@@ -2,13 +2,13 @@
 // machine"; "Operations": Run). A number costs the parts before its move, and a few words written.
 // Stays: that words are at most 65,535 is a clause of each function here, for the reason in successors (docs/DESIGN-PASS.md, "A struct for words").
 ghost use Rattle.std.specs.Prelude.{◌≡◌, ◌≤◌, ◌<◌, length};
-ghost use Rattle.runs.specs.Arrays.{SameArrays};
+ghost use Rattle.derivation.specs.Arrays.{SameArrays};
 ghost use Rattle.runs.specs.Sharing.{StepsShared, RunsShared};
 
-use super::scratch::Scratch;
-use super::{Done, Tally, counted, number_at};
+use super::{Done, Tally, counted};
 use cells::Functions;
-use derivation::PASSED;
+use derivation::{PASSED, Scratch};
+use scan::word_at;
 use sharing::step;
 use steps::renewing::renew;
 
@@ -31,7 +31,7 @@ fn step_shared(
     ensures arrays { SameArrays scratch.old scratch.new }
     ensures stepped { StepsShared functions.now.words.now functions.now.directory.now functions.now.width functions.now.count functions.now.cells u.now n k d.old m.old (length scratch.old.path.now) (length scratch.old.acts.now) (length scratch.old.mid.now) d.new m.new result }
 {
-    let r = step(u, d, n, m, k, scratch.path, scratch.acts, scratch.mid);
+    let r = step(u, d, n, m, k, scratch);
     if PASSED <= r {
         return None;
     }
@@ -45,7 +45,9 @@ fn step_shared(
 
 // From the shared term in the first n words of d and the cells in the store, by all numbers of the list; an odd last byte is ignored.
 // Stays: this is the loop of run_moves around another step. A step lent as a closure would have to be callable in every state of the arrays that it borrows
-// and writes, so their lengths would be in the contract once more, and that contract would be longer than these four lines; the proofs share theirs.
+// and writes, so their lengths would be in the contract once more, and that contract would be longer than these four lines; the proofs share theirs. A trait
+// with a method `step`, for two structs that borrow the arrays: what a step does would be a ghost member, and the run's contract would be of that member. Both
+// runs would then have to say again what it is, and that each array stays the same (`ghost_name`), which is more than the four lines, too.
 pub fn run_shared(
     numbers: &[u8],
     functions: &Functions,
@@ -66,7 +68,7 @@ pub fn run_shared(
         ..Tally::default()
     };
     for i in 0..numbers.len() / 2 {
-        let k = number_at(numbers, i);
+        let k = usize::from(word_at(numbers, i));
         let done = step_shared(functions, u, tally.size, k, d, m, scratch);
         tally = counted(tally, done);
     }

@@ -2,7 +2,8 @@
 // (document 01, "Operations": 4, 5 and 6 by the first offending word of the stream).
 #![tactic(auto)]
 
-ghost use Rattle.std.specs.Prelude.{◌≡◌, ℕ, ◌<◌, ◌≤◌, List, drop, get_or, length, take};
+ghost use Rattle.std.specs.Prelude.{◌≡◌, ℕ, ◌+◌, ◌*◌, ◌<◌, ◌≤◌, List, drop, get_or, length, take};
+ghost use Rattle.eb3.specs.Bytes.{words_in};
 ghost use Rattle.eb3.specs.Reading.{number_of, count_of};
 ghost use Rattle.refusals.specs.Numbers.{number};
 ghost use Rattle.scan.specs.Checking.{checked, last_of, number_or};
@@ -12,7 +13,7 @@ pub mod repeats;
 use refusals::Refusal;
 
 // A word as a number.
-// Stays: it is public, and what is public keeps its promise, though no crate here calls it any more; today's form is a cast in place.
+// Stays, though no crate here calls it any more and today's form is a cast in place: a rule of the project, a public function keeps its promise.
 pub fn wide(x: u16) -> usize
     ensures { (result ≡ x) × (result < 65536) }
 {
@@ -20,7 +21,7 @@ pub fn wide(x: u16) -> usize
 }
 
 // The first word, or 0 where there is none.
-// Stays a usize with its bound as a fact: it is public, and what is public keeps its promise.
+// Stays a usize with its bound as a fact: a rule of the project, a public function keeps its promise.
 pub fn first(s: &[u16]) -> usize
     ensures { (result ≡ get_or s.now 0 0) × (result < 65536) }
 {
@@ -28,7 +29,7 @@ pub fn first(s: &[u16]) -> usize
 }
 
 // The last n words; all of them where there are fewer.
-// Stays with n, and so does `front`: this is what makes a slice of that many words.
+// Stays with n, and so do `front` and `after`: this is what makes a slice of that many words.
 #[tactic(auto, using(crate::specs::Laws::part), unfolding(crate::specs::Checking::last_of))]
 pub fn last(s: &[u16], n: usize) -> &[u16]
     ensures { result.now ≡ last_of n s.now }
@@ -36,18 +37,33 @@ pub fn last(s: &[u16], n: usize) -> &[u16]
     &s[s.len().saturating_sub(n)..]
 }
 
-// The first n words; all of them where there are fewer.
-pub fn front(s: &[u16], n: usize) -> &[u16]
+// The first n items; all of them where there are fewer.
+pub fn front<T>(s: &[T], n: usize) -> &[T]
     ensures { result.now ≡ take n s.now }
 {
     &s[..n.min(s.len())]
+}
+
+// The words after the first k; none where there are fewer.
+pub fn after(s: &[u16], k: usize) -> &[u16]
+    ensures { result.now ≡ drop k s.now }
+{
+    &s[k.min(s.len())..]
 }
 
 // The words after the first.
 pub fn behind(s: &[u16]) -> &[u16]
     ensures { result.now ≡ drop 1 s.now }
 {
-    &s[s.len().min(1)..]
+    after(s, 1)
+}
+
+// Word i of bytes, the low byte first.
+pub fn word_at(bytes: &[u8], i: usize) -> u16
+    requires { 2 * i + 2 ≤ length bytes.now }
+    ensures { result ≡ get_or (words_in bytes.now) i 0 }
+{
+    u16::from_le_bytes([bytes[2 * i], bytes[2 * i + 1]])
 }
 
 // One number below a limit; the first error where there is no word, and the second where the number is not below.

@@ -2,6 +2,7 @@
 ghost use Rattle.std.specs.Prelude.{◌≡◌, ◌*◌, ◌≤◌, length, take};
 ghost use Rattle.session.specs.Reading.{blocks_read};
 
+use scan::word_at;
 use std::io::{Read, Stdin};
 
 // Reads until the buffer is full, the input ends or a read fails, and answers how many bytes it put at the buffer's start. A failed
@@ -41,7 +42,7 @@ pub fn read_rules<'a>(input: &mut Stdin, file: &'a mut [u8; 32768]) -> &'a [u8]
     if first < 512 {
         return &file[..first];
     }
-    let end = rules_length(u16::from_le_bytes([file[6], file[7]]));
+    let end = rules_length(word_at(file, 3));
     let rest = read_full(input, &mut file[512..end]);
     &file[..512 + rest]
 }

@@ -7,7 +7,8 @@ use std::fmt::{self, Display, Formatter};
 use std::io::{self, Stdout, Write};
 
 // The bytes of which the first `used` wait, and where they go.
-// Stays: std's BufWriter would do this, but it takes its buffer from the heap, and this program has no heap.
+// Stays: std's BufWriter would do this, but it takes its buffer from the heap, and so may not get it: the program would have one more way to fail, for a
+// buffer whose size is fixed.
 #[derive(Drop)]
 pub struct Page {
     bytes: [u8; 4096],

@@ -12,50 +12,38 @@ use admission::admit;
 use input::{read_number, read_rules};
 use lines::{Page, Refused, print_refusal};
 use positions::Position;
-use states::print_state;
+use states::Session;
 use std::io::{self, Stdin, Write};
 use std::mem;
 
-// The move of number k from here into the next position, and its choice line. Answers whether the move was taken.
-fn choose(
-    page: &mut Page,
-    k: u16,
-    rules: &[u8],
-    here: &Position,
-    next: &mut Position,
-) -> io::Result<bool> {
-    write!(page, "choice {k}")?;
-    let made = here.step(rules, k as usize, next);
-    if let Err(refusal) = made {
-        write!(page, " {}", Refused(refusal))?;
-    }
-    page.end_line()?;
-    Ok(made.is_ok())
-}
-
-// The numbers, one by one, each with its choice line; with each move taken the two positions change places, and the state is printed.
-// Stays a `for` over a range, which only says that the loop ends (no input is as long): nothing gets smaller that a `while let` could end by.
-fn play(
-    input: &mut Stdin,
-    page: &mut Page,
-    rules: &[u8],
-    first: &mut Position,
-    second: &mut Position,
-) -> io::Result<()> {
-    let mut here = first;
-    let mut next = second;
-    let mut taken = 0;
-    for _turn in 0..u64::MAX {
-        let Some(k) = read_number(input) else {
-            return Ok(());
-        };
-        if choose(page, k, rules, here, next)? {
-            mem::swap(&mut here, &mut next);
-            taken += 1;
-            print_state(page, taken, rules, here, next)?;
+impl Session<'_> {
+    // The move of number k from here into the next position, and its choice line. Answers whether the move was taken.
+    fn choose(&mut self, k: u16) -> io::Result<bool> {
+        write!(self.page, "choice {k}")?;
+        let made = self.here.step(self.rules, k as usize, self.next);
+        if let Err(refusal) = made {
+            write!(self.page, " {}", Refused(refusal))?;
         }
+        self.page.end_line()?;
+        Ok(made.is_ok())
     }
-    Ok(())
+
+    // The numbers, one by one, each with its choice line; with each move taken the two positions change places, and the state is printed.
+    // Stays a `for` over a range, which only says that the loop ends (no input is as long): nothing gets smaller that a `while let` could end by.
+    fn play(&mut self, input: &mut Stdin) -> io::Result<()> {
+        let mut taken = 0;
+        for _turn in 0..u64::MAX {
+            let Some(k) = read_number(input) else {
+                return Ok(());
+            };
+            if self.choose(k)? {
+                mem::swap(&mut self.here, &mut self.next);
+                taken += 1;
+                self.print_state(taken)?;
+            }
+        }
+        Ok(())
+    }
 }
 
 // The session of an admitted rule set with this number of cells.
@@ -65,8 +53,14 @@ fn begin(input: &mut Stdin, page: &mut Page, rules: &[u8], cells: u32) -> io::Re
     if let Err(refusal) = here.start(rules) {
         return print_refusal(page, refusal);
     }
-    print_state(page, 0, rules, &here, &mut next)?;
-    play(input, page, rules, &mut here, &mut next)
+    let mut session = Session {
+        page,
+        rules,
+        here: &mut here,
+        next: &mut next,
+    };
+    session.print_state(0)?;
+    session.play(input)
 }
 
 // The program ends where nothing more can be printed, as where the input ends.

@@ -1,5 +1,5 @@
 // A term and a memory between two moves of a session, in buffers for the largest sizes that are reported (document 01, "Examples").
-ghost use Rattle.std.specs.Prelude.{◌≡◌, ◌*◌, take, Ok, Err, IfOk, IfErr, OnOk};
+ghost use Rattle.std.specs.Prelude.{◌≡◌, Ok, Err, IfOk, IfErr, OnOk};
 ghost use Rattle.engine.specs.Starting.{StartDone};
 ghost use Rattle.session.specs.Positions.{term_of, memory_of};
 
@@ -7,23 +7,17 @@ use engine::counting::count;
 use engine::starting::start;
 use engine::stepping::{Step, make_move};
 use refusals::Refusal;
+use scan::front;
 
 // The words of the term and the cells of the memory are at the start of the buffers.
-// Stays: two Vecs would keep their lengths, but this program has no heap.
+// Stays: two Vecs would keep their lengths, but the engine writes into buffers with room for the largest sizes and tells the size then: each Vec would be cut
+// after a move and filled up again before the next, and so the length would be kept no better than here.
 #[derive(Drop)]
 pub struct Position {
     term: [u8; 16384],
     words: u32,
     memory: [u8; 2048],
     cells: u32,
-}
-
-// The first words of a buffer, of this number, or all of it where it has fewer.
-fn cut(buffer: &[u8], words: u32) -> &[u8]
-    ensures { result.now ≡ take (2 * words) buffer.now }
-{
-    let end = 2 * words as usize;
-    &buffer[..end.min(buffer.len())]
 }
 
 impl Position {
@@ -43,13 +37,13 @@ impl Position {
     fn term(&self) -> &[u8]
         ensures { result.now ≡ term_of self.now }
     {
-        cut(&self.term, self.words)
+        front(&self.term, 2 * self.words as usize)
     }
 
     pub fn memory(&self) -> &[u8]
         ensures { result.now ≡ memory_of self.now }
     {
-        cut(&self.memory, self.cells)
+        front(&self.memory, 2 * self.cells as usize)
     }
 
     // The start of a rule set takes the place of what stood here.

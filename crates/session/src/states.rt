@@ -52,30 +52,35 @@ impl Display for Action {
     }
 }
 
-// Prints the state at a position, after the moves taken. The other position takes the successors that Move writes on the way. That the
-// position, or a move below the count, is refused does not occur.
-pub fn print_state(
-    page: &mut Page,
-    taken: u64,
-    rules: &[u8],
-    here: &Position,
-    other: &mut Position,
-) -> io::Result<()> {
-    let moves = match here.count(rules) {
-        Ok(moves) => moves,
-        Err(refusal) => return print_refusal(page, refusal),
-    };
-    write!(
-        page,
-        "state {taken} moves {moves} cells{}",
-        Cells(here.memory()),
-    )?;
-    for k in 0..moves {
-        write!(page, "\n{k}")?;
-        match here.step(rules, k as usize, other) {
-            Ok(step) => write!(page, "{}", Action(step.action))?,
-            Err(refusal) => write!(page, " {}", Refused(refusal))?,
+/// A rule set, the position where its session stands, another that the successors are written into, and the page that all is printed on.
+#[derive(Drop)]
+pub struct Session<'a> {
+    pub page: &'a mut Page,
+    pub rules: &'a [u8],
+    pub here: &'a mut Position,
+    pub next: &'a mut Position,
+}
+
+impl Session<'_> {
+    // Prints the state where the session stands, after the moves taken. The next position takes the successors that Move writes on the way. That the
+    // position, or a move below the count, is refused does not occur.
+    pub fn print_state(&mut self, taken: u64) -> io::Result<()> {
+        let moves = match self.here.count(self.rules) {
+            Ok(moves) => moves,
+            Err(refusal) => return print_refusal(self.page, refusal),
+        };
+        write!(
+            self.page,
+            "state {taken} moves {moves} cells{}",
+            Cells(self.here.memory()),
+        )?;
+        for k in 0..moves {
+            write!(self.page, "\n{k}")?;
+            match self.here.step(self.rules, k as usize, self.next) {
+                Ok(step) => write!(self.page, "{}", Action(step.action))?,
+                Err(refusal) => write!(self.page, " {}", Refused(refusal))?,
+            }
         }
+        self.page.end_line()
     }
-    page.end_line()
 }

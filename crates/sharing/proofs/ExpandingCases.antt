@@ -2,7 +2,7 @@
 -- writes the last term).
 use mathlib.Core.Path.{◌≡◌, refl, sym, ap, ◌∙◌, subst}
 use mathlib.Core.List.{List, [], ◌∷◌, ◌++◌}
-use Prim.Native.Nat.{ℕ, ◌+◌, ◌-◌, ◌*◌, ◌/◌, ◌%◌, ◌≤◌, ◌<◌}
+use Prim.Native.Nat.{ℕ, ◌+◌, ◌-◌, ◌≤◌, ◌<◌}
 use native.Mathlib.Omega.{arith}
 use lib.ListN.{length, take, drop, set, get_or, length-append, length-set}
 use lib.Seq.{take_at, length-take-le}
@@ -12,7 +12,7 @@ use Rattle.eb3.specs.Spelling.{words}
 use Rattle.scan.specs.Checking.{last_of}
 use Rattle.expressions.specs.Answering.{answer}
 use Rattle.listing.specs.Listing.{TermAt}
-use Rattle.listing.specs.Operands.{answer_is, answered_left, answered_count, front_form}
+use Rattle.listing.specs.Operands.{answer_is, front_form}
 use Rattle.sharing.specs.Shared.{Shared, Ended, Part, Then, Beside, term_of, part_word, shared_words, PartAt, Stands}
 use Rattle.sharing.specs.Beginning.{put_at}
 use Rattle.sharing.specs.Splicing.{Expanded, PartExpanded, DoneExpanded}
@@ -31,9 +31,6 @@ words_some (Star E) = omega arith
 words_some (Parallel Δ E F) = omega arith
 words_some (Guard C E) = omega arith
 
-pub part_none : (u entry : List ℕ) (w left at : ℕ) → ((P : Scope) (l : ℕ) (E : Term) → w ≡ part_word l → PartAt u P l E → at + length (words 1 E) ≤ length entry → ⊥) → PartExpanded u w left at entry entry 0
-part_none u entry w left at never = record { same_length = refl; right = λ P l E e p h. absurd (never P l E e p h) }
-
 -- e is what stands at the part's place, and k words are left behind it.
 module _ (u e : List ℕ) (w k : ℕ) (high : 32 ≤ w) (is : e ≡ last_of (w - 32) u) (skipped : (k ≤ length e) × ((P : Scope) (E : Term) (rest : List ℕ) → TermAt e P E rest → k ≡ length rest)) where
   module _ (P : Scope) (l : ℕ) (E : Term) (q : w ≡ part_word l) (p : PartAt u P l E) where
@@ -48,25 +45,22 @@ module _ (u e : List ℕ) (w k : ℕ) (high : 32 ≤ w) (is : e ≡ last_of (w -
     part_words : take (length e - k) e ≡ words 1 E
     part_words = ap (take (length e - k)) there.spelled ∙ take_at (words 1 E) p.rest (length e - k) (sym part_count)
 
-  pub part_no_room : (entry : List ℕ) (left at : ℕ) → at ≤ length entry → length entry - at < length e - k → PartExpanded u w left at entry entry 0
-  part_no_room entry left at h m = part_none u entry w left at (λ P l E q p room. omega (arith, part_count P l E q p))
-
   pub part_made : (entry exit x : List ℕ) (left at : ℕ) → at ≤ length entry → length e - k ≤ length entry - at → x ≡ take (length e - k) e → exit ≡ put_at at x entry
-      → PartExpanded u w left at entry exit (left + 65536 * (at + (length e - k)))
+      → PartExpanded u w left at entry exit (answer left (at + (length e - k)))
   part_made entry exit x left at h m f g = record {
     same_length = ap length g ∙ put_length at x entry (omega (arith, ap length f, length-take-le (length e - k) e (omega arith)));
     right = λ P l E q p room. (
-      omega (arith, part_count P l E q p, answer_is left (at + length (words 1 E))),
+      ap (λ n. answer left (at + n)) (part_count P l E q p),
       g ∙ ap (λ v. put_at at v entry) (f ∙ part_words P l E q p),
     );
   }
 
 -- ── done ──
 
-pub done_made : (left at : ℕ) (entry : List ℕ) → at < length entry → DoneExpanded left at entry (set entry at 30) (left + 65536 * (at + 1))
+pub done_made : (left at : ℕ) (entry : List ℕ) → at < length entry → DoneExpanded left at entry (set entry at 30) (answer left (at + 1))
 done_made left at entry h = record {
   same_length = length-set entry at 30;
-  right = λ room. (sym (answer_is left (at + 1)), put_one entry at 30 h);
+  right = λ room. (refl, put_one entry at 30 h);
 }
 
 -- ── a shared term by its front ──
@@ -77,6 +71,10 @@ expand_front s t u entry exit w k at r a b e z h = subst (λ v. Expanded v u at 
 -- No term has no words.
 pub expand_none : (s u entry : List ℕ) (at : ℕ) → length entry ≤ at → Expanded s u at entry entry 0
 expand_none s u entry at h = record { same_length = refl; right = λ P S rest e st room. absurd (omega (arith, words_some (term_of S))) }
+
+-- Two numbers of an answer, the first of which is small, are known by it.
+pub answered_same : (left left' n n' : ℕ) → answer left n ≡ answer left' n' → left ≤ 65535 → left' ≤ 65535 → (left ≡ left') × (n ≡ n')
+answered_same left left' n n' e h k = (omega (arith, e, answer_is left n, answer_is left' n'), omega (arith, e, answer_is left n, answer_is left' n'))
 
 -- What is told of a shared term.
 abbrev pub Tells : List ℕ → List ℕ → ℕ → ℕ → Shared → List ℕ → Type 0
@@ -112,41 +110,13 @@ module _ (entry exit s t u : List ℕ) (w at r : ℕ) (a : w ≡ get_or s 0 0) (
 
 -- ── what follows ──
 
-module _ (t v u entry mid exit : List ℕ) (w at a r : ℕ) (short : length t < 65535) (free : at < length entry) (vt : v ≡ drop 1 t) (h : Expanded v u (at + 1) (set entry at 22) mid a) (wt : w ≡ get_or t 0 0)
-    (g : PartExpanded u w (a % 65536) (a / 65536) mid exit r) where
-  then_long : length mid ≡ length entry
-  then_long = h.same_length ∙ length-set entry at 22
+-- What is told of a sequence: of a shared term, and of a part that follows it.
+abbrev ThenTells : List ℕ → List ℕ → List ℕ → List ℕ → ℕ → ℕ → Type 0
+ThenTells t u entry exit at r =
+    (P : Scope) (S : Shared) (l : ℕ) (F : Term) (rest : List ℕ) → 22 ∷ t ≡ 22 ∷ part_word l ∷ (shared_words S ++ rest) → Stands u P S → PartAt u P l F → at + (1 + (length (words 1 (term_of S)) + length (words 1 F))) ≤ length entry
+    → (r ≡ answer (length rest) (at + (1 + (length (words 1 (term_of S)) + length (words 1 F))))) × (exit ≡ put_at at (22 ∷ (words 1 (term_of S) ++ words 1 F)) entry)
 
-  module _ (P : Scope) (S : Shared) (l : ℕ) (F : Term) (rest : List ℕ) (e : 22 ∷ t ≡ 22 ∷ part_word l ∷ (shared_words S ++ rest)) (st : Stands u P S) (p : PartAt u P l F) (room : at + (1 + (length (words 1 (term_of S)) + length (words 1 F))) ≤ length entry) where
-    abbrev E_words : List ℕ
-    E_words = words 1 (term_of S)
-
-    behind : t ≡ part_word l ∷ (shared_words S ++ rest)
-    behind = ap (drop 1) e
-
-    first : (a ≡ answer (length rest) (at + 1 + length E_words)) × (mid ≡ put_at (at + 1) E_words (set entry at 22))
-    first = h.right P S rest (vt ∙ ap (drop 1) behind) st (omega (arith, length-set entry at 22))
-
-    rest_short : length rest ≤ 65535
-    rest_short = omega (arith, ap length behind, length-append (shared_words S) rest)
-
-    left : a % 65536 ≡ length rest
-    left = answered_left a (length rest) (at + 1 + length E_words) first.0 rest_short
-
-    place : a / 65536 ≡ at + 1 + length E_words
-    place = answered_count a (length rest) (at + 1 + length E_words) first.0 rest_short
-
-    second : (r ≡ answer (a % 65536) (a / 65536 + length (words 1 F))) × (exit ≡ put_at (a / 65536) (words 1 F) mid)
-    second = g.right P l F (wt ∙ ap (λ x. get_or x 0 0) behind) p (omega (arith, place, then_long))
-
-    then_answer : r ≡ answer (length rest) (at + (1 + (length E_words + length (words 1 F))))
-    then_answer = omega (arith, second.0, left, place, answer_is (a % 65536) (a / 65536 + length (words 1 F)), answer_is (length rest) (at + (1 + (length E_words + length (words 1 F)))))
-
-    then_written : exit ≡ put_at at (22 ∷ (E_words ++ words 1 F)) entry
-    then_written =
-        let m : mid ≡ put_at at (22 ∷ E_words) entry = put_behind entry (22 ∷ []) E_words (set entry at 22) mid at (at + 1) (omega arith) refl (put_one entry at 22 free) first.1 in
-        put_behind entry (22 ∷ E_words) (words 1 F) mid exit at (a / 65536) (omega arith) (omega (arith, place)) m second.1
-
+module _ (t u entry exit : List ℕ) (at r : ℕ) (long : length exit ≡ length entry) (says : ThenTells t u entry exit at r) where
   then_tells : (P : Scope) (S : Shared) (rest : List ℕ) → 22 ∷ t ≡ shared_words S ++ rest → Stands u P S → Tells entry exit at r S rest
   unfolding shared_words term_of words
   then_tells P Ended rest e st room = absurd (let z : ◌≡◌ {A = ℕ} 22 30 = ap (λ x. get_or x 0 0) e in omega (arith, z))
@@ -154,8 +124,64 @@ module _ (t v u entry mid exit : List ℕ) (w at a r : ℕ) (short : length t < 
   then_tells P (Then S l F) rest e st room =
       let n : at + (1 + (length (words 1 (term_of S)) + length (words 1 F))) ≡ at + length (22 ∷ (words 1 (term_of S) ++ words 1 F)) = omega (arith, length-append (words 1 (term_of S)) (words 1 F)) in
       let k : at + (1 + (length (words 1 (term_of S)) + length (words 1 F))) ≤ length entry = omega (arith, n, room) in
-      (then_answer P S l F rest e st.0 st.1 k ∙ ap (answer (length rest)) n, then_written P S l F rest e st.0 st.1 k)
+      let m = says P S l F rest e st.0 st.1 k in
+      (m.0 ∙ ap (answer (length rest)) n, m.1)
   then_tells P (Beside S T) rest e st room = absurd (let z : ◌≡◌ {A = ℕ} 22 25 = ap (λ x. get_or x 0 0) e in omega (arith, z))
 
-  pub then_expanded : Expanded (22 ∷ t) u at entry exit r
-  then_expanded = record { same_length = g.same_length ∙ then_long; right = then_tells }
+  then_told : Expanded (22 ∷ t) u at entry exit r
+  then_told = record { same_length = long; right = then_tells }
+
+module _ (t v u entry mid : List ℕ) (at a : ℕ) (free : at < length entry) (vt : v ≡ drop 1 t) (h : Expanded v u (at + 1) (set entry at 22) mid a) where
+  then_long : length mid ≡ length entry
+  then_long = h.same_length ∙ length-set entry at 22
+
+  module _ (P : Scope) (S : Shared) (l n : ℕ) (rest : List ℕ) (e : 22 ∷ t ≡ 22 ∷ part_word l ∷ (shared_words S ++ rest)) (st : Stands u P S) (room : at + (1 + (length (words 1 (term_of S)) + n)) ≤ length entry) where
+    behind : t ≡ part_word l ∷ (shared_words S ++ rest)
+    behind = ap (drop 1) e
+
+    first : (a ≡ answer (length rest) (at + 1 + length (words 1 (term_of S)))) × (mid ≡ put_at (at + 1) (words 1 (term_of S)) (set entry at 22))
+    first = h.right P S rest (vt ∙ ap (drop 1) behind) st (omega (arith, length-set entry at 22))
+
+    some : 65536 ≤ a
+    some = omega (arith, first.0, answer_is (length rest) (at + 1 + length (words 1 (term_of S))))
+
+  -- There is no room for what is followed.
+  pub then_lost : a ≡ 0 → Expanded (22 ∷ t) u at entry mid 0
+  then_lost z = then_told t u entry mid at 0 then_long (λ P S l F rest e st p room. absurd (omega (arith, z, some P S l (length (words 1 F)) rest e st room)))
+
+  module _ (exit : List ℕ) (w left place r : ℕ) (is : a ≡ answer left place) (few : left ≤ 65535) (short : length t < 65535) (wt : w ≡ get_or t 0 0) (u' : List ℕ) (same : u' ≡ u) (made : PartExpanded u' w left place mid exit r) where
+    g : PartExpanded u w left place mid exit r
+    g = subst (λ x. PartExpanded x w left place mid exit r) same made
+
+    module _ (P : Scope) (S : Shared) (l : ℕ) (F : Term) (rest : List ℕ) (e : 22 ∷ t ≡ 22 ∷ part_word l ∷ (shared_words S ++ rest)) (st : Stands u P S) (p : PartAt u P l F) (room : at + (1 + (length (words 1 (term_of S)) + length (words 1 F))) ≤ length entry) where
+      abbrev E_words : List ℕ
+      E_words = words 1 (term_of S)
+
+      behind_is : t ≡ part_word l ∷ (shared_words S ++ rest)
+      behind_is = behind P S l (length (words 1 F)) rest e st room
+
+      one : (a ≡ answer (length rest) (at + 1 + length E_words)) × (mid ≡ put_at (at + 1) E_words (set entry at 22))
+      one = first P S l (length (words 1 F)) rest e st room
+
+      rest_short : length rest ≤ 65535
+      rest_short = omega (arith, ap length behind_is, length-append (shared_words S) rest)
+
+      left_is : left ≡ length rest
+      left_is = (answered_same left (length rest) place (at + 1 + length E_words) (sym is ∙ one.0) few rest_short).0
+
+      place_is : place ≡ at + 1 + length E_words
+      place_is = (answered_same left (length rest) place (at + 1 + length E_words) (sym is ∙ one.0) few rest_short).1
+
+      second : (r ≡ answer left (place + length (words 1 F))) × (exit ≡ put_at place (words 1 F) mid)
+      second = g.right P l F (wt ∙ ap (λ x. get_or x 0 0) behind_is) p (omega (arith, place_is, then_long))
+
+      then_answer : r ≡ answer (length rest) (at + (1 + (length E_words + length (words 1 F))))
+      then_answer = omega (arith, second.0, left_is, place_is, answer_is left (place + length (words 1 F)), answer_is (length rest) (at + (1 + (length E_words + length (words 1 F)))))
+
+      then_written : exit ≡ put_at at (22 ∷ (E_words ++ words 1 F)) entry
+      then_written =
+          let m : mid ≡ put_at at (22 ∷ E_words) entry = put_behind entry (22 ∷ []) E_words (set entry at 22) mid at (at + 1) (omega arith) refl (put_one entry at 22 free) one.1 in
+          put_behind entry (22 ∷ E_words) (words 1 F) mid exit at place (omega arith) (omega (arith, place_is)) m second.1
+
+    pub then_expanded : Expanded (22 ∷ t) u at entry exit r
+    then_expanded = then_told t u entry exit at r (g.same_length ∙ then_long) (λ P S l F rest e st p room. (then_answer P S l F rest e st p room, then_written P S l F rest e st p room))

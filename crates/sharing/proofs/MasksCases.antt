@@ -1,11 +1,9 @@
 -- Whether a label stands in a mask of a term, told of the operands and then of the whole (document 01, "Moves, in order").
-use mathlib.Core.Path.{◌≡◌, refl, sym, ap, ◌∙◌, subst}
-use mathlib.Core.Bool.{Bool, true, false, ◌&&◌, true≢false}
-use mathlib.Core.List.{List, [], ◌∷◌, ◌++◌}
+use mathlib.Core.Path.{◌≡◌, sym, ap, ◌∙◌, subst}
+use mathlib.Core.Bool.{true}
+use mathlib.Core.List.{List, ◌∷◌, ◌++◌}
 use Prim.Native.Nat.{ℕ, ◌≤◌, ◌<◌}
 use native.Mathlib.Omega.{arith}
-use lib.Dec.{ltb, eqb}
-use borrow.Author.Tests.{ltb-false}
 use lib.ListN.{length, take, drop, get_or}
 use Rattle.eb3.specs.Scopes.{Scope}
 use Rattle.eb3.specs.Expressions.{Cond}
@@ -21,24 +19,7 @@ use Rattle.listing.specs.Positions.{code_in_front, TwoAt, GuardedAt, term_front,
 use Rattle.listing.specs.Operands.{front_form, front_len, mask_len}
 use Rattle.listing.specs.CasesByCode.{perform_cases, sequence_cases, choice_cases, star_cases, parallel_cases, guard_cases}
 use Rattle.sharing.specs.Shared.{Unmasked}
-use Rattle.std.specs.Prelude.{◌||◌}
-use Rattle.std.specs.List.{list_any}
 use Rattle.sharing.specs.Masks.{Bare}
-
--- ── a mask ──
-
-none_of : (a b : Bool) → (a || b) ≡ false → (a ≡ false) × (b ≡ false)
-none_of true b h = absurd (true≢false h)
-none_of false b h = (refl, h)
-
--- No word is above zero.
-pub label_none : (d : List ℕ) → list_any (ltb 0) d ≡ false → zero_mask d ≡ true
-unfolding zero_mask
-label_none [] h = refl
-label_none (w ∷ d) h =
-    let n = none_of (ltb 0 w) (list_any (ltb 0) d) h in
-    let z : w ≡ 0 = omega (arith, ltb-false 0 w n.0) in
-    ap (λ x. eqb x 0 && zero_mask d) z ∙ label_none d n.1
 
 -- ── what is told of a term by its code ──
 

@@ -8,6 +8,7 @@ pub mod Finding
 pub mod Beginning
 pub mod Writing
 pub mod Splicing
+pub mod Expanding
 pub mod Changing
 pub mod Stepping
 pub mod Masks

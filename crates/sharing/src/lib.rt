@@ -4,12 +4,14 @@
 // Stays: that words are at most 65,535 is a clause of each function here, for the reason in successors (docs/DESIGN-PASS.md, "A struct for words").
 #![tactic(auto)]
 
-ghost use Rattle.std.specs.Prelude.{◌≡◌, ◌≤◌, ◌<◌, length};
+ghost use Rattle.std.specs.Prelude.{◌≤◌, ◌<◌, length};
+ghost use Rattle.derivation.specs.Arrays.{SameArrays};
 ghost use Rattle.sharing.specs.Changing.{Changed, Joined, PartChanged};
 ghost use Rattle.sharing.specs.Stepping.{Stepped};
 
 pub mod beginning;
 pub mod expanding;
+pub mod expansion;
 pub mod finding;
 pub mod masks;
 pub mod seeking;
@@ -17,7 +19,7 @@ pub mod splicing;
 pub mod writer;
 
 use code_numbers::{DONE, PARALLEL, SEQUENCE};
-use derivation::{Arrays, PASSED};
+use derivation::{Arrays, PASSED, Scratch};
 use finding::find;
 use scan::{front, last};
 use splicing::splice;
@@ -97,29 +99,22 @@ fn change_part(
     k + 65536 * action
 }
 
-// Stays: the arrays are lent one by one, which are parts of a run's Scratch: a struct would serve this call only.
 // Move k of the shared term in the first n words of d: how many words it has then, and 65,536 times the action's number; or PASSED where there is no such move.
-// Stays: that the arrays keep their lengths is a fact of what they were and what they are then, which no field of a struct holds.
-pub fn step(
-    u: &[u16],
-    d: &mut [u16],
-    n: usize,
-    m: &[u16],
-    k: usize,
-    path: &mut [u16],
-    acts: &mut [u32],
-    mid: &mut [u16],
-) -> usize
-    requires { (k < 65536) × (length u.now ≤ 65503) × (length d.old ≤ 65535) × (length path.old ≤ 65535) × (length acts.old ≤ 131072) × (length mid.old ≤ 65535) }
-    ensures { (length path.new ≡ length path.old) × (length mid.new ≡ length mid.old) × Stepped u.now d.old n m.now k (length path.old) (length acts.old) (length mid.old) d.new result }
+// Stays: that the arrays stay the same and keep their lengths is a fact of what they were and what they are then, which no field of a struct holds.
+pub fn step(u: &[u16], d: &mut [u16], n: usize, m: &[u16], k: usize, scratch: &mut Scratch) -> usize
+    requires { (k < 65536) × (length u.now ≤ 65503) × (length d.old ≤ 65535) }
+    ensures arrays { SameArrays scratch.old scratch.new }
+    ensures stepped { Stepped u.now d.old n m.now k (length scratch.old.path.now) (length scratch.old.acts.now) (length scratch.old.mid.now) d.new result }
 {
     if d.len() < n {
         return PASSED;
     }
+    // a name for the path: of a field that is lent into another struct the check would know no more afterwards than its length
+    let path = &mut *scratch.path;
     let mut arrays = Arrays {
         store: m,
         path,
-        acts,
+        acts: scratch.acts,
     };
     let r = find(u, front(d, n), k, &mut arrays);
     if PASSED <= r {
@@ -130,5 +125,5 @@ pub fn step(
     if n < left || left == 0 || path.len() < q {
         return PASSED;
     }
-    change(u, d, n, n - left, &path[q..], mid)
+    change(u, d, n, n - left, &path[q..], scratch.mid)
 }

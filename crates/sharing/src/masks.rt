@@ -1,13 +1,13 @@
 // Whether a running term is without masks (document 01, "Moves, in order": labels in a parallel's mask move together).
 // Stays: that words are at most 65,535 is a clause of each function here, for the reason in successors (docs/DESIGN-PASS.md, "A struct for words").
-ghost use Rattle.std.specs.Prelude.{◌≡◌, true, false, ◌≤◌, length, take, IfSome};
-ghost use Rattle.eb3.specs.Sizes.{zero_mask};
+ghost use Rattle.std.specs.Prelude.{◌≤◌, length, IfSome};
 ghost use Rattle.sharing.specs.Masks.{Bare, Shareable};
 
 use actions::behind_action;
+use arguments::mask_zero;
 use code_numbers::{ACTION, CHOICE, GUARD, PARALLEL, SEQUENCE, STAR};
 use listing::behind_mask;
-use scan::{behind, first, front, last};
+use scan::{behind, first, last};
 use successors::conditions::behind_condition;
 
 // Operands that are deeper to the left in sequences and parallels are not shared. Where such an operand moves for the first time its end is looked for at
@@ -40,7 +40,7 @@ fn bare(mut s: &[u16], levels: usize) -> Option<usize>
             CHOICE => s = last(t, bare(t, levels)?),
             STAR => s = t,
             PARALLEL => {
-                if has_label(t) {
+                if !mask_zero(t) {
                     return None;
                 }
                 let e = behind_mask(t);
@@ -50,12 +50,4 @@ fn bare(mut s: &[u16], levels: usize) -> Option<usize>
             _ => return Some(t.len()),
         }
     }
-}
-
-// Whether a label is in the mask at the front.
-// Stays beside mask_zero of arguments, a crate that this one does not use (crates.txt); `any` is the generic function.
-fn has_label(d: &[u16]) -> bool
-    ensures { result ≡ false → zero_mask (take 4 d.now) ≡ true }
-{
-    front(d, 4).iter().any(|w| 0 < *w)
 }

@@ -6,7 +6,8 @@ ghost use Rattle.sharing.specs.Splicing.{Spliced};
 
 // All words of one array into another, from a place on.
 // Stays: the place is beside the array, since the contract says of the whole array what it is then.
-// Stays word by word: copy_from_slice calls memmove, and the library promises C hosts to call memcpy and memset only (host/eb3.h, Linking).
+// Stays word by word: copy_from_slice of a length that is not fixed, between lent arrays, becomes memmove, and the library promises C hosts to call memcpy and
+// memset only (host/eb3.h, Linking).
 pub fn copy_words(src: &[u16], dst: &mut [u16], at: usize)
     requires { at + length src.now ≤ length dst.old }
     ensures { dst.new ≡ put_at at src.now dst.old }

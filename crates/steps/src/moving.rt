@@ -8,12 +8,13 @@ ghost use Rattle.eb3.specs.Scopes.{Scope};
 ghost use Rattle.eb3.specs.Terms.{Term};
 ghost use Rattle.eb3.specs.Moves.{moves};
 ghost use Rattle.eb3.specs.Sizes.{size};
+ghost use Rattle.derivation.specs.Arrays.{SameArrays};
 ghost use Rattle.derivation.specs.Derived.{passed};
 ghost use Rattle.listing.specs.Listing.{holding};
 ghost use Rattle.steps.specs.Counting.{Whole};
 ghost use Rattle.steps.specs.Taking.{PathSought, PathFound, SuccessorFits, Took};
 
-use derivation::{FULL, PASSED, derive};
+use derivation::{FULL, PASSED, Scratch, derive};
 use successors::build;
 
 /// A move that was taken.
@@ -29,8 +30,8 @@ pub struct Taken {
 
 // Move k's path sought with room for N numbers, answered as a derivation does: one number (measured in `derivation`), which `place` makes an Option of.
 // Stays a function that only makes an array and asks: not put into its caller, so that a call with few numbers does not pay for a frame with many.
-// Stays, here and below: the words, the store, k, the path and the numbers are parameters, with their bounds as clauses, as `derivation::derive` takes them.
-// The bound of N is of a const parameter, which each call gives as a number.
+// Stays, here and in find_path: the words, the store, k, the path and the numbers are parameters, with their bounds as clauses, as `derivation::derive` takes
+// them. The bound of N is of a const parameter, which each call gives as a number.
 #[inline(never)]
 fn path_in<const N: usize>(s: &[u16], m: &[u16], k: usize, path: &mut [u16]) -> usize
     requires { (length s.now ≤ 65535) × (k < 65536) × (length path.old ≤ 65535) × (N ≤ 131072) }
@@ -71,32 +72,32 @@ fn find_path(s: &[u16], m: &[u16], k: usize, path: &mut [u16], acts: &mut [u32])
 // ── the move ──
 
 // Move k, its successor in a buffer that has room for it. The arrays for the path and for the numbers that finding it takes are lent, so that a
-// run clears them once and not at every move: what they hold before does not count. No term within the limits has a move 65536.
-// Stays: the arrays are lent one by one. Here they are local, in a run parts of its Scratch, and out is the host's: a struct would serve one call only.
-// Stays: that the arrays keep their lengths is a fact of what they were and what they are then, which no field of a struct holds.
+// run clears them once and not at every move: what they hold before does not count. The third array of a Scratch is not used here. No term within the
+// limits has a move 65536.
+// Stays: that the arrays stay the same and keep their lengths is a fact of what they were and what they are then, which no field of a struct holds.
 pub fn take_move_in(
     s: &[u16],
     m: &[u16],
     k: usize,
-    path: &mut [u16],
-    acts: &mut [u32],
+    scratch: &mut Scratch,
     out: &mut [u8],
 ) -> Option<Taken>
-    requires { (length s.now ≤ 65535) × (length path.old ≤ 65535) × (length acts.old ≤ 131072) }
-    ensures { (length path.new ≡ length path.old) × (length acts.new ≡ length acts.old) × ((P : Scope) (E : Term) → Whole s.now P E → size 1 E ≤ length path.old → SuccessorFits (get_elem? (moves (holding m.now) E) k) out.old → Took (get_elem? (moves (holding m.now) E) k) out.old out.new result) }
+    requires { length s.now ≤ 65535 }
+    ensures arrays { SameArrays scratch.old scratch.new }
+    ensures taken { (P : Scope) (E : Term) → Whole s.now P E → size 1 E ≤ length scratch.old.path.now → SuccessorFits (get_elem? (moves (holding m.now) E) k) out.old → Took (get_elem? (moves (holding m.now) E) k) out.old out.new result }
 {
     if 65535 < k {
         return None;
     }
-    let at = find_path(s, m, k, path, acts)?;
-    let b = build(s, &path[at..], out);
+    let at = find_path(s, m, k, scratch.path, scratch.acts)?;
+    let b = build(s, &scratch.path[at..], out);
     Some(Taken {
         action: b.action,
         size: b.words,
     })
 }
 
-// The same with arrays of its own, for a path of N words.
+// The same with arrays of its own, for a path of N words; the third is empty.
 // Stays: it only makes arrays, of a size that its caller picks, since there is no heap.
 fn take_sized<const N: usize>(s: &[u16], m: &[u16], k: usize, out: &mut [u8]) -> Option<Taken>
     requires { (length s.now ≤ 65535) × (N ≤ 65535) }
@@ -104,7 +105,12 @@ fn take_sized<const N: usize>(s: &[u16], m: &[u16], k: usize, out: &mut [u8]) ->
 {
     let mut path = [0u16; N];
     let mut acts = [0u32; 256];
-    let r = take_move_in(s, m, k, &mut path, &mut acts, out);
+    let mut scratch = Scratch {
+        path: &mut path,
+        acts: &mut acts,
+        mid: &mut [],
+    };
+    let r = take_move_in(s, m, k, &mut scratch, out);
     r
 }
 

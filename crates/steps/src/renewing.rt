@@ -6,6 +6,7 @@ ghost use Rattle.steps.specs.Storing.{StoreRenewed};
 ghost use Rattle.steps.specs.Keeping.{Kept, Given};
 
 use actions::{argument_at, label_of};
+use arguments::layout::AT_LABELS;
 use cells::{Functions, copy_cells, fill};
 use expressions::store;
 
@@ -46,5 +47,5 @@ pub fn renew(functions: &Functions, m: &mut [u16], code: u32)
     if 63 < label {
         return;
     }
-    fill(functions, m, 3 + label);
+    fill(functions, m, AT_LABELS + label);
 }

@@ -2,6 +2,7 @@
 ghost use Rattle.std.specs.Prelude.{◌≡◌, length};
 ghost use Rattle.steps.specs.Storing.{StoreLoaded, StoreStarted};
 
+use arguments::layout::AT_START;
 use cells::{Functions, fill, lay, load};
 use expressions::store;
 
@@ -20,5 +21,5 @@ pub fn start_store(functions: &Functions, m: &mut [u16])
     ensures { (length m.new ≡ length m.old) × StoreStarted functions.now.words.now functions.now.directory.now m.old m.new functions.now.width functions.now.count functions.now.cells }
 {
     lay(functions, m);
-    fill(functions, m, 2);
+    fill(functions, m, AT_START);
 }

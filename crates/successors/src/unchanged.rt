@@ -6,7 +6,7 @@ ghost use Rattle.successors.specs.Unchanged.{leading_words, Staying, Unchanged};
 
 use code_numbers::{DONE, PARALLEL, SEQUENCE};
 use paths::{LEFT_MOVES, RIGHT_MOVES};
-use scan::{behind, first};
+use scan::{after, behind, first};
 
 // ── the left operand's size in the path, after the decision ──
 
@@ -20,7 +20,7 @@ pub fn size_word(path: &[u16]) -> usize
 pub fn behind_size(path: &[u16]) -> &[u16]
     ensures { result.now ≡ drop 2 path.now }
 {
-    behind(behind(path))
+    after(path, 2)
 }
 
 // ── what stays ──

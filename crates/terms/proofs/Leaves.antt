@@ -27,8 +27,9 @@ use Rattle.weights.specs.Weighing.{cap, measure}
 use Rattle.arguments.specs.Tables.{row, declared}
 use Rattle.arguments.specs.TableLaws.{labels_length, label_at}
 use Rattle.terms.specs.Given.{wrong, weighed_running}
-use Rattle.terms.specs.Answers.{left_of, packed, Packs}
+use Rattle.terms.specs.Answers.{left_after, packed, Packs}
 use Rattle.terms.specs.Laws.{elements_end}
+use Rattle.std.specs.Prelude.{Option, Some, None}
 use Rattle.terms.specs.AnswerLaws.{refused_wrong, left_wrong, left_taken}
 
 -- An element was read for each size.
@@ -61,8 +62,8 @@ module _ (T t : List ℕ) where
     unfolding then
     action_high o = refused_wrong _ _ (record { code = 5; read = by_label false (le-ltb d b o); named = refl })
 
-    -- ds is the label's domains, u the words behind it, m those left behind their elements
-    module _ (k : d < b) (ds u : List ℕ) (m : ℕ) (o : ds ≡ row T (18 + 3 * d)) (l : u ≡ drop 1 t) (f : m ≡ left_of (elements_of 1 (sizes_of (declared T) ds) u)) where
+    -- ds is the label's domains, u the words behind it, p how many are left behind their elements
+    module _ (k : d < b) (ds u : List ℕ) (p : Option ℕ) (o : ds ≡ row T (18 + 3 * d)) (l : u ≡ drop 1 t) (f : p ≡ left_after (elements_of 1 (sizes_of (declared T) ds) u)) where
       domains_are : label (declared T) d ≡ ds
       domains_are = label_at T d (omega (arith, i)) ∙ sym o
 
@@ -73,20 +74,20 @@ module _ (T t : List ℕ) where
       ends : Fine (drop 1 t) (elements_of 1 (sizes_of (declared T) ds) (drop 1 t))
       ends = elements_end 1 (sizes_of (declared T) ds) (drop 1 t)
 
-      behind : m ≡ left_of (elements_of 1 (sizes_of (declared T) ds) (drop 1 t))
-      behind = f ∙ ap (λ e. left_of (elements_of 1 (sizes_of (declared T) ds) e)) l
+      behind : p ≡ left_after (elements_of 1 (sizes_of (declared T) ds) (drop 1 t))
+      behind = f ∙ ap (λ e. left_after (elements_of 1 (sizes_of (declared T) ds) e)) l
 
       short : length t ≤ 8192 → length (drop 1 t) ≤ 8192
       short y = omega (arith, length-drop 1 t)
 
-      pub action_out : length t ≤ 8192 → m ≡ wrong → wrong ≡ weighed_running (action_of (declared T) t)
-      action_out y g =
-          let a = left_wrong (drop 1 t) _ (short y) ends (sym g ∙ behind) in
+      pub action_out : p ≡ None → wrong ≡ weighed_running (action_of (declared T) t)
+      action_out g =
+          let a = left_wrong _ (sym g ∙ behind) in
           refused_wrong _ a.0 (same_refused _ _ a.0 there (giving_refused_as _ _ a.0 a.1))
 
-      module _ (c : ℕ) (w : Weight) (g : m ≡ wrong → ⊥) (y : c ≡ length ds) (v : measure w ≡ leaf (sat cap) (2 + 2 * c)) where
+      module _ (m c : ℕ) (w : Weight) (g : p ≡ Some m) (y : c ≡ length ds) (v : measure w ≡ leaf (sat cap) (2 + 2 * c)) where
         arguments_taken : Taken (drop 1 t) m (elements_of 1 (sizes_of (declared T) ds) (drop 1 t))
-        arguments_taken = left_taken (drop 1 t) m _ ends behind g
+        arguments_taken = left_taken (drop 1 t) m _ ends (sym g ∙ behind)
 
         pub action_fits : length t ≤ 8192 → Packs m (measure w)
         action_fits e =

@@ -1,7 +1,7 @@
 -- What an answer of the check says of the reading: what was read, the words behind it and its measures (`got`), or that nothing was (`none_read`);
 -- and where only the words left are asked, `left_taken` and `left_wrong`.
 -- Document 01, "Unfolding, size and breadth"; refusal 10.
-use Rattle.std.specs.Prelude.{ℕ, ◌+◌, ◌-◌, ◌*◌, ◌/◌, ◌%◌, ◌≤◌, ◌<◌, ◌≡◌, List, ◌++◌, length}
+use Rattle.std.specs.Prelude.{Some, None, ℕ, ◌+◌, ◌-◌, ◌*◌, ◌/◌, ◌%◌, ◌≤◌, ◌<◌, ◌≡◌, List, ◌++◌, length}
 use Rattle.std.proofs.Common.{mod-eq_of_lt, zero-add, arith, sym, ap, ◌∙◌, subst, lit<, length-append}
 use Rattle.std.proofs.Math.Nat.{div-eq_of_lt, add-mul-mod_self_left, add-mul-div_left, div-div-eq-div-mul}
 use Rattle.std.proofs.Math.Path.{refl}
@@ -22,7 +22,7 @@ use Rattle.scan.specs.ReadingLaws.{Taken, RefusedAs}
 use Rattle.weights.specs.Weighing.{cap}
 use Rattle.arguments.specs.Tables.{declared}
 use Rattle.terms.specs.Given.{wrong, weighed_running}
-use Rattle.terms.specs.Answers.{left_of, packed, unpacked, Answer}
+use Rattle.terms.specs.Answers.{left_after, packed, unpacked, Answer}
 use Rattle.terms.specs.Laws.{term_ends}
 use Rattle.refusals.specs.declared.Refusal.{Refusal}
 use Rattle.refusals.specs.Numbers.{refusal}
@@ -70,17 +70,17 @@ taken_size T t E u e =
 
 -- ── words left ──
 
--- No number of words that are there is `wrong`.
-pub left_wrong : {A : Type 0} (t : List ℕ) (r : Read A) → length t ≤ 8192 → Fine t r → wrong ≡ left_of r → (k : Refusal) × RefusedAs k r
-unfolding left_of
-left_wrong t (refused k) h f e = (refusal k, record { code = k; read = refl; named = refl })
-left_wrong t (taken a u) h f e = absurd (let z : ⊥ = omega (arith, e, tail_short u t f) in z)
+pub left_wrong : {A : Type 0} (r : Read A) → None ≡ left_after r → (k : Refusal) × RefusedAs k r
+unfolding left_after
+left_wrong (refused k) e = (refusal k, record { code = k; read = refl; named = refl })
+left_wrong (taken a u) e = absurd (let z : ◌≡◌ {A = ℕ} 0 1 = cc in omega arith)
 
-pub left_taken : {A : Type 0} (t : List ℕ) (n : ℕ) (r : Read A) → Fine t r → n ≡ left_of r → (n ≡ wrong → ⊥) → Taken t n r
-unfolding left_of
-left_taken t n (refused k) f e h = absurd (h e)
-left_taken t n (taken a u) f e h =
-    record { value = a; rest = u; read = refl; left = e; words = ap (λ j. last_of j t) e ∙ tail_at u t f; short = omega (arith, e, tail_short u t f) }
+pub left_taken : {A : Type 0} (t : List ℕ) (n : ℕ) (r : Read A) → Fine t r → Some n ≡ left_after r → Taken t n r
+unfolding left_after
+left_taken t n (refused k) f e = absurd (let z : ◌≡◌ {A = ℕ} 0 1 = cc in omega arith)
+left_taken t n (taken a u) f e =
+    let k : n ≡ length u = cc in
+    record { value = a; rest = u; read = refl; left = k; words = ap (λ j. last_of j t) k ∙ tail_at u t f; short = omega (arith, k, tail_short u t f) }
 
 -- ── what was read ──
 

@@ -1,7 +1,7 @@
 -- Answers of the check as numbers: what one says, and how the parts' answers make the whole's. `weighed_running` (Given) is what an answer says of a
--- reading.
+-- reading, and `left_after` what is answered where only the words left are asked.
 -- Document 01, "Unfolding, size and breadth"; refusal 10.
-use Rattle.std.specs.Prelude.{ℕ, ◌+◌, ◌-◌, ◌*◌, ◌/◌, ◌%◌, ◌≤◌, length}
+use Rattle.std.specs.Prelude.{Option, Some, None, ℕ, ◌+◌, ◌-◌, ◌*◌, ◌/◌, ◌%◌, ◌≤◌, length}
 use Rattle.eb3.specs.Terms.{Term}
 use Rattle.eb3.specs.Measures.{sat, Measure, guard_of, measure_running}
 use Rattle.eb3.specs.Reading.{Read, refused, taken}
@@ -9,10 +9,10 @@ use Rattle.weights.specs.declared.Joint.{Joint}
 use Rattle.weights.specs.Weighing.{cap, joint_of, stars_of}
 use Rattle.terms.specs.Given.{wrong}
 
--- How many words are left, where only that is asked.
-unfoldable pub left_of : {A : Type 0} → Read A → ℕ
-left_of (refused k) = wrong
-left_of (taken a t) = length t
+-- How many words are left, or None of a refusal.
+unfoldable pub left_after : {A : Type 0} → Read A → Option ℕ
+left_after (refused k) = None
+left_after (taken a t) = Some (length t)
 
 -- n words left, and a term's reach and breadth.
 abbrev pub packed : ℕ → Measure → ℕ

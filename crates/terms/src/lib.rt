@@ -1,5 +1,5 @@
 // The check of a given running term, with its reach and breadth in the same pass (document 01, "Unfolding, size and breadth";
-// refusal 10). An answer is one number, so that no level of nested terms stores one in memory.
+// refusal 10). An answer on a term is one number, so that no level of nested terms stores one in memory.
 // Stays: measured, an Option of a struct takes 1.07 to 1.29 times the instructions (1,000 guards, 1,000 parallels), and the frame
 // of a level grows from 112 bytes to 192 (check_running), and from 80 to 128 (two_terms). So it is with `WRONG` and each test for
 // it, with `left`, `reach`, `breadth`, `weigh` and `pack`, and with each function here that answers such a number. So they stay beside the functions for
@@ -16,7 +16,7 @@ ghost use Rattle.eb3.specs.TermReading.{elements_of, TermKind, action_of, term_b
 ghost use Rattle.weights.specs.Weighing.{measure};
 ghost use Rattle.arguments.specs.Tables.{declared};
 ghost use Rattle.terms.specs.Given.{weighed_running, given};
-ghost use Rattle.terms.specs.Answers.{left_of, packed, unpacked, Answer, Packs, Operands, Operand, joined_of, weighed_pair, guarded_of, starred_of};
+ghost use Rattle.terms.specs.Answers.{left_after, packed, unpacked, Answer, Packs, Operands, Operand, joined_of, weighed_pair, guarded_of, starred_of};
 
 use arguments::layout::{LABEL_ROWS, LABEL_WORDS};
 use arguments::{MASK_WORDS, check_mask, functions, labels, mask_zero, row_at, size_of};
@@ -24,7 +24,7 @@ use code_numbers::{ACTION, CHOICE, CONSTANT, DONE, GUARD, INTERNAL, PARALLEL, SE
 use grammar::{Scope, check_cond};
 use scan::repeats::leading;
 use scan::{behind, last};
-use weights::{Joint, Limits, Weight, empty, guard, narrow, single, stars};
+use weights::{Joint, Limits, Weight, empty, guard, single, stars};
 
 // Above every answer that says what was read.
 const WRONG: usize = 1152921504606846976;
@@ -93,7 +93,7 @@ fn under_guard(n: usize, m: usize, p: usize) -> usize
     ensures { result ≡ guarded_of n m p }
 {
     let k = left(p);
-    pack(k, guard(narrow(n - m), weigh(m - k, p)))
+    pack(k, guard((n - m) as u64, weigh(m - k, p)))
 }
 
 // The answer of n words under k stars, from that of the words.
@@ -107,23 +107,23 @@ fn under_stars(k: usize, n: usize, p: usize) -> usize
 
 // ── terms ──
 
-// An element of each of some domains, code 1 and a value: how many words are left.
+// An element of each of some domains, code 1 and a value: how many words are left, or None if not all are there.
 #[tactic(auto, using(crate::proofs::Values::some_elements))]
-fn elements(t: &[u16], tb: &[u32], ds: &[u32]) -> usize
-    ensures { result ≡ left_of (elements_of 1 (sizes_of (declared tb.now) ds.now) t.now) }
+fn elements(t: &[u16], tb: &[u32], ds: &[u32]) -> Option<usize>
+    ensures { result ≡ left_after (elements_of 1 (sizes_of (declared tb.now) ds.now) t.now) }
 {
     if t.len() / 2 < ds.len() {
-        return WRONG;
+        return None;
     }
     for i in 0..ds.len() {
         if t[2 * i] as usize != CONSTANT {
-            return WRONG;
+            return None;
         }
         if size_of(tb, ds[i] as usize) <= t[2 * i + 1] as usize {
-            return WRONG;
+            return None;
         }
     }
-    t.len() - 2 * ds.len()
+    Some(t.len() - 2 * ds.len())
 }
 
 // A label and its arguments.
@@ -140,11 +140,10 @@ fn action(t: &[u16], tb: &[u32]) -> usize
         return WRONG;
     }
     let ds = row_at(tb, LABEL_ROWS + LABEL_WORDS * l);
-    let m = elements(behind(t), tb, ds);
-    if m == WRONG {
+    let Some(m) = elements(behind(t), tb, ds) else {
         return WRONG;
-    }
-    pack(m, single(2 + 2 * narrow(ds.len())))
+    };
+    pack(m, single(2 + 2 * ds.len() as u64))
 }
 
 // A term under a star, of the words after that star's code: the other stars before it are counted and not descended into.

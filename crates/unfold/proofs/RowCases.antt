@@ -8,13 +8,16 @@ use native.Mathlib.Omega.{arith}
 use lib.ListN.{length, take, drop, get_or, length-drop}
 use lib.Seq.{get_or-drop, take-suc, take_all, length-take-le}
 use borrow.Author.Tests.{eq-eqb, ne_eqb}
+use Rattle.std.proofs.Common.{inl, inr}
+use Rattle.std.proofs.lemmas.Bool.{cases_eq}
+use Rattle.std.proofs.lemmas.List.{get_or-take}
 use borrow.Rule.Slice.PartMut.{put_mid}
 use Rattle.std.specs.Int.{w16, to_le_bytes}
 use Rattle.eb3.specs.Bytes.{bytes_of, written}
 use Rattle.eb3.specs.Reading.{pick}
 use Rattle.scan.specs.Checking.{last_of}
 use Rattle.arguments.specs.Tables.{row}
-use Rattle.std.specs.Prelude.{Option, Some, None, ⊤}
+use Rattle.std.specs.Prelude.{Option, Some, None, ⊤, ◌⊎◌}
 use Rattle.unfold.specs.declared.writer.Writer.{Writer}
 use Rattle.unfold.specs.Written.{written_from}
 use Rattle.unfold.specs.Puts.{Puts, Heads, Putting}
@@ -45,11 +48,11 @@ head_next at ms o i y z h room e f =
 -- ── the front of an expression ──
 
 -- a variable's value for the variable
-pub front_variable : (σ s : List ℕ) (m : ℕ) → get_or s 0 0 ≡ 2 → 1 ∷ get_or σ (get_or s 1 0) 0 ∷ [] ≡ front_words σ s m
+front_variable : (σ s : List ℕ) (m : ℕ) → get_or s 0 0 ≡ 2 → 1 ∷ get_or σ (get_or s 1 0) 0 ∷ [] ≡ front_words σ s m
 unfolding front_words
 front_variable σ s m e = sym (ap (λ b. pick b (1 ∷ get_or σ (get_or s 1 0) 0 ∷ []) (take m s)) (eq-eqb (get_or s 0 0) 2 e))
 
-pub front_copied : (σ s : List ℕ) (m : ℕ) → (get_or s 0 0 ≡ 2 → ⊥) → 1 ≤ m → m ≤ length s → get_or s 0 0 ∷ take (m - 1) (drop 1 s) ≡ front_words σ s m
+front_copied : (σ s : List ℕ) (m : ℕ) → (get_or s 0 0 ≡ 2 → ⊥) → 1 ≤ m → m ≤ length s → get_or s 0 0 ∷ take (m - 1) (drop 1 s) ≡ front_words σ s m
 unfolding front_words
 front_copied σ s m e l k = sym (ap (λ b. pick b (1 ∷ get_or σ (get_or s 1 0) 0 ∷ []) (take m s)) (ne_eqb (get_or s 0 0) 2 e) ∙ first_taken s m l k)
   where
@@ -58,13 +61,27 @@ front_copied σ s m e l k = sym (ap (λ b. pick b (1 ∷ get_or σ (get_or s 1 0
     first_taken [] (suc m) l k = absurd (let z : ⊥ = omega arith in z)
     first_taken (w ∷ s) (suc m) l k = ap (λ n. w ∷ take n s) (let z : m ≡ suc m - 1 = omega arith in z)
 
-module _ (σ s : List ℕ) (m : ℕ) (x y : Writer) (r : Option ⊤) where
+module _ (σ s : List ℕ) (x y : Writer) (r : Option ⊤) where
   -- b is the words after the first
-  pub variable_put : (b : List ℕ) (i v : ℕ) → get_or s 0 0 ≡ 2 → b ≡ drop 1 s → i ≡ get_or b 0 0 → v ≡ get_or σ i 0 → Heads (1 ∷ v ∷ []) x y r → Heads (front_words σ s m) x y r
-  variable_put b i v c e f g p = subst (λ o. Heads o x y r) (ap (λ u. 1 ∷ u ∷ []) (g ∙ ap (λ j. get_or σ j 0) (f ∙ ap (λ u. get_or u 0 0) e ∙ get_or-drop 1 s 0 0)) ∙ front_variable σ s m c) p
+  pub variable_put : (b : List ℕ) (i v : ℕ) → get_or s 0 0 ≡ 2 → b ≡ drop 1 s → i ≡ get_or b 0 0 → v ≡ get_or σ i 0 → Heads (1 ∷ v ∷ []) x y r → Heads (front_words σ s (length s)) x y r
+  variable_put b i v c e f g p = subst (λ o. Heads o x y r) (ap (λ u. 1 ∷ u ∷ []) (g ∙ ap (λ j. get_or σ j 0) (f ∙ ap (λ u. get_or u 0 0) e ∙ get_or-drop 1 s 0 0)) ∙ front_variable σ s (length s) c) p
 
-  pub copied_put : (get_or s 0 0 ≡ 2 → ⊥) → 1 ≤ m → m ≤ length s → Heads (get_or s 0 0 ∷ take (m - 1) (drop 1 s)) x y r → Heads (front_words σ s m) x y r
-  copied_put c l k p = subst (λ o. Heads o x y r) (front_copied σ s m c l k) p
+  pub copied_put : (get_or s 0 0 ≡ 2 → ⊥) → 1 ≤ length s → Heads (get_or s 0 0 ∷ take (length s - 1) (drop 1 s)) x y r → Heads (front_words σ s (length s)) x y r
+  copied_put c l p = subst (λ o. Heads o x y r) (front_copied σ s (length s) c l (omega arith)) p
+
+-- The front alone says what is put for it: a variable's number is in it.
+front_alone : (σ s : List ℕ) (m : ℕ) → m ≡ front_width (get_or s 0 0) → 1 ≤ m → m ≤ length s → front_words σ (take m s) (length (take m s)) ≡ front_words σ s m
+unfolding front_words front_width
+front_alone σ s m e l k = go (cases_eq (get_or s 0 0) 2)
+  where
+    code : get_or (take m s) 0 0 ≡ get_or s 0 0
+    code = get_or-take m s 0 0 l
+
+    go : (get_or s 0 0 ≡ 2) ⊎ (get_or s 0 0 ≡ 2 → ⊥) → front_words σ (take m s) (length (take m s)) ≡ front_words σ s m
+    go (inl two) =
+        let wide : m ≡ 2 = e ∙ ap front_width two in
+        sym (front_variable σ (take m s) (length (take m s)) (code ∙ two)) ∙ (ap (λ i. 1 ∷ get_or σ i 0 ∷ []) (get_or-take m s 1 0 (omega arith)) ∙ front_variable σ s m two)
+    go (inr other) = rw (ne_eqb (get_or (take m s) 0 0) 2 (λ z. other (sym code ∙ z)), ne_eqb (get_or s 0 0) 2 other) (take_all (length (take m s)) (take m s) (omega arith))
 
 -- ── a row ──
 
@@ -89,14 +106,17 @@ module _ (t σ : List ℕ) (count n : ℕ) where
     pub row_short : length s < m → Puts (Instantiates t σ count n) x y None
     row_short h = putting_stuck _ _ x y p (λ ws rest g. let l : m ≤ length s = row_there t σ s k left m is_s some m_is ws rest g in omega arith)
 
-    module _ (z : Writer) where
-      pub row_none : (r : Option ℕ) → r ≡ None → Heads (front_words σ s m) y z None → Puts (Instantiates t σ count n) x z r
-      row_none r e q = puts_lost _ x z r e (putting_fail _ _ x y p _ z _ (row_step t σ s k left m is_s some m_is) (head_none _ (length s - m) y z q))
+    module _ (wide : 1 ≤ m) (long : m ≤ length s) (z : Writer) where
+      put_whole : (r : Option ⊤) → Heads (front_words σ (take m s) (length (take m s))) y z r → Heads (front_words σ s m) y z r
+      put_whole r q = subst (λ ws. Heads ws y z r) (front_alone σ s m m_is wide long) q
 
-      pub row_next : (u : ⊤) (o : ℕ) → Heads (front_words σ s m) y z (Some u) → o ≡ operands c → Putting (Instantiates t σ count n) (Instantiates t σ (k - 1 + o) (length s - m)) x z
+      pub row_none : (r : Option ℕ) → r ≡ None → Heads (front_words σ (take m s) (length (take m s))) y z None → Puts (Instantiates t σ count n) x z r
+      row_none r e q = puts_lost _ x z r e (putting_fail _ _ x y p _ z _ (row_step t σ s k left m is_s some m_is) (head_none _ (length s - m) y z (put_whole None q)))
+
+      pub row_next : (u : ⊤) (o : ℕ) → Heads (front_words σ (take m s) (length (take m s))) y z (Some u) → o ≡ operands c → Putting (Instantiates t σ count n) (Instantiates t σ (k - 1 + o) (length s - m)) x z
       row_next u o q f =
           subst (λ j. Putting (Instantiates t σ count n) (Instantiates t σ (k - 1 + j) (length s - m)) x z) (sym (f ∙ ap operands is_c))
-          (putting_next _ _ x y p _ z (λ j. Instantiates t σ (k - 1 + operands (get_or s 0 0)) (length s - m)) (length s - m) (row_step t σ s k left m is_s some m_is) (head_some _ (length s - m) y z u q))
+          (putting_next _ _ x y p _ z (λ j. Instantiates t σ (k - 1 + operands (get_or s 0 0)) (length s - m)) (length s - m) (row_step t σ s k left m is_s some m_is) (head_some _ (length s - m) y z u (put_whole (Some u) q)))
 
   pub row_end : (k left : ℕ) (x y : Writer) → Putting (Instantiates t σ count n) (Instantiates t σ k left) x y → k ≤ 0 → left ≤ length t → Puts (Instantiates t σ count n) x y (Some left)
   row_end k left x y p z l =

@@ -20,7 +20,7 @@ mod values;
 mod writer;
 
 use arguments::layout::{BODY, PROCESS_ROWS, PROCESS_WORDS};
-use arguments::{Context, entry, processes, row_at, size_of, with};
+use arguments::{Context, MASK_WORDS, entry, processes, row_at, size_of, with};
 use code_numbers::{
     ACTION, CALL, CHOICE, CHOICE_OVER, GUARD, INTERNAL, PARALLEL, PARALLEL_OVER, SEQUENCE, STAR,
 };
@@ -55,7 +55,7 @@ impl Joint {
     {
         match self {
             Joint::Sequence | Joint::Choice => 0,
-            Joint::Parallel => 4,
+            Joint::Parallel => MASK_WORDS,
         }
     }
 }
@@ -253,7 +253,8 @@ fn unfold_into(scope: &Scope, n: usize, out: &mut [u8]) -> Option<usize>
 }
 
 // Main's unfolding, and its size; where there is room for it.
-// Stays a number, 0 where there is no room: both callers have admitted the rule set and have room for its reach, so that an Option would be opened at once.
+// Stays a number, 0 where there is no room: an Option would make of a call that cannot fail one that may, and its callers, which have admitted the rule set
+// and have room for its reach, would have to say what they do where it does.
 // Stays: that the words are at most 65,535 becomes a field of `Scope` here; and that the buffer keeps its length is a fact of what it was and what it is
 // then, which no field of a struct holds.
 pub fn unfold_main(t: &[u16], tb: &[u32], out: &mut [u8]) -> usize

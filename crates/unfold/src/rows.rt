@@ -38,17 +38,17 @@ fn operands_of(c: usize) -> usize
     }
 }
 
-// The front of an expression, of m words; a variable's becomes a constant's.
-fn put_front(s: &[u16], vars: &[u16], m: usize, out: &mut Writer) -> Option<()>
-    requires { (1 ≤ m) × (m ≤ length s.now) }
-    ensures { Heads (front_words vars.now s.now m) out.old out.new result }
+// The front of an expression; a variable's becomes a constant's.
+fn put_front(front: &[u16], vars: &[u16], out: &mut Writer) -> Option<()>
+    requires { 1 ≤ length front.now }
+    ensures { Heads (front_words vars.now front.now (length front.now)) out.old out.new result }
 {
-    let c = s[0];
+    let c = front[0];
     if c as usize == VARIABLE {
-        let v = [vars.get(first(behind(s))).copied().unwrap_or(0)];
+        let v = [vars.get(first(behind(front))).copied().unwrap_or(0)];
         return out.head(CONSTANT as u16, &v);
     }
-    out.head(c, &s[1..m])
+    out.head(c, &front[1..])
 }
 
 // `count` expressions in a row, their variables become constants.
@@ -68,7 +68,7 @@ pub fn put_row(scope: &Scope, n: usize, count: usize, out: &mut Writer) -> Optio
         if s.len() < m {
             return None;
         }
-        put_front(s, scope.context.variables, m, out)?;
+        put_front(&s[..m], scope.context.variables, out)?;
         k = k - 1 + operands_of(c);
         left = s.len() - m;
     }

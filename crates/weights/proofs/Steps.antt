@@ -1,4 +1,5 @@
 -- Steps one after the other: equal copies nested to the right, one more at the front each time, and stars laid around a term.
+-- Document 01, "Unfolding, size and breadth"; refusals 7 and 8.
 use mathlib.Core.Path.{◌≡◌, refl, sym, ap, ◌∙◌}
 use Prim.Native.Nat.{ℕ, zero, suc, ◌+◌, ◌-◌}
 use native.Mathlib.Omega.{arith}

@@ -53,7 +53,7 @@ impl Limits {
 }
 
 // A number of words.
-// Stays: it is public, and what is public keeps its promise; today's form is a cast in place.
+// Stays, though no crate here calls it any more and today's form is a cast in place: a rule of the project, a public function keeps its promise.
 pub fn narrow(x: usize) -> u64
     ensures { result ≡ x }
 {
@@ -189,25 +189,14 @@ fn repeated<F: Fn(Weight) -> Weight>(n: usize, from: Weight, step: F) -> Weight
     w
 }
 
-// n copies in a choice, nested to the right.
-pub fn choices(n: usize, a: Weight) -> Weight
-    ensures { measure result ≡ right_nest (nothing (sat cap)) (choice_of (sat cap)) n (λ x. measure a) }
+// n copies of a term, nested to the right.
+pub fn copies(joint: Joint, n: usize, a: Weight) -> Weight
+    ensures { measure result ≡ right_nest (nothing (sat cap)) (joint_of joint) n (λ x. measure a) }
 {
     if n == 0 {
         return empty();
     }
-    repeated(n - 1, a, |w| choice(a, w))
-}
-
-// n copies in parallel, nested to the right.
-// Stays beside `choices`: what they share is `repeated`; and the test for no copy is in each, since stars may be none.
-pub fn parallels(n: usize, zero: bool, a: Weight) -> Weight
-    ensures { measure result ≡ right_nest (nothing (sat cap)) (parallel_by zero) n (λ x. measure a) }
-{
-    if n == 0 {
-        return empty();
-    }
-    repeated(n - 1, a, |w| parallel(zero, a, w))
+    repeated(n - 1, a, |w| joined(joint, a, w))
 }
 
 // n stars, one around the other.

@@ -1,15 +1,13 @@
-use Rattle.std.specs.Prelude.{◌≡◌, List, [], ◌∷◌, ℕ, take, refl, nat_eq}
-use Rattle.std.proofs.Common.{rules, ◌∙◌}
-use Rattle.std.specs.List.{list_all}
+use Rattle.std.proofs.Common.{◌∙◌, ap}
+use Rattle.std.specs.Prelude.{◌≡◌, List, [], ◌∷◌, ℕ, ◌&&◌, eqb, refl}
+use Rattle.eb3.specs.Admission.{all_zero}
 use Rattle.eb3.specs.Sizes.{zero_mask}
 use Rattle.arguments.proofs.mask_zero.Goals as goal
 
-zeros : (m : List ℕ) → list_all (λ w. nat_eq w 0) m ≡ zero_mask m
-unfolding zero_mask
-zeros [] = refl
-zeros (w ∷ m) = refl
+same_test : (m : List ℕ) → all_zero m ≡ zero_mask m
+unfolding all_zero zero_mask
+same_test [] = refl
+same_test (w ∷ m) = λ j. eqb w 0 && same_test m j
 
 pub returns : goal.returns
-returns c =
-    let h : c.all.result ≡ list_all (λ w. nat_eq w 0) (take 4 c.args.t.now) = search rules in
-    h ∙ zeros (take 4 c.args.t.now)
+returns c = c.zeros.ensures ∙ ap all_zero c.front.ensures ∙ same_test _

@@ -4,4 +4,4 @@ use Rattle.mains.proofs.MainCases.{masked_run}
 use Rattle.mains.proofs.run_masked.Goals as goal
 
 pub returns : goal.returns
-returns c = (c.run_moves-r.ensures.bytes, masked_run c.run_moves-r.ensures.words c.run_moves-r.ensures.run c.finish.ensures refl)
+returns c = (c.run_moves-r.ensures.bytes, rw c.finish.ensures.told (masked_run c.run_moves-r.ensures.words c.run_moves-r.ensures.run c.finish.ensures.written refl))

@@ -56,7 +56,7 @@ pub check_term-returns : goal.check_term-returns
 check_term-returns t c = let x = c.in_ok-a.was in search around
 
 pub check_term-check_plain-requires : goal.check_term-check_plain-requires
-check_term-check_plain-requires t c = (omega (arith, ap length c.beyond.ensures, length-drop c.leading-k.result c.args.s.now), search around)
+check_term-check_plain-requires t c = (omega (arith, ap length c.after.ensures, length-drop c.leading-k.result c.args.s.now), search around)
 
 pub check_plain-returns-in-20 : goal.check_plain-returns-in-20
 check_plain-returns-in-20 t c = search codes

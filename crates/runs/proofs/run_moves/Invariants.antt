@@ -1,6 +1,6 @@
 use mathlib.Core.Path.{◌≡◌}
 use lib.ListN.{length}
-use Rattle.runs.specs.Arrays.{SameArrays}
+use Rattle.derivation.specs.Arrays.{SameArrays}
 use Rattle.runs.proofs.RunCases.{total, RunningTo}
 use Rattle.runs.proofs.run_moves.Given as goal
 

@@ -1,8 +1,11 @@
+use Rattle.given.specs.Handing.{handed_some, handed_none}
 use Rattle.engine.proofs.StepCases.{step_made, step_refused}
 use Rattle.engine.proofs.stepping.step_from.Goals as goal
 
-pub returns-in-Some : goal.returns-in-Some
-returns-in-Some c = step_made c.args.rules.now _ _ _ _ _ _ _ _ _ _ _ _ c.take_move.ensures c.in-Some.is c.renew.ensures.0 c.renew.ensures.1 c.save.ensures c.tell.ensures
+pub returns-in_err-taken-clause-done : goal.returns-in_err-taken-clause-done
+returns-in_err-taken-clause-done c =
+    let h = handed_none _ c.ok_or.ensures.value c.in_err-taken.was _ c.from_residual.ensures in
+    rw h.1 (step_refused c.args.rules.now _ _ _ _ _ _ _ c.take_move.ensures h.0)
 
-pub returns-in-None : goal.returns-in-None
-returns-in-None c = step_refused c.args.rules.now _ _ _ _ _ _ _ c.take_move.ensures c.in-None.is
+pub returns-clause-done : goal.returns-clause-done
+returns-clause-done c = step_made c.args.rules.now _ _ _ _ _ _ _ _ _ _ _ _ c.take_move.ensures (handed_some _ c.ok_or.ensures.value c.in_ok-taken.was) c.renew.ensures.0 c.renew.ensures.1 c.save.ensures c.tell.ensures

@@ -17,13 +17,13 @@ of-rules-requires c =
 pub step_given-requires : goal.step_given-requires
 step_given-requires c = (given_few c.given_in.ensures.1 c.in_ok-given.was c.front-s.ensures).0
 
-pub returns : goal.returns
-returns c =
+pub returns-clause-done : goal.returns-clause-done
+returns-clause-done c =
     let file = c.args.file.now in
     let m = c.of-rules.ensures in
     let given = c.given_in.ensures.1 in
     let t = stream_part file.bytes.now _ file.whole file.some file.few _ c.args.words.now given.decoded in
-    stepped_done given _ _ _ _ c.in_ok-given.was (given_made given c.in_ok-given.was c.front-s.ensures (m.stream ∙ t) m.declared m.places m.memory) _ _ _ c.step_given.ensures
+    stepped_done given _ _ _ _ c.in_ok-given.was (given_made given c.in_ok-given.was c.front-s.ensures (m.stream ∙ t) m.declared m.places m.memory) _ _ _ c.step_given.ensures.done
 
-pub returns-in_err-given : goal.returns-in_err-given
-returns-in_err-given c = rw (handed_err _ _ c.from_residual.ensures) (stepped_refused c.given_in.ensures.1 _ _ _ _ _ c.in_err-given.was)
+pub returns-in_err-given-clause-done : goal.returns-in_err-given-clause-done
+returns-in_err-given-clause-done c = rw (handed_err _ _ c.from_residual.ensures) (stepped_refused c.given_in.ensures.1 _ _ _ _ _ c.in_err-given.was)

@@ -1,6 +1,6 @@
 use mathlib.Core.Path.{◌≡◌}
 use lib.ListN.{length}
-use Rattle.runs.specs.Arrays.{SameArrays}
+use Rattle.derivation.specs.Arrays.{SameArrays}
 use Rattle.runs.proofs.RunCases.{total}
 use Rattle.runs.proofs.SharedCases.{SharedTo}
 use Rattle.runs.proofs.shared.run_shared.Given as goal

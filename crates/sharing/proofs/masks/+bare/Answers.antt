@@ -1,6 +1,6 @@
 use Rattle.std.proofs.Common.{rules}
 use lib.Dec.{lit<}
-use Rattle.std.proofs.Common.{arith}
+use Rattle.std.proofs.Common.{arith, sym, ◌∙◌}
 use Rattle.scan.specs.Laws.{last_len}
 use Rattle.sharing.proofs.MasksCases.{passing_none, goes_on, goes_less, behind_mask_less, at_front, action_bare, sequence_bare, choice_bare, star_bare, parallel_bare, guard_bare, leaf_bare, two_bare}
 use Rattle.sharing.proofs.masks.+bare.Goals as goal
@@ -35,7 +35,7 @@ loop-s-preserved-in-24 t c = goes_on _ _ _ _ _ 24 c.loop-s.invariant c.first.ens
 pub loop-s-preserved-in-25 : goal.loop-s-preserved-in-25
 loop-s-preserved-in-25 t c =
     goes_on _ _ _ _ _ 25 c.loop-s.invariant c.first.ensures.0 c.behind-t.ensures c.in-25.is (lit< tt) (behind_mask_less _ _ _ _ c.behind_mask-e.ensures c.last-s-in-25.ensures)
-    (λ n g. parallel_bare _ _ (c.has_label.ensures c.if-has_label.false) c.behind_mask-e.ensures n (two_bare _ _ _ c.in_ok-bare-in-25.ensures c.last-s-in-25.ensures n g))
+    (λ n g. parallel_bare _ _ (sym c.mask_zero.ensures ∙ c.if-not-mask_zero.false) c.behind_mask-e.ensures n (two_bare _ _ _ c.in_ok-bare-in-25.ensures c.last-s-in-25.ensures n g))
 
 pub loop-s-preserved : goal.loop-s-preserved
 loop-s-preserved t c = goes_on _ _ _ _ _ 26 c.loop-s.invariant c.first.ensures.0 c.behind-t.ensures c.in-26.is (lit< tt) (last_len _ _ _ c.last-s-in-26.ensures) (guard_bare _ _ _ c.behind_condition.ensures c.last-s-in-26.ensures)

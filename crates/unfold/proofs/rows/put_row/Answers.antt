@@ -15,7 +15,7 @@ pub loop-k-smaller : goal.loop-k-smaller
 loop-k-smaller c = omega (arith, last_size)
 
 pub loop-k-preserved : goal.loop-k-preserved
-loop-k-preserved c = (omega (arith, last_size), omega (arith, last_size), omega (arith, last_size), row_next _ _ _ _ _ _ _ _ _ _ _ c.loop-k.invariant.3 c.loop-k-test.true c.last-s.ensures c.first-c.ensures.0 c.width_of-m.ensures.0 _ _ _ c.in_ok-put_front.ensures c.operands_of.ensures.0)
+loop-k-preserved c = (omega (arith, last_size), omega (arith, last_size), omega (arith, last_size), row_next _ _ _ _ _ _ _ _ _ _ _ c.loop-k.invariant.3 c.loop-k-test.true c.last-s.ensures c.first-c.ensures.0 c.width_of-m.ensures.0 c.width_of-m.ensures.1 c.if-s-m.false _ _ _ c.in_ok-put_front.ensures c.operands_of.ensures.0)
 
 pub returns-clause-puts : goal.returns-clause-puts
 returns-clause-puts c = search rows

@@ -1,8 +1,9 @@
-// The arrays that a run works in (document 01, "Operations": Run).
+// The arrays that a step works in (document 01, "Moves, in order"; "Operations": Run), which sharing, steps and runs take from here. They are in a file of
+// their own, since the clauses there name them.
 ghost use Rattle.std.specs.Prelude.{◌≤◌, length};
 
-/// Lent arrays for what a step of a run finds on its way. What they hold before does not count: they are lent, so that a run clears
-/// them once and not at every move.
+/// Lent arrays for what a step finds on its way. What they hold before does not count: they are lent, so that a run clears them
+/// once and not at every move.
 #[derive(Drop)]
 pub struct Scratch<'a> {
     /// For the path of a move.

@@ -4,7 +4,7 @@ use Rattle.std.specs.List.{list_all}
 use Rattle.std.proofs.lemmas.Iterator.{YieldsList-from_slice}
 use Rattle.std.proofs.lemmas.Iterator.Search.{all_from_yields_List}
 use Rattle.eb3.specs.Admission.{all_zero}
-use Rattle.admission.proofs.zeros.Goals as goal
+use Rattle.arguments.proofs.zeros.Goals as goal
 
 all_zeros : (s : List ℕ) → list_all (λ w. nat_eq w 0) s ≡ all_zero s
 unfolding all_zero

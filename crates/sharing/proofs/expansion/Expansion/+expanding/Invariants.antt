@@ -2,7 +2,7 @@
 -- at hand, and one more behind the front.
 use lib.ListN.{length}
 use Prim.Native.Nat.{◌+◌, ◌*◌}
-use Rattle.sharing.proofs.expanding.+expanding.Given as goal
+use Rattle.sharing.proofs.expansion.Expansion.+expanding.Given as goal
 
 abbrev pub decreases-expand : goal.decreases-expand
 decreases-expand l = 2 * length l.s.now
