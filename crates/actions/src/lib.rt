@@ -74,6 +74,7 @@ fn mask_word(d: &[u16], i: usize) -> u64
 
 // The mask at the front as a set.
 // Stays: no function of std makes one number of four words.
+#[tactic(auto, using(crate::proofs::Cases::cases))]
 pub fn mask_set(d: &[u16]) -> u64
     ensures { result ≡ mask_set d.now }
 {
@@ -83,6 +84,7 @@ pub fn mask_set(d: &[u16]) -> u64
 
 // Whether a number is that of a visible action whose label is in the set: of any number, so that a loop over numbers needs to know nothing
 // of actions.
+#[tactic(auto, using(crate::proofs::Cases::cases))]
 pub fn in_set(x: u64, code: u32) -> bool
     ensures { result ≡ in_set x code }
 {
@@ -97,6 +99,7 @@ pub fn join(x: u64, y: u64) -> u64
 
 // ── a number taken apart ──
 
+#[tactic(auto, using(crate::proofs::Cases::cases))]
 pub fn label_of(code: u32) -> u32
     ensures { (a : VisibleAction) → Small (visible a) → code ≡ action_code (visible a) → result ≡ a.label }
 {
@@ -104,6 +107,7 @@ pub fn label_of(code: u32) -> u32
 }
 
 // The arguments' number.
+#[tactic(auto, using(crate::proofs::Cases::cases))]
 fn arguments_of(code: u32) -> u32
     ensures { (a : VisibleAction) → Small (visible a) → code ≡ action_code (visible a) → result ≡ arguments_code a.arguments }
 {
@@ -125,6 +129,7 @@ pub fn argument_count(code: u32) -> u32
 
 // The argument at a place, or 0 where there is none. An argument counts one more than it is; 0 says that there is none.
 // Stays: the places 0 and 1 are those of arguments, no codes.
+#[tactic(auto, using(crate::proofs::Cases::cases))]
 pub fn argument_at(code: u32, i: u32) -> u32
     ensures { (a : VisibleAction) → Small (visible a) → code ≡ action_code (visible a) → result ≡ get_or a.arguments i 0 }
 {

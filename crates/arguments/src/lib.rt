@@ -180,6 +180,8 @@ pub fn with(vars: &[u16], x: u16) -> [u16; 8]
 // ── arguments ──
 
 // An argument of the domain d; `vars` are the domains of the variables in scope.
+// Stays, here and in check_arguments: the tables and the variables come apart, since neither asks how many variables there are, and a `Context` has at
+// most eight.
 #[tactic(auto, using(crate::proofs::Cases::an_argument))]
 fn check_argument(t: &[u16], tb: &[u32], vars: &[u16], d: usize) -> Result<usize, Refusal>
     ensures { result ≡ checked (argument_of (declared tb.now) vars.now d t.now) }
@@ -231,7 +233,6 @@ fn variable_argument(t: &[u16], vars: &[u16], d: usize) -> Result<usize, Refusal
 }
 
 // An argument for each of some domains. Always inlined: as a call, a term of actions takes a fifth more instructions.
-// Stays: the tables and the variables come apart, since it asks nothing of how many variables there are, and a `Context` has at most eight.
 #[inline(always)]
 #[tactic(auto, using(crate::proofs::Rounds::all_arguments))]
 pub fn check_arguments(t: &[u16], tb: &[u32], vars: &[u16], ds: &[u32]) -> Result<usize, Refusal>

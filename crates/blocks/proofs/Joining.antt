@@ -5,8 +5,9 @@ use Prim.Native.Nat.{ℕ, zero, suc, ◌+◌, ◌-◌, ◌*◌, ◌/◌, ◌≤�
 use native.Mathlib.Numerals.{add-one}
 use native.Mathlib.Omega.{arith}
 use lib.ListN.{length, take, drop, get_or, set, length-append, length-take, length-drop, take-append-drop, drop_of_length-le}
-use lib.Seq.{drop-cons, drop-drop, take-suc-set, take_all, take-add, drop_at, take_at, length-take-le}
+use lib.Seq.{drop-cons, drop-drop, take-suc-set, take_all, drop_at, take_at}
 use borrow.Rule.Slice.PartMut.{put_mid}
+use Rattle.std.proofs.lemmas.List.{drop-take}
 use Rattle.eb3.specs.Bytes.{words_in}
 use Rattle.eb3.proofs.Laws.Bytes.{words_counted}
 use Rattle.eb3.specs.Blocks.{contents}
@@ -42,20 +43,14 @@ unfolding contents
 one_content zero s h = let z : ⊥ = omega arith in absurd z
 one_content (suc m) s h = let f : m ≡ suc m - 1 = omega arith in ap (λ m. drop 4 (take 512 s) ++ contents m (drop 512 s)) f
 
-drop_take : (s : List ℕ) → 512 ≤ length s → drop 4 (take 512 s) ≡ take 508 (drop 4 s)
-drop_take s h =
-    let l : 4 ≤ length s = omega arith in
-    ap (drop 4) (take-add 4 508 s) ∙ drop_at (take 4 s) (take 508 (drop 4 s)) 4 (length-take-le 4 s l)
-
 -- Block i's words, and those of the blocks after it.
 next_content : (s : List ℕ) (n i : ℕ) → i < n → length s ≡ 512 * n
     → words_in (contents (n - i) (drop (512 * i) s)) ≡ words_in (take 508 (drop (512 * i + 4) s)) ++ words_in (contents (n - (i + 1)) (drop (512 * (i + 1)) s))
 next_content s n i h e =
     let l : 1 ≤ n - i = omega arith in let f : n - i - 1 ≡ n - (i + 1) = omega arith in let g : 512 * i + 512 ≡ 512 * (i + 1) = omega arith in
-    let k : 512 ≤ length (drop (512 * i) s) = simp length-drop (omega arith) in
     let m : length (take 508 (drop (512 * i + 4) s)) ≡ 2 * 254 = simp (length-take, length-drop) (omega arith) in
     ap words_in (one_content (n - i) (drop (512 * i) s) l)
-    ∙ (rw (drop_take (drop (512 * i) s) k, drop-drop 4 (512 * i) s, drop-drop 512 (512 * i) s, f, g) (words_append 254 (take 508 (drop (512 * i + 4) s)) (contents (n - (i + 1)) (drop (512 * (i + 1)) s)) m))
+    ∙ (rw (drop-take 4 508 (drop (512 * i) s), drop-drop 4 (512 * i) s, drop-drop 512 (512 * i) s, f, g) (words_append 254 (take 508 (drop (512 * i + 4) s)) (contents (n - (i + 1)) (drop (512 * (i + 1)) s)) m))
 
 -- A loop that stores a block's words at each i, with `x` for what it is to find before what `ws₀` has.
 module _ (x s ws₀ ws : List ℕ) (n i : ℕ) (whole : length s ≡ 512 * n) (room : 254 * n ≤ length ws₀) (same : length ws ≡ length ws₀)

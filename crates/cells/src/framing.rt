@@ -61,6 +61,7 @@ fn fill_each(s: &[u16], m: &mut [u16], at: usize, k: usize)
 }
 
 // The one element named by what it is compared with, if the others keep their values.
+#[tactic(auto, using(scan::specs::Laws::last_len))]
 fn fill_named(s: &[u16], m: &mut [u16], f: usize, from: usize, at: usize, k: usize)
     requires { (8 ≤ length s.now) × (length s.now ≤ 65535) × (36 ≤ at) × (at + k ≤ length m.old) × (from + k ≤ length m.old) × (k < 65536) × (from ≡ before_place m.old + stored m.old (row_place f + 1)) × Tells true s.now AsksOne }
     ensures { (length m.new ≡ length m.old) × NewCells f s.now at k m.old m.new }
@@ -80,6 +81,7 @@ fn fill_named(s: &[u16], m: &mut [u16], f: usize, from: usize, at: usize, k: usi
 }
 
 // The cells of function f, by the expression where `left` words of the stream are left.
+#[tactic(auto, using(scan::specs::Laws::last_len))]
 pub fn fill_function(t: &[u16], m: &mut [u16], f: usize, left: usize)
     requires { (length t.now ≤ 65535) × (f < 16) }
     ensures { (length m.new ≡ length m.old) × FunctionFilled t.now f left m.old m.new }

@@ -73,14 +73,50 @@ pub fn arity(shape: usize, f: usize) -> usize
 
 // ── what follows a code ──
 
-// The table: how many operands follow each code, and how many words come between. (A match by cases takes up to 1.20 times the instructions, a jump that no machine
-// foresees; bits of one number, read by shifts, 1.00 to 1.08.)
-const OPERANDS: [u8; 31] = [
-    0, 0, 0, 2, 2, 3, 1, 1, 2, 2, 2, 2, 1, 0, 0, 0, 0, 0, 0, 0, 0, 0, 2, 2, 1, 2, 2, 0, 0, 0, 0,
-];
+// What the table says of a code: how many words come between it and its operands, how many operands it has, and whether a term that begins with it has a
+// move whatever its operands are.
+#[derive(Clone, Copy)]
+struct Code {
+    words: u8,
+    operands: u8,
+    moves: bool,
+}
 
-const WORDS: [u8; 31] = [
-    0, 1, 1, 0, 0, 0, 1, 1, 0, 0, 0, 0, 0, 0, 0, 0, 0, 0, 0, 0, 0, 1, 0, 0, 0, 4, 0, 0, 0, 0, 0,
+// The table, a row for each code. (A match by cases takes up to 1.20 times the instructions, a jump that no machine foresees; bits of one number, read by
+// shifts, 1.00 to 1.08.)
+#[rattlefmt::skip]
+const CODES: [Code; 31] = [
+    Code { words: 0, operands: 0, moves: false }, // 0 undefined
+    Code { words: 1, operands: 0, moves: false }, // 1 constant: its value
+    Code { words: 1, operands: 0, moves: false }, // 2 variable: its number
+    Code { words: 0, operands: 2, moves: false }, // 3 add
+    Code { words: 0, operands: 2, moves: false }, // 4 subtract
+    Code { words: 0, operands: 3, moves: false }, // 5 if
+    Code { words: 1, operands: 1, moves: false }, // 6 now: the function's number
+    Code { words: 1, operands: 1, moves: false }, // 7 before: the function's number
+    Code { words: 0, operands: 2, moves: false }, // 8 equal
+    Code { words: 0, operands: 2, moves: false }, // 9 less
+    Code { words: 0, operands: 2, moves: false }, // 10 and
+    Code { words: 0, operands: 2, moves: false }, // 11 or
+    Code { words: 0, operands: 1, moves: false }, // 12 not
+    Code { words: 0, operands: 0, moves: false }, // 13 true
+    Code { words: 0, operands: 0, moves: false }, // 14
+    Code { words: 0, operands: 0, moves: false }, // 15
+    Code { words: 0, operands: 0, moves: false }, // 16
+    Code { words: 0, operands: 0, moves: false }, // 17
+    Code { words: 0, operands: 0, moves: false }, // 18
+    Code { words: 0, operands: 0, moves: false }, // 19
+    Code { words: 0, operands: 0, moves: true }, // 20 internal
+    Code { words: 1, operands: 0, moves: true }, // 21 action: the label
+    Code { words: 0, operands: 2, moves: false }, // 22 sequence
+    Code { words: 0, operands: 2, moves: false }, // 23 choice
+    Code { words: 0, operands: 1, moves: true }, // 24 star
+    Code { words: 4, operands: 2, moves: true }, // 25 parallel: the mask
+    Code { words: 0, operands: 2, moves: false }, // 26 guard
+    Code { words: 0, operands: 0, moves: false }, // 27
+    Code { words: 0, operands: 0, moves: false }, // 28
+    Code { words: 0, operands: 0, moves: false }, // 29
+    Code { words: 0, operands: 0, moves: false }, // 30 done
 ];
 
 // The words between a code and its operands. A constant's second word is bit 16 of the shape, moved to the constant's code.
@@ -90,7 +126,7 @@ pub fn words_after(w: usize, shape: usize) -> usize
     requires { w ≤ 30 }
     ensures { (result ≡ more_words shape w) × (result < 7) }
 {
-    WORDS[w] as usize + ((2 * (shape / 65536 % 2)) >> w) % 2
+    CODES[w].words as usize + ((2 * (shape / 65536 % 2)) >> w) % 2
 }
 
 // The word at a place, or 0 where there is none.
@@ -142,7 +178,7 @@ pub fn operands_after(w: usize) -> usize
     requires { w ≤ 30 }
     ensures { (result ≡ operands_after w) × (result ≤ 3) }
 {
-    OPERANDS[w] as usize
+    CODES[w].operands as usize
 }
 
 // How many operands a code has, t being the words after it.
@@ -201,16 +237,12 @@ pub fn skip(s: &[u16], shape: usize) -> usize
 
 // ── terms that can never move ──
 
-// 1 for each code with which a term begins that has a move whatever its operands are.
-const MOVING: [u8; 31] = [
-    0, 0, 0, 0, 0, 0, 0, 0, 0, 0, 0, 0, 0, 0, 0, 0, 0, 0, 0, 0, 1, 1, 0, 0, 1, 1, 0, 0, 0, 0, 0,
-];
-
+// Whether a term that begins with a code has a move whatever its operands are.
 fn moving(w: usize) -> bool
     requires { w ≤ 30 }
     ensures { result ≡ moving_code w }
 {
-    MOVING[w] == 1
+    CODES[w].moves
 }
 
 // Whether a term can never move: no such code is in it. Where one is, the loop ends at the first.

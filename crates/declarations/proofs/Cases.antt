@@ -6,22 +6,23 @@ use native.Mathlib.Omega.{arith}
 use native.Mathlib.Nat.{le_refl}
 use mathlib.Core.Path.{◌≡◌, refl, sym, ap, ◌∙◌, subst}
 use mathlib.Core.List.{List, [], ◌∷◌}
-use lib.ListN.{length, get_or, set}
-use lib.Seq.{paste, paste-suc, length-paste}
+use lib.ListN.{length, get_or, set, take}
+use lib.Seq.{paste, paste-suc, length-paste, length-take-le}
 use Rattle.eb3.specs.Reading.{Read, refused, taken, Reader, giving, then, both, number_of, repeat, counted}
 use Rattle.scan.specs.Checking.{checked, last_of, Checked}
 use Rattle.scan.specs.Laws.{Ends, Tail, number_ends, last_all, last_length, last_tail, tail_at, tail_on, tail_short}
 use Rattle.scan.specs.RowLaws.{counted_ends, passed, repeat_out, repeat_in}
 use Rattle.arguments.specs.Tables.{row}
 use Rattle.declarations.specs.Entering.{put_row, put_rows, Entered}
+use Rattle.declarations.specs.Regions.{paste_front}
 use Rattle.declarations.specs.Rows.{numbers_row}
 use Rattle.std.specs.Prelude.{Ok, Err}
 use Rattle.refusals.specs.declared.Refusal.{Refusal}
 
 -- ── a copy ──
 
-pub copy_more : (T T₀ s : List ℕ) (at n i w : ℕ) → i < n → at + n ≤ length T₀ → n ≤ length s → w ≡ get_or s i 0 → T ≡ paste T₀ at s i → set T (at + i) w ≡ paste T₀ at s (i + 1)
-copy_more T T₀ s at n i w h a b f e = rw (e, f) (rw (add-one i) (paste-suc T₀ at s i 0 (omega arith) (omega arith)))
+pub copy_more : (T T₀ s : List ℕ) (at i w : ℕ) → i < length s → at + length s ≤ length T₀ → w ≡ get_or s i 0 → T ≡ paste T₀ at s i → set T (at + i) w ≡ paste T₀ at s (i + 1)
+copy_more T T₀ s at i w h a f e = rw (e, f) (rw (add-one i) (paste-suc T₀ at s i 0 (omega arith) (omega arith)))
 
 -- ── labels entered ──
 
@@ -105,11 +106,16 @@ module _ (t T₀ T u : List ℕ) (n at d left i x : ℕ) (p : Checked) (s : Ente
   entering_fail j h = s.rest (Err j) T (same_entered u _ T T (n - i) (n - i) (at + 3 * i) (at + 3 * i) d (Err j) is_u refl refl (entered_out u T (n - i) (at + 3 * i) d j p some e h))
 
   module _ (m : ℕ) (h : p ≡ Ok m) (first : x ≡ get_or u 0 0) where
-    pub entering_fits : (at + 3 * i + (x + 1) ≤ length T) × (x + 1 ≤ length u)
+    entering_fits : (at + 3 * i + (x + 1) ≤ length T) × (x + 1 ≤ length u)
     entering_fits = label_fits (n - i) (at + 3 * i) d m x u T p some place_left first e h
 
-    pub entering_next : (T₁ : List ℕ) → T₁ ≡ paste T (at + 3 * i) u (x + 1) → Entering t T₀ n at d T₁ m (i + 1)
-    entering_next T₁ g =
+    -- those of them that are copied
+    pub entering_front : (x + 1 ≡ length (take (x + 1) u)) × (at + 3 * i + length (take (x + 1) u) ≤ length T)
+    entering_front = let e = length-take-le (x + 1) u entering_fits.1 in (sym e, rw e entering_fits.0)
+
+    pub entering_next : (T₁ : List ℕ) → T₁ ≡ paste T (at + 3 * i) (take (x + 1) u) (length (take (x + 1) u)) → Entering t T₀ n at d T₁ m (i + 1)
+    entering_next T₁ copied =
+        let g = copied ∙ sym (paste_front T u (at + 3 * i) (x + 1) entering_fits.1) in
         let w = passed u m (label_of d u) (label_ends d u) (sym h ∙ e) in
         let tail : Tail (last_of m u) t = tail_on (last_of m u) u t (rw is_u (last_tail left t)) w.0 in
         let same : last_of m t ≡ last_of m u = ap (λ k. last_of k t) (sym w.1) ∙ tail_at (last_of m u) t tail in

@@ -1,12 +1,12 @@
 -- Words of the tables: a copy and a row word by word, and what is declared by them. Each part of `declared` reads its own region of the tables only:
 -- domains below 17, labels from 17 below 210, the functions' count at 210, processes from 211 on; what keeps a region keeps what is declared there.
 -- Document 01, "Blocks and the rule stream", items 2 to 5; refusals 4 and 5.
-use Rattle.std.specs.Prelude.{◌≡◌, List, [], map, ℕ, zero, suc, ◌+◌, ◌*◌, ◌≤◌, ◌<◌, length, take, drop, get_or, set, ltb}
+use Rattle.std.specs.Prelude.{◌≡◌, List, [], ◌++◌, map, ℕ, zero, suc, ◌+◌, ◌*◌, ◌≤◌, ◌<◌, length, take, drop, get_or, set, ltb}
 use Rattle.std.proofs.Common.{sym, ap, ◌∙◌, subst, arith, length-take, length-drop, length-take-le, get_or-set_same, get_or-set_other, get_or-take, get_or-drop, ext_get_or, lt→ltb}
 use Rattle.std.proofs.Math.Decide.{ℕ_discrete}
 use Rattle.std.proofs.lemmas.List.{length-map}
 use Rattle.std.proofs.Math.ListN.{get_or-map}
-use Rattle.std.proofs.Math.Seq.{paste, paste-zero, paste-suc}
+use Rattle.std.proofs.Math.Seq.{paste, paste-zero, paste-suc, take-length}
 use Rattle.std.proofs.lemmas.List.Edits.{length-paste}
 use Rattle.std.proofs.Math.Dec.{ltb→lt}
 use Rattle.eb3.specs.Generic.AllLists.{All, all_at}
@@ -18,6 +18,10 @@ use Rattle.arguments.specs.TableLaws.{domains_length, domain_at, labels_length, 
 use Rattle.declarations.specs.Declaring.{Heads, Tables}
 
 -- ── a copy, word by word ──
+
+-- Words at the front of others, copied by themselves.
+pub paste_front : (T t : List ℕ) (at n : ℕ) → n ≤ length t → paste T at t n ≡ paste T at (take n t) (length (take n t))
+paste_front T t at n h = (λ i. take at T ++ sym (take-length (take n t)) i ++ drop (at + sym (length-take-le n t h) i) T)
 
 module _ (d : List ℕ) (at : ℕ) (s : List ℕ) where
   pub paste_before : (n : ℕ) → at + n ≤ length d → n ≤ length s → (i : ℕ) → i < at → get_or (paste d at s n) i 0 ≡ get_or d i 0

@@ -31,14 +31,14 @@ pub struct Counted {
     pub cells: usize,
 }
 
-// The first n words of s, from the place at on.
+// Words, from the place at on.
 // Stays with a place, and not with a part of the table lent: what its callers ensure is of the whole table, which they would first have to join of its parts.
 #[tactic(auto, using(crate::proofs::Cases::copy_more, scan::specs::Laws::copy_len))]
-pub fn copy(tb: &mut [u32], at: usize, s: &[u16], n: usize)
-    requires { (at + n ≤ length tb.old) × (n ≤ length s.now) }
-    ensures { tb.new ≡ paste tb.old at s.now n }
+pub fn copy(tb: &mut [u32], at: usize, s: &[u16])
+    requires { at + length s.now ≤ length tb.old }
+    ensures { tb.new ≡ paste tb.old at s.now (length s.now) }
 {
-    for i in 0..n {
+    for i in 0..s.len() {
         tb[at + i] = s[i] as u32;
     }
 }
@@ -97,7 +97,7 @@ pub fn enter_labels(
     for i in 0..n {
         let u = last(t, left);
         left = parameters(u, 2, d)?;
-        copy(tb, at + LABEL_WORDS * i, u, first(u) + 1);
+        copy(tb, at + LABEL_WORDS * i, &u[..first(u) + 1]);
     }
     Ok(left)
 }
@@ -111,7 +111,6 @@ fn note(dir: &mut [u32], at: usize, x: usize)
 {
     if at < dir.len() {
         dir[at] = (x % 4294967296) as u32;
-        return;
     }
 }
 

@@ -7,6 +7,7 @@ mod Answers
 mod Counts
 mod Arms
 mod Sides
+mod Walking
 mod Listed
 mod Idle
 mod Parallels

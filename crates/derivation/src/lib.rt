@@ -5,7 +5,7 @@
 ghost use Rattle.std.specs.Prelude.{◌≡◌, ◌+◌, ◌-◌, ◌≤◌, ◌<◌, [], ◌∷◌, length};
 ghost use Rattle.expressions.specs.Answering.{answer};
 ghost use Rattle.derivation.specs.Derived.{passed, full, Derived, DerivedShown};
-ghost use Rattle.derivation.specs.Lending.{Kept, Over};
+ghost use Rattle.derivation.specs.Lending.{Kept, Over, Placed, answered, told};
 ghost use Rattle.derivation.specs.Searching.{sides_end};
 ghost use Rattle.derivation.specs.Arms.{Decided, ActionDerived, TwoDerived, RightDerived, LeftDerived, ListedDerived, MaskedDerived, SidesDerived, BothDerived};
 
@@ -21,63 +21,11 @@ mod arrays;
 mod scratch;
 mod searching;
 
-pub use arrays::Arrays;
+pub use arrays::{Arrays, Derivation, Walked};
 pub use scratch::Scratch;
 pub use searching::PASSED;
 
 // ── answers ──
-
-// An answer that says that there was no room. One below PASSED is the place in the path array where the path begins.
-// Stays, here and in each function of this crate that makes, tests or takes apart such an answer: measured, an enum of the three takes 1.03 to 1.22
-// times the instructions, and frames of 304 bytes a level for 144 (docs/DESIGN-PASS.md, "Answers packed in one number").
-pub const FULL: usize = 2199023255552;
-
-// What is left of k, and the words left after a term without move k.
-// Stays, here and below: the bounds of k and of how many words are left are clauses, since both become parts of one number. As fields of a struct they would
-// be put together for each call, and taken apart in it.
-pub fn passing(k: usize, left: usize) -> usize
-    requires { (k < 131072) × (left ≤ 65535) }
-    ensures { (result ≡ passed + answer left k) × (result < full) }
-{
-    PASSED + k * 65536 + left
-}
-
-// One move, whose path is empty: it begins at the end.
-pub fn single(k: usize, left: usize, end: usize) -> usize
-    requires { (k < 131072) × (left ≤ 65535) }
-    ensures { (k ≡ 0 → result ≡ end) × (1 ≤ k → result ≡ passed + answer left (k - 1)) }
-{
-    if k == 0 {
-        return end;
-    }
-    passing(k - 1, left)
-}
-
-// Writes a decision before the path that begins at r.
-// Stays, here and in decide_right: c is the word that is written, so that an enum of the decisions would only be turned back into it.
-pub fn decide(c: u16, r: usize, path: &mut [u16]) -> usize
-    requires { (r ≤ full) × (r < passed → r ≤ length path.old) }
-    ensures { Decided (c ∷ []) r path.old path.new result }
-{
-    if PASSED <= r {
-        return r;
-    }
-    if r == 0 {
-        return FULL;
-    }
-    let at = r - 1;
-    path[at] = c;
-    at
-}
-
-// Writes a decision that goes on on the right, and the left operand's size after it.
-pub fn decide_right(c: u16, n: u16, r: usize, path: &mut [u16]) -> usize
-    requires { (r ≤ full) × (r < passed → r ≤ length path.old) }
-    ensures { Decided (c ∷ n ∷ []) r path.old path.new result }
-{
-    let q = decide(n, r, path);
-    decide(c, q, path)
-}
 
 // How many words of t are before its last words u.
 pub fn size_before(t: &[u16], u: &[u16]) -> u16
@@ -87,15 +35,75 @@ pub fn size_before(t: &[u16], u: &[u16]) -> u16
     (t.len() - u.len()) as u16
 }
 
-// An action whose label a mask above hides is no move that shows.
-fn derive_action(t: &[u16], x: u64, k: usize, end: usize) -> usize
-    requires { (length t.now ≤ 65535) × (k < 131072) × (end ≤ 65535) }
-    ensures { ActionDerived x t.now k end result }
-{
-    if in_set(x, code_at(t)) {
-        return passing(k, behind_action(t));
+// Stays, here and below: the bound of `left` is a clause: it is a number of its own until the arrays hold it, with its bound.
+// Stays: that the arrays stay the same and keep their lengths (`Kept`) is a fact of what they were and what they are then, which no field of a struct holds.
+impl Arrays<'_> {
+    // The term has no move k; so many words are left after it.
+    pub fn passing(&mut self, left: usize) -> Walked
+        requires { left ≤ 65535 }
+        ensures kept { Kept self.old self.new }
+        ensures path { self.new.path.now ≡ self.old.path.now }
+        ensures passed { (answered self.new result ≡ passed + answer left self.old.k) × (answered self.new result < full) }
+    {
+        self.left = left;
+        Walked::Passed
     }
-    single(k, behind_action(t), end)
+
+    // One move, whose path is empty: it begins at the end.
+    pub fn single(&mut self, left: usize) -> Walked
+        requires { left ≤ 65535 }
+        ensures kept { Kept self.old self.new }
+        ensures path { self.new.path.now ≡ self.old.path.now }
+        ensures one { (self.old.k ≡ 0 → answered self.new result ≡ length self.old.path.now) × (1 ≤ self.old.k → answered self.new result ≡ passed + answer left (self.old.k - 1)) }
+    {
+        if self.k == 0 {
+            self.at = self.path.len();
+            return Walked::Found;
+        }
+        self.k = self.k - 1;
+        self.passing(left)
+    }
+
+    // Writes a decision before the path that was found.
+    // Stays, here and in decide_right: c is the word that is written, so that an enum of the decisions would only be turned back into it.
+    pub fn decide(&mut self, c: u16, walked: Walked) -> Walked
+        ensures kept { Kept self.old self.new }
+        ensures decided { Decided (c ∷ []) (answered self.old walked) self.old.path.now self.new.path.now (answered self.new result) }
+    {
+        match walked {
+            Walked::Found => {
+                if self.at == 0 {
+                    return Walked::Full;
+                }
+                self.at = self.at - 1;
+                self.path[self.at] = c;
+                Walked::Found
+            }
+            _ => walked,
+        }
+    }
+
+    // Writes a decision that goes on on the right, and the left operand's size after it.
+    pub fn decide_right(&mut self, c: u16, n: u16, walked: Walked) -> Walked
+        ensures kept { Kept self.old self.new }
+        ensures decided { Decided (c ∷ n ∷ []) (answered self.old walked) self.old.path.now self.new.path.now (answered self.new result) }
+    {
+        let q = self.decide(n, walked);
+        self.decide(c, q)
+    }
+
+    // An action whose label a mask above hides is no move that shows.
+    fn derive_action(&mut self, t: &[u16], x: u64) -> Walked
+        requires { length t.now ≤ 65535 }
+        ensures kept { Kept self.old self.new }
+        ensures path { self.new.path.now ≡ self.old.path.now }
+        ensures derived { ActionDerived x t.now self.old.k (length self.old.path.now) (answered self.new result) }
+    {
+        if in_set(x, code_at(t)) {
+            return self.passing(behind_action(t));
+        }
+        self.single(behind_action(t))
+    }
 }
 
 // ── the walk ──
@@ -103,9 +111,11 @@ fn derive_action(t: &[u16], x: u64, k: usize, end: usize) -> usize
 // Writes the path at the end of a lent array; acts is room for listing moves at parallels with a mask.
 // Stays: the store and the two arrays come one by one, since it is public; they become `Arrays` at once. That the path keeps its length is a
 // fact of what it was and what it is then, which no field of a struct holds.
-pub fn derive(s: &[u16], m: &[u16], k: usize, path: &mut [u16], acts: &mut [u32]) -> usize
+pub fn derive(s: &[u16], m: &[u16], k: usize, path: &mut [u16], acts: &mut [u32]) -> Derivation
     requires { (length s.now ≤ 65535) × (k < 65536) × (length path.old ≤ 65535) × (length acts.old ≤ 131072) }
-    ensures { (length path.new ≡ length path.old) × Derived s.now m.now k path.old path.new (length acts.old) result }
+    ensures kept { length path.new ≡ length path.old }
+    ensures derived { Derived s.now m.now k path.old path.new (length acts.old) (told result) }
+    ensures placed { Placed (length path.old) result }
 {
     derive_lent(s, m, k, path, acts)
 }
@@ -113,214 +123,224 @@ pub fn derive(s: &[u16], m: &[u16], k: usize, path: &mut [u16], acts: &mut [u32]
 // The same over arrays that are lent one by one, as the part of a path array that is left free; and for every k that is a place in acts, since a side
 // of a parallel may have as many moves as acts has places.
 #[cycle(deriving)]
-fn derive_lent(s: &[u16], store: &[u16], k: usize, path: &mut [u16], acts: &mut [u32]) -> usize
+fn derive_lent(s: &[u16], store: &[u16], k: usize, path: &mut [u16], acts: &mut [u32]) -> Derivation
     requires { (length s.now ≤ 65535) × (k < 131072) × (length path.old ≤ 65535) × (length acts.old ≤ 131072) }
-    ensures { DerivedShown 0 s.now store.now k path.old path.new (length acts.old) result }
+    ensures derived { DerivedShown 0 s.now store.now k path.old path.new (length acts.old) (told result) }
+    ensures placed { Placed (length path.old) result }
 {
-    let mut arrays = Arrays { store, path, acts };
-    arrays.walk(s, 0, k)
+    let mut arrays = Arrays {
+        store,
+        path,
+        acts,
+        k,
+        at: 0,
+        left: 0,
+    };
+    match arrays.walk(s, 0) {
+        Walked::Found => Derivation::At(arrays.at),
+        Walked::Passed => Derivation::Behind {
+            k: arrays.k,
+            left: arrays.left,
+        },
+        Walked::Full => Derivation::NoRoom,
+    }
 }
 
-// Stays: t, x and k are three parameters of each walk, with the bound of k as a fact. Every call is handed another t, so that a struct of them would be
-// made anew at every level.
+// Stays: t and x are two parameters of each walk. Every call is handed another t, so that a struct of them would be made anew at every level.
 // Stays: that u is no longer than t is a fact of both, asked where both are handed on; and that the arrays stay the same and keep their lengths (`Kept`) is a
 // fact of what they were and what they are then: no field of a struct holds either.
 impl Arrays<'_> {
     // The path of move k, of those that show below masks that hide the labels of x: so nothing need be listed where masks within one another leave one
     // side's moves only.
     #[cycle(deriving)]
-    fn walk(&mut self, s: &[u16], x: u64, k: usize) -> usize
-        requires { (length s.now ≤ 65535) × (k < 131072) }
+    fn walk(&mut self, s: &[u16], x: u64) -> Walked
+        requires { length s.now ≤ 65535 }
         ensures kept { Kept self.old self.new }
-        ensures derived { Over (DerivedShown x s.now) k self.old self.new result }
+        ensures derived { Over (DerivedShown x s.now) self.old.k self.old self.new (answered self.new result) }
     {
         let w = first(s);
         let t = behind(s);
         match w {
-            INTERNAL => single(k, t.len(), self.path.len()),
-            ACTION => derive_action(t, x, k, self.path.len()),
-            SEQUENCE => self.derive_sequence(t, x, k),
-            CHOICE => self.derive_two(t, x, k, CHOOSE_LEFT as u16),
-            STAR => self.derive_star(t, x, k),
-            PARALLEL => self.derive_parallel(t, x, k),
-            GUARD => self.derive_guard(t, x, k),
-            _ => passing(k, t.len()),
+            INTERNAL => self.single(t.len()),
+            ACTION => self.derive_action(t, x),
+            SEQUENCE => self.derive_sequence(t, x),
+            CHOICE => self.derive_two(t, x, CHOOSE_LEFT as u16),
+            STAR => self.derive_star(t, x),
+            PARALLEL => self.derive_parallel(t, x),
+            GUARD => self.derive_guard(t, x),
+            _ => self.passing(t.len()),
         }
     }
 
     // The left term's path, or the right's where the left is done.
     #[cycle(deriving)]
-    fn derive_sequence(&mut self, t: &[u16], x: u64, k: usize) -> usize
-        requires { (length t.now ≤ 65535) × (k < 131072) }
+    fn derive_sequence(&mut self, t: &[u16], x: u64) -> Walked
+        requires { length t.now ≤ 65535 }
         ensures kept { Kept self.old self.new }
-        ensures derived { Over (DerivedShown x (22 ∷ t.now)) k self.old self.new result }
+        ensures derived { Over (DerivedShown x (22 ∷ t.now)) self.old.k self.old self.new (answered self.new result) }
     {
         if first(t) == DONE {
-            return self.walk(behind(t), x, k);
+            return self.walk(behind(t), x);
         }
-        let l = self.walk(t, x, k);
-        if l < PASSED {
-            return l;
+        let l = self.walk(t, x);
+        match l {
+            Walked::Found => l,
+            Walked::Passed => self.passing(skip(last(t, self.left))),
+            Walked::Full => Walked::Full,
         }
-        if FULL <= l {
-            return FULL;
-        }
-        let a = l - PASSED;
-        passing(a / 65536, skip(last(t, a % 65536)))
     }
 
     // The path in the first of two terms, or in the second for what the first's moves leave of k. Before it is written c for the first, c + 1 for
     // the second: of a choice these are 0 and 1, of a parallel 1 and 2.
     // Stays: c is the word that is written, so that an enum of the two forms would only be turned back into it.
+    // Inlined, since its frame would come on top of walk's at each level.
     #[cycle(deriving)]
-    fn derive_two(&mut self, t: &[u16], x: u64, k: usize, c: u16) -> usize
-        requires { (length t.now ≤ 65535) × (k < 131072) × (c ≤ 1) }
+    #[inline(always)]
+    fn derive_two(&mut self, t: &[u16], x: u64, c: u16) -> Walked
+        requires { (length t.now ≤ 65535) × (c ≤ 1) }
         ensures kept { Kept self.old self.new }
-        ensures derived { Over (TwoDerived x c t.now) k self.old self.new result }
+        ensures derived { Over (TwoDerived x c t.now) self.old.k self.old self.new (answered self.new result) }
     {
-        let l = self.walk(t, x, k);
-        if l < PASSED {
-            return decide(c, l, self.path);
+        let l = self.walk(t, x);
+        match l {
+            Walked::Found => self.decide(c, l),
+            Walked::Passed => {
+                let u = last(t, self.left);
+                let r = self.walk(u, x);
+                self.decide_right(c + 1, size_before(t, u), r)
+            }
+            Walked::Full => Walked::Full,
         }
-        if FULL <= l {
-            return FULL;
-        }
-        let a = l - PASSED;
-        let u = last(t, a % 65536);
-        let r = self.walk(u, x, a / 65536);
-        decide_right(c + 1, size_before(t, u), r, self.path)
     }
 
     // The end of a star is its first move, the rounds' moves follow.
     #[cycle(deriving)]
-    fn derive_star(&mut self, t: &[u16], x: u64, k: usize) -> usize
-        requires { (length t.now ≤ 65535) × (k < 131072) }
+    fn derive_star(&mut self, t: &[u16], x: u64) -> Walked
+        requires { length t.now ≤ 65535 }
         ensures kept { Kept self.old self.new }
-        ensures derived { Over (DerivedShown x (24 ∷ t.now)) k self.old self.new result }
+        ensures derived { Over (DerivedShown x (24 ∷ t.now)) self.old.k self.old self.new (answered self.new result) }
     {
-        if k == 0 {
-            return decide(END as u16, self.path.len(), self.path);
+        if self.k == 0 {
+            self.at = self.path.len();
+            return self.decide(END as u16, Walked::Found);
         }
-        let r = self.walk(t, x, k - 1);
-        decide(ROUND as u16, r, self.path)
+        self.k = self.k - 1;
+        let r = self.walk(t, x);
+        self.decide(ROUND as u16, r)
     }
 
     // Where the mask hides no more than those above, the moves of both sides that show are those of a choice: none is made by both together.
     #[cycle(deriving)]
-    fn derive_parallel(&mut self, d: &[u16], x: u64, k: usize) -> usize
-        requires { (length d.now ≤ 65535) × (k < 131072) }
+    fn derive_parallel(&mut self, d: &[u16], x: u64) -> Walked
+        requires { length d.now ≤ 65535 }
         ensures kept { Kept self.old self.new }
-        ensures derived { Over (DerivedShown x (25 ∷ d.now)) k self.old self.new result }
+        ensures derived { Over (DerivedShown x (25 ∷ d.now)) self.old.k self.old self.new (answered self.new result) }
     {
         let t = behind_mask(d);
         if both_done(t) {
             let v = behind(behind(t));
-            return decide(
-                BOTH_DONE as u16,
-                single(k, v.len(), self.path.len()),
-                self.path,
-            );
+            let r = self.single(v.len());
+            return self.decide(BOTH_DONE as u16, r);
         }
         let mask = mask_set(d);
         if join(x, mask) == x {
-            return self.derive_two(t, x, k, LEFT_MOVES as u16);
+            return self.derive_two(t, x, LEFT_MOVES as u16);
         }
-        self.derive_masked(t, x, mask, k)
+        self.derive_masked(t, x, mask)
     }
 
     // A side that can never move leaves the other's moves that show below this mask too, so that nothing need be listed.
     #[cycle(deriving)]
-    fn derive_masked(&mut self, t: &[u16], x: u64, mask: u64, k: usize) -> usize
-        requires { (length t.now ≤ 65535) × (k < 131072) }
+    fn derive_masked(&mut self, t: &[u16], x: u64, mask: u64) -> Walked
+        requires { length t.now ≤ 65535 }
         ensures kept { Kept self.old self.new }
-        ensures derived { Over (MaskedDerived x mask t.now) k self.old self.new result }
+        ensures derived { Over (MaskedDerived x mask t.now) self.old.k self.old self.new (answered self.new result) }
     {
         if idle(t) {
-            return self.derive_right(t, join(x, mask), k);
+            return self.derive_right(t, join(x, mask));
         }
         if idle(last(t, skip(t))) {
-            return self.derive_left(t, join(x, mask), k);
+            return self.derive_left(t, join(x, mask));
         }
-        self.derive_listed(t, x, mask, k)
+        self.derive_listed(t, x, mask)
     }
 
     // The path of the right side, which moves alone.
     #[cycle(deriving)]
-    fn derive_right(&mut self, t: &[u16], y: u64, k: usize) -> usize
-        requires { (length t.now ≤ 65535) × (k < 131072) }
+    fn derive_right(&mut self, t: &[u16], y: u64) -> Walked
+        requires { length t.now ≤ 65535 }
         ensures kept { Kept self.old self.new }
-        ensures derived { Over (RightDerived y t.now) k self.old self.new result }
+        ensures derived { Over (RightDerived y t.now) self.old.k self.old self.new (answered self.new result) }
     {
         let u = last(t, skip(t));
-        let r = self.walk(u, y, k);
-        decide_right(RIGHT_MOVES as u16, size_before(t, u), r, self.path)
+        let r = self.walk(u, y);
+        self.decide_right(RIGHT_MOVES as u16, size_before(t, u), r)
     }
 
     // The path of the left side, which moves alone.
-    // Stays: it ends as derive_sequence does, but a function for these five lines would have a contract longer than they are.
+    // Stays: it ends as derive_sequence does, but a function for these lines would have a contract longer than they are.
     #[cycle(deriving)]
-    fn derive_left(&mut self, t: &[u16], y: u64, k: usize) -> usize
-        requires { (length t.now ≤ 65535) × (k < 131072) }
+    fn derive_left(&mut self, t: &[u16], y: u64) -> Walked
+        requires { length t.now ≤ 65535 }
         ensures kept { Kept self.old self.new }
-        ensures derived { Over (LeftDerived y t.now) k self.old self.new result }
+        ensures derived { Over (LeftDerived y t.now) self.old.k self.old self.new (answered self.new result) }
     {
-        let l = self.walk(t, y, k);
-        if l < PASSED {
-            return decide(LEFT_MOVES as u16, l, self.path);
+        let l = self.walk(t, y);
+        match l {
+            Walked::Found => self.decide(LEFT_MOVES as u16, l),
+            Walked::Passed => self.passing(skip(last(t, self.left))),
+            Walked::Full => Walked::Full,
         }
-        if FULL <= l {
-            return FULL;
-        }
-        let a = l - PASSED;
-        passing(a / 65536, skip(last(t, a % 65536)))
     }
 
     // The sides of the move are found among both sides' moves, listed; then acts is free for the sides.
     #[cycle(deriving)]
-    fn derive_listed(&mut self, t: &[u16], x: u64, mask: u64, k: usize) -> usize
-        requires { (length t.now ≤ 65535) × (k < 131072) }
+    fn derive_listed(&mut self, t: &[u16], x: u64, mask: u64) -> Walked
+        requires { length t.now ≤ 65535 }
         ensures kept { Kept self.old self.new }
-        ensures derived { Over (ListedDerived x mask t.now) k self.old self.new result }
+        ensures derived { Over (ListedDerived x mask t.now) self.old.k self.old self.new (answered self.new result) }
     {
-        let l = list(t, self.store, self.acts);
-        if listing::FULL <= l {
-            return FULL;
-        }
-        let n = l / 65536;
-        let u = last(t, l % 65536);
-        let r = list(u, self.store, &mut self.acts[n..]);
-        if listing::FULL <= r {
-            return FULL;
-        }
+        let Some(l) = list(t, self.store, self.acts) else {
+            return Walked::Full;
+        };
+        let u = last(t, l.left);
+        let n = l.count;
+        let Some(r) = list(u, self.store, &mut self.acts[n..]) else {
+            return Walked::Full;
+        };
         let (left, rest) = self.acts.split_at(n);
-        let z = locate(x, mask, left, &rest[..r / 65536], k);
+        let j = r.count;
+        let z = locate(x, mask, left, &rest[..j], self.k);
         if PASSED <= z {
-            let v = last(u, r % 65536);
-            return passing(z - PASSED, v.len());
+            let v = last(u, r.left);
+            self.k = z - PASSED;
+            return self.passing(v.len());
         }
         self.derive_sides(t, u, z)
     }
 
     // The path of the left side, of the right, or of both, of all their moves.
     #[cycle(deriving)]
-    fn derive_sides(&mut self, t: &[u16], u: &[u16], z: usize) -> usize
+    fn derive_sides(&mut self, t: &[u16], u: &[u16], z: usize) -> Walked
         requires { (length t.now ≤ 65535) × (length u.now ≤ length t.now) × (z < sides_end) }
         ensures kept { Kept self.old self.new }
-        ensures derived { Over (SidesDerived t.now u.now) z self.old self.new result }
+        ensures derived { Over (SidesDerived t.now u.now) z self.old self.new (answered self.new result) }
     {
         if z < RIGHT {
-            let l = self.walk(t, 0, z);
-            if PASSED <= l {
-                return FULL;
-            }
-            return decide(LEFT_MOVES as u16, l, self.path);
+            self.k = z;
+            let l = self.walk(t, 0);
+            return match l {
+                Walked::Found => self.decide(LEFT_MOVES as u16, l),
+                _ => Walked::Full,
+            };
         }
         if z < BOTH {
-            let r = self.walk(u, 0, z - RIGHT);
-            if PASSED <= r {
-                return FULL;
-            }
-            return decide_right(RIGHT_MOVES as u16, size_before(t, u), r, self.path);
+            self.k = z - RIGHT;
+            let r = self.walk(u, 0);
+            return match r {
+                Walked::Found => self.decide_right(RIGHT_MOVES as u16, size_before(t, u), r),
+                _ => Walked::Full,
+            };
         }
         let p = z - BOTH;
         self.derive_both(t, u, p / 131072, p % 131072)
@@ -328,34 +348,48 @@ impl Arrays<'_> {
 
     // The right side's path at the end, the left's before it.
     #[cycle(deriving)]
-    fn derive_both(&mut self, t: &[u16], u: &[u16], i: usize, j: usize) -> usize
+    fn derive_both(&mut self, t: &[u16], u: &[u16], i: usize, j: usize) -> Walked
         requires { (length t.now ≤ 65535) × (length u.now ≤ length t.now) × (i < 131072) × (j < 131072) }
         ensures kept { Kept self.old self.new }
-        ensures derived { Over (λ M. BothDerived t.now u.now M i) j self.old self.new result }
+        ensures derived { Over (λ M. BothDerived t.now u.now M i) j self.old self.new (answered self.new result) }
     {
-        let q = self.walk(u, 0, j);
-        if PASSED <= q {
-            return FULL;
+        self.k = j;
+        match self.walk(u, 0) {
+            Walked::Found => {
+                let before = derive_lent(t, self.store, i, &mut self.path[..self.at], self.acts);
+                match before {
+                    Derivation::At(p) => {
+                        self.at = p;
+                        self.decide_right(BOTH_MOVE as u16, size_before(t, u), Walked::Found)
+                    }
+                    _ => Walked::Full,
+                }
+            }
+            _ => Walked::Full,
         }
-        let p = derive_lent(t, self.store, i, &mut self.path[..q], self.acts);
-        if PASSED <= p {
-            return FULL;
-        }
-        decide_right(BOTH_MOVE as u16, size_before(t, u), p, self.path)
     }
 
     // The term's path where the condition holds, else none.
     #[cycle(deriving)]
-    fn derive_guard(&mut self, t: &[u16], x: u64, k: usize) -> usize
-        requires { (length t.now ≤ 65535) × (k < 131072) }
+    fn derive_guard(&mut self, t: &[u16], x: u64) -> Walked
+        requires { length t.now ≤ 65535 }
         ensures kept { Kept self.old self.new }
-        ensures derived { Over (DerivedShown x (26 ∷ t.now)) k self.old self.new result }
+        ensures derived { Over (DerivedShown x (26 ∷ t.now)) self.old.k self.old self.new (answered self.new result) }
     {
         let c = eval_cond(t, self.store);
         let u = last(t, c / 65536);
         if c % 65536 == 0 {
-            return passing(k, skip(u));
+            return self.passing(skip(u));
         }
-        self.walk(u, x, k)
+        self.walk(u, x)
+    }
+
+    // The path of move k of all moves.
+    pub fn walk_all(&mut self, s: &[u16]) -> Walked
+        requires { length s.now ≤ 65535 }
+        ensures kept { Kept self.old self.new }
+        ensures derived { Over (Derived s.now) self.old.k self.old self.new (answered self.new result) }
+    {
+        self.walk(s, 0)
     }
 }

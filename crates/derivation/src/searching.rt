@@ -7,7 +7,7 @@ use actions::{in_set, join};
 
 // From here on an answer says how much of k is left.
 // Stays, here and in `seek`, `seek_pair` and `locate`, with both places of a pair in one number: measured with an enum for the sides, together with
-// the answers of the walk (FULL in lib.rt).
+// enums of numbers as the answers of the walk (docs/DESIGN-PASS.md, "Answers packed in one number").
 pub const PASSED: usize = 1099511627776;
 
 // The place of the k-th number that passes a test.

@@ -1,9 +1,10 @@
 -- Words that are read as values and written again, and words read with any default (document 01, "Values and conditions"; "Memory and the history machine":
 -- undefined is stored as 65,535).
-use Rattle.std.specs.Prelude.{◌≡◌, refl, cond, List, [], ◌∷◌, ℕ, zero, suc, ◌≤◌, ◌<◌, leb, length, get_or}
+use Rattle.std.specs.Prelude.{◌≡◌, refl, cond, List, ℕ, ◌≤◌, ◌<◌, leb, length, get_or}
 use Rattle.std.proofs.Common.{arith, le-leb}
 use Rattle.std.proofs.Math.Decide.{dec_lt}
 use Rattle.std.proofs.lemmas.Bool.{lt-leb}
+use Rattle.std.proofs.lemmas.List.{get_or_default}
 use Rattle.eb3.specs.Values.{undefined, number, bounded, encode, decode}
 
 -- A word that is read as a value is that value's word.
@@ -17,6 +18,4 @@ word_of_value w h = go (dec_lt w 65535)
 
 -- A word that is there is read whatever is read where none is.
 pub any_default : (l : List ℕ) (i d e : ℕ) → i < length l → get_or l i d ≡ get_or l i e
-any_default [] i d e h = absurd (let z : ⊥ = omega arith in z)
-any_default (x ∷ l) zero d e h = refl
-any_default (x ∷ l) (suc i) d e h = any_default l i d e (omega arith)
+any_default l i d e h = get_or_default l i d e h

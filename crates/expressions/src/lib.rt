@@ -117,6 +117,7 @@ fn connect(connective: Connective, a: usize, b: usize) -> usize
 
 // A word of the store; past its end, the word of undefined.
 // Stays: std's chain is the generic function; this names it, so that its contract says once what a store holds.
+#[tactic(auto, unfolding(crate::specs::Stores::stored))]
 pub fn word(m: &[u16], i: usize) -> usize
     ensures { (result ≡ stored m.now i) × (result < 65536) }
 {

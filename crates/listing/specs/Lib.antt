@@ -3,6 +3,7 @@
 -- the term's form.
 -- Document 01, "Moves, in order".
 pub mod Listing
+pub mod Lending
 pub mod Counting
 pub mod Positions
 pub mod Rows

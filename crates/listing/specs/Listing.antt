@@ -1,5 +1,5 @@
 -- The moves of a running term listed by their actions' numbers, in order (document 01, "Moves, in order").
-use Rattle.std.specs.Prelude.{◌≡◌, Bool, ◌&&◌, cond, List, ◌++◌, map, ℕ, ◌+◌, ◌/◌, ◌≤◌, ◌<◌, max, length, take}
+use Rattle.std.specs.Prelude.{◌≡◌, Bool, ◌&&◌, cond, List, ◌++◌, map, ℕ, ◌+◌, ◌≤◌, max, length, take, Option, IsSome, IfSome}
 use Rattle.eb3.specs.Expressions.{Cond, evaluate_cond}
 use Rattle.eb3.specs.Scopes.{Scope, CondInScope}
 use Rattle.eb3.specs.Terms.{Term, Done, Internal, Perform, Sequence, Choice, Star, Parallel, Guard, visible, done?}
@@ -7,8 +7,9 @@ use Rattle.eb3.specs.Moves.{Move, moves}
 use Rattle.eb3.specs.Sizes.{zero_mask}
 use Rattle.eb3.specs.Spelling.{words}
 use Rattle.expressions.specs.Stores.{environment_in}
-use Rattle.expressions.specs.Answering.{answer, Plain}
+use Rattle.expressions.specs.Answering.{Plain}
 use Rattle.actions.specs.Codes.{action_code, Small, Closed}
+use Rattle.listing.specs.declared.lister.Moves.{Moves}
 
 -- A running term of a rule set of edition 1, its guards in scope P.
 abbrev pub Fits : Scope → Term → Type 0
@@ -53,19 +54,16 @@ room g (Parallel Δ E F) =
     (max (room g E) (length (codes g E) + max (room g F) (length (codes g F) + length (codes g (Parallel Δ E F))))))
 room g (Guard C E) = cond (g C) (room g E) 0
 
--- An answer that says that there was no room.
-abbrev pub full : ℕ
-full = 1099511627776
-
--- What listing into a lent array answers: how many moves there are, 65,536 times, and the words left after the term; the array begins with the
--- moves' numbers.
-pub record Right (g : Cond → Bool) (E : Term) (rest exit : List ℕ) (r : ℕ) : Type 0 where
-  pub counted : r ≡ answer (length rest) (length (codes g E))
+-- What listing into a lent array answers: how many moves there are, and the words left after the term; the array begins with the moves' numbers.
+pub record Right (g : Cond → Bool) (E : Term) (rest exit : List ℕ) (r : Moves) : Type 0 where
+  pub counted : r.count ≡ length (codes g E)
+  pub left_over : r.left ≡ length rest
   pub listed : take (length (codes g E)) exit ≡ codes g E
 
-pub record Listed (s M entry exit : List ℕ) (r : ℕ) : Type 0 where
+-- The same, or None where there was no room.
+pub record Listed (s M entry exit : List ℕ) (r : Option Moves) : Type 0 where
   pub same_length : length exit ≡ length entry
-  pub bounded : r ≤ full
-  pub count_bounded : r < full → r / 65536 ≤ length entry
-  pub has_room : (P : Scope) (E : Term) (rest : List ℕ) → TermAt s P E rest → room (holding M) E ≤ length entry → r < full
-  pub right : (P : Scope) (E : Term) (rest : List ℕ) → TermAt s P E rest → r < full → Right (holding M) E rest exit r
+  pub few_left : IfSome r (λ l. l.left ≤ 65535)
+  pub count_bounded : IfSome r (λ l. l.count ≤ length entry)
+  pub has_room : (P : Scope) (E : Term) (rest : List ℕ) → TermAt s P E rest → room (holding M) E ≤ length entry → IsSome r
+  pub right : (P : Scope) (E : Term) (rest : List ℕ) → TermAt s P E rest → IfSome r (Right (holding M) E rest exit)

@@ -3,12 +3,13 @@
 // Stays: that words are at most 65,535 is a clause of each function here, for the reason in successors (docs/DESIGN-PASS.md, "A struct for words").
 #![tactic(auto)]
 
-ghost use Rattle.std.specs.Prelude.{◌≡◌, ℕ, ◌+◌, ◌*◌, ◌-◌, ◌≤◌, ◌<◌, List, [], ◌∷◌, ◌++◌, length, take, drop, get_or, ◌&&◌, eqb, MatchOption};
+ghost use Rattle.std.specs.Prelude.{◌≡◌, ℕ, ◌≤◌, List, ◌∷◌, length, drop, get_or, ◌&&◌, eqb};
 ghost use Rattle.eb3.specs.Scopes.{Scope};
 ghost use Rattle.eb3.specs.Terms.{Term, done?};
 ghost use Rattle.eb3.specs.Sizes.{breadth};
 ghost use Rattle.listing.specs.Positions.{TwoAt};
-ghost use Rattle.listing.specs.Arms.{OneListed, ShownListed, TwoListed, SideListed, MaskedListed};
+ghost use Rattle.listing.specs.Arms.{OneListed, ShownListed, TwoListed, MaskedListed};
+ghost use Rattle.listing.specs.Lending.{Kept, Into};
 ghost use Rattle.listing.specs.Listing.{TermAt, Listed};
 ghost use Rattle.listing.specs.Rows.{RowAt};
 
@@ -18,9 +19,13 @@ use code_numbers::{ACTION, CHOICE, DONE, GUARD, INTERNAL, PARALLEL, SEQUENCE, ST
 use codes::EDITION_1;
 use combining::combine;
 use expressions::eval_cond;
+use lister::Lister;
 use scan::{after, behind, first, last};
 
 mod combining;
+mod lister;
+
+pub use lister::Moves;
 
 // ── skipping ──
 
@@ -54,28 +59,6 @@ pub fn idle(s: &[u16]) -> bool
 
 // ── listing ──
 
-// An answer that says that there was no room. Every other is 65,536 times how many moves are listed, and the words left.
-// Stays, here and in each function below that makes, tests or takes apart such an answer: measured, an Option of both numbers in a struct takes up to
-// 1.30 times the instructions (guards; sequences after done 1.22), and 160 bytes a level of the stack for 96 (docs/DESIGN-PASS.md, "Answers
-// packed in one number").
-// Stays, `m`, `x` and `acts` as parameters: a second operand's moves are listed into the rest of `acts`, and a mask adds to `x`, so a struct of the three
-// would be made anew for nearly every call, in memory where registers serve now.
-// Stays: that `acts` has at most 131,072 numbers, and that at most 65,535 words are left, are clauses, by which both numbers fit into one answer. The rest of
-// `acts` that a second operand gets would be made a struct with this fact anew.
-pub const FULL: usize = 1099511627776;
-
-// One move.
-fn list_one(code: u32, left: usize, acts: &mut [u32]) -> usize
-    requires { left ≤ 65535 }
-    ensures { OneListed code left acts.old acts.new result }
-{
-    if acts.len() == 0 {
-        return FULL;
-    }
-    acts[0] = code;
-    left + 65536
-}
-
 // The words after the mask at the front.
 pub fn behind_mask(d: &[u16]) -> &[u16]
     ensures { result.now ≡ drop 4 d.now }
@@ -90,188 +73,188 @@ pub fn both_done(t: &[u16]) -> bool
     first(t) == DONE && first(behind(t)) == DONE
 }
 
-// An action's move, or none where its label is in x.
-fn list_action(t: &[u16], x: u64, acts: &mut [u32]) -> usize
-    requires { length t.now ≤ 65535 }
-    ensures { (M : List ℕ) → ShownListed x (21 ∷ t.now) M acts.old acts.new result }
-{
-    let a = code_at(t);
-    let n = behind_action(t);
-    if in_set(x, a) {
-        return n;
-    }
-    list_one(a, n, acts)
-}
-
-// The moves of the term at the front: how many there are, 65,536 times, and the words left after it.
-pub fn list(s: &[u16], m: &[u16], acts: &mut [u32]) -> usize
-    requires { (length s.now ≤ 65535) × (length acts.old ≤ 131072) }
+// The moves of the term at the front, at the front of `acts`; or None where there was no room.
+pub fn list(s: &[u16], m: &[u16], acts: &mut [u32]) -> Option<Moves>
+    requires { length s.now ≤ 65535 }
     ensures { Listed s.now m.now acts.old acts.new result }
 {
-    list_shown(s, m, 0, acts)
-}
-
-// Those whose labels are not in x. The set goes down with the masks above, so that a parallel beside a side that can never move takes nothing away
-// from a list that is made, which would be a copy of it at every such parallel.
-#[cycle(listing_terms)]
-fn list_shown(s: &[u16], m: &[u16], x: u64, acts: &mut [u32]) -> usize
-    requires { (length s.now ≤ 65535) × (length acts.old ≤ 131072) }
-    ensures { ShownListed x s.now m.now acts.old acts.new result }
-{
-    let w = first(s);
-    let t = behind(s);
-    match w {
-        INTERNAL => list_one(0, t.len(), acts),
-        ACTION => list_action(t, x, acts),
-        SEQUENCE => list_sequence(t, m, x, acts),
-        CHOICE => list_two(t, m, x, acts),
-        STAR => list_star(t, m, x, acts),
-        PARALLEL => list_parallel(t, m, x, acts),
-        GUARD => list_guard(t, m, x, acts),
-        _ => t.len(),
-    }
-}
-
-// The left term's moves, or the right's where the left is done.
-#[cycle(listing_terms)]
-#[tactic(auto, using(scan::specs::Laws::last_len))]
-fn list_sequence(t: &[u16], m: &[u16], x: u64, acts: &mut [u32]) -> usize
-    requires { (length t.now ≤ 65535) × (length acts.old ≤ 131072) }
-    ensures { ShownListed x (22 ∷ t.now) m.now acts.old acts.new result }
-{
-    let w = first(t);
-    if w == DONE {
-        return list_shown(behind(t), m, x, acts);
-    }
-    let l = list_shown(t, m, x, acts);
-    if FULL <= l {
-        return FULL;
-    }
-    l / 65536 * 65536 + skip(last(t, l % 65536))
-}
-
-// The moves of two terms, the second's after the first's.
-#[cycle(listing_terms)]
-#[tactic(auto, using(scan::specs::Laws::last_len))]
-fn list_two(t: &[u16], m: &[u16], x: u64, acts: &mut [u32]) -> usize
-    requires { (length t.now ≤ 65535) × (length acts.old ≤ 131072) }
-    ensures { TwoListed x t.now m.now acts.old acts.new result }
-{
-    let l = list_shown(t, m, x, acts);
-    if FULL <= l {
-        return FULL;
-    }
-    let n = l / 65536;
-    let r = list_shown(last(t, l % 65536), m, x, &mut acts[n..]);
-    if FULL <= r {
-        return FULL;
-    }
-    n * 65536 + r
-}
-
-// An internal move, and the term's moves after it.
-#[cycle(listing_terms)]
-fn list_star(t: &[u16], m: &[u16], x: u64, acts: &mut [u32]) -> usize
-    requires { (length t.now ≤ 65535) × (length acts.old ≤ 131072) }
-    ensures { ShownListed x (24 ∷ t.now) m.now acts.old acts.new result }
-{
-    if acts.len() == 0 {
-        return FULL;
-    }
-    acts[0] = 0;
-    let r = list_shown(t, m, x, &mut acts[1..]);
-    if FULL <= r {
-        return FULL;
-    }
-    r + 65536
-}
-
-// Both sides' moves; where the mask adds no label to x they are those of a choice, since no action that is shown is in it.
-#[cycle(listing_terms)]
-fn list_parallel(d: &[u16], m: &[u16], x: u64, acts: &mut [u32]) -> usize
-    requires { (length d.now ≤ 65535) × (length acts.old ≤ 131072) }
-    ensures { ShownListed x (25 ∷ d.now) m.now acts.old acts.new result }
-{
-    let t = behind_mask(d);
-    if both_done(t) {
-        let v = behind(behind(t));
-        return list_one(0, v.len(), acts);
-    }
-    let y = join(x, mask_set(d));
-    if y == x {
-        return list_two(t, m, x, acts);
-    }
-    list_masked(d, m, x, acts)
-}
-
-// Both sides' moves by the mask at the front; beside a side that can never move, the other's outside the mask. That the left side is skipped before it
-// is listed costs little: of parallels within one another, beside such a side x gains one of 64 labels, and where both sides can move the breadth doubles.
-#[cycle(listing_terms)]
-#[tactic(auto, using(scan::specs::Laws::last_len, crate::specs::Operands::mask_len))]
-fn list_masked(d: &[u16], m: &[u16], x: u64, acts: &mut [u32]) -> usize
-    requires { (length d.now ≤ 65535) × (length acts.old ≤ 131072) }
-    ensures { MaskedListed x d.now m.now acts.old acts.new result }
-{
-    let t = behind_mask(d);
-    let u = last(t, skip(t));
-    let y = join(x, mask_set(d));
-    if idle(t) {
-        return list_shown(u, m, y, acts);
-    }
-    if idle(u) {
-        return list_side(t, m, y, skip(u), acts);
-    }
-    list_combined(d, m, x, acts)
-}
-
-// The moves of the term at the front, of a whole after which other words are left.
-// Stays beside the end of list_sequence, which looks for what is left only where its left term is listed.
-#[cycle(listing_terms)]
-fn list_side(t: &[u16], m: &[u16], x: u64, left: usize, acts: &mut [u32]) -> usize
-    requires { (length t.now ≤ 65535) × (length acts.old ≤ 131072) × (left ≤ 65535) }
-    ensures { SideListed x t.now m.now left acts.old acts.new result }
-{
-    let l = list_shown(t, m, x, acts);
-    if FULL <= l {
-        return FULL;
-    }
-    l / 65536 * 65536 + left
-}
-
-// Both sides' moves, combined by the mask at the front.
-#[cycle(listing_terms)]
-#[tactic(auto, using(scan::specs::Laws::last_len, crate::specs::Operands::mask_len))]
-fn list_combined(d: &[u16], m: &[u16], x: u64, acts: &mut [u32]) -> usize
-    requires { (length d.now ≤ 65535) × (length acts.old ≤ 131072) }
-    ensures { MaskedListed x d.now m.now acts.old acts.new result }
-{
-    let t = behind_mask(d);
-    let l = list_shown(t, m, x, acts);
-    if FULL <= l {
-        return FULL;
-    }
-    let n = l / 65536;
-    let r = list_shown(last(t, l % 65536), m, x, &mut acts[n..]);
-    if FULL <= r {
-        return FULL;
-    }
-    let Some(c) = combine(mask_set(d), n, r / 65536, acts) else {
-        return FULL;
+    let mut lister = Lister {
+        store: m,
+        acts,
+        count: 0,
     };
-    c * 65536 + r % 65536
+    let left = lister.list_shown(s, 0)?;
+    Some(Moves {
+        count: lister.count,
+        left,
+    })
 }
 
-// The term's moves where the condition holds, else none.
-#[cycle(listing_terms)]
-#[tactic(auto, using(scan::specs::Laws::last_len))]
-fn list_guard(t: &[u16], m: &[u16], x: u64, acts: &mut [u32]) -> usize
-    requires { (length t.now ≤ 65535) × (length acts.old ≤ 131072) }
-    ensures { ShownListed x (26 ∷ t.now) m.now acts.old acts.new result }
-{
-    let c = eval_cond(t, m);
-    let u = last(t, c / 65536);
-    if c % 65536 == 0 {
-        return skip(u);
+// Each of these lists moves after those that are listed already, and answers how many words are left after the term, or None where there was no room.
+// Stays: the words and x are parameters. Every call is handed other words, and most masks add to x.
+impl Lister<'_> {
+    // One move.
+    fn list_one(&mut self, code: u32, left: usize) -> Option<usize>
+        requires { left ≤ 65535 }
+        ensures kept { Kept self.old self.new result }
+        ensures listed { Into (OneListed code left) self.old self.new result }
+    {
+        let at = self.count;
+        if self.acts.len() <= at {
+            return None;
+        }
+        self.acts[at] = code;
+        self.count = at + 1;
+        Some(left)
     }
-    list_shown(u, m, x, acts)
+
+    // An action's move, or none where its label is in x.
+    fn list_action(&mut self, t: &[u16], x: u64) -> Option<usize>
+        requires { length t.now ≤ 65535 }
+        ensures kept { Kept self.old self.new result }
+        ensures listed { Into (ShownListed x (21 ∷ t.now)) self.old self.new result }
+    {
+        let a = code_at(t);
+        let n = behind_action(t);
+        if in_set(x, a) {
+            return Some(n);
+        }
+        self.list_one(a, n)
+    }
+
+    // The moves whose labels are not in x. The set goes down with the masks above, so that a parallel beside a side that can never move takes nothing away
+    // from a list that is made, which would be a copy of it at every such parallel.
+    // A sequence whose left term is done is told apart here, so that the call for what stands behind it is a loop (measured, of many within one another:
+    // tested in list_sequence, 1.18 times the instructions, and a level of the stack for each; docs/DESIGN-PASS.md, "Answers packed in one number").
+    #[cycle(listing_terms)]
+    fn list_shown(&mut self, s: &[u16], x: u64) -> Option<usize>
+        requires { length s.now ≤ 65535 }
+        ensures kept { Kept self.old self.new result }
+        ensures listed { Into (ShownListed x s.now) self.old self.new result }
+    {
+        let w = first(s);
+        let t = behind(s);
+        match w {
+            INTERNAL => self.list_one(0, t.len()),
+            ACTION => self.list_action(t, x),
+            SEQUENCE if first(t) == DONE => self.list_shown(behind(t), x),
+            SEQUENCE => self.list_sequence(t, x),
+            CHOICE => self.list_two(t, x),
+            STAR => self.list_star(t, x),
+            PARALLEL => self.list_parallel(t, x),
+            GUARD => self.list_guard(t, x),
+            _ => Some(t.len()),
+        }
+    }
+
+    // The left term's moves; it is not done.
+    #[cycle(listing_terms)]
+    #[tactic(auto, using(scan::specs::Laws::last_len))]
+    fn list_sequence(&mut self, t: &[u16], x: u64) -> Option<usize>
+        requires { (length t.now ≤ 65535) × (get_or t.now 0 0 ≡ 30 → ⊥) }
+        ensures kept { Kept self.old self.new result }
+        ensures listed { Into (ShownListed x (22 ∷ t.now)) self.old self.new result }
+    {
+        let left = self.list_shown(t, x)?;
+        Some(skip(last(t, left)))
+    }
+
+    // The moves of two terms, the second's after the first's.
+    #[cycle(listing_terms)]
+    #[tactic(auto, using(scan::specs::Laws::last_len))]
+    fn list_two(&mut self, t: &[u16], x: u64) -> Option<usize>
+        requires { length t.now ≤ 65535 }
+        ensures kept { Kept self.old self.new result }
+        ensures listed { Into (TwoListed x t.now) self.old self.new result }
+    {
+        let left = self.list_shown(t, x)?;
+        self.list_shown(last(t, left), x)
+    }
+
+    // An internal move, and the term's moves after it.
+    #[cycle(listing_terms)]
+    fn list_star(&mut self, t: &[u16], x: u64) -> Option<usize>
+        requires { length t.now ≤ 65535 }
+        ensures kept { Kept self.old self.new result }
+        ensures listed { Into (ShownListed x (24 ∷ t.now)) self.old self.new result }
+    {
+        self.list_one(0, t.len())?;
+        self.list_shown(t, x)
+    }
+
+    // Both sides' moves; where the mask adds no label to x they are those of a choice, since no action that is shown is in it.
+    #[cycle(listing_terms)]
+    fn list_parallel(&mut self, d: &[u16], x: u64) -> Option<usize>
+        requires { length d.now ≤ 65535 }
+        ensures kept { Kept self.old self.new result }
+        ensures listed { Into (ShownListed x (25 ∷ d.now)) self.old self.new result }
+    {
+        let t = behind_mask(d);
+        if both_done(t) {
+            let v = behind(behind(t));
+            return self.list_one(0, v.len());
+        }
+        let y = join(x, mask_set(d));
+        if y == x {
+            return self.list_two(t, x);
+        }
+        self.list_masked(d, x)
+    }
+
+    // Both sides' moves by the mask at the front; beside a side that can never move, the other's outside the mask. That the left side is skipped before it
+    // is listed costs little: of parallels within one another, beside such a side x gains one of 64 labels, and where both sides can move the breadth doubles.
+    #[cycle(listing_terms)]
+    #[tactic(auto, using(scan::specs::Laws::last_len, crate::specs::Operands::mask_len))]
+    fn list_masked(&mut self, d: &[u16], x: u64) -> Option<usize>
+        requires { length d.now ≤ 65535 }
+        ensures kept { Kept self.old self.new result }
+        ensures listed { Into (MaskedListed x d.now) self.old self.new result }
+    {
+        let t = behind_mask(d);
+        let u = last(t, skip(t));
+        let y = join(x, mask_set(d));
+        if idle(t) {
+            return self.list_shown(u, y);
+        }
+        if idle(u) {
+            self.list_shown(t, y)?;
+            return Some(skip(u));
+        }
+        self.list_combined(d, x)
+    }
+
+    // Both sides' moves, combined by the mask at the front.
+    #[cycle(listing_terms)]
+    #[tactic(auto, using(scan::specs::Laws::last_len, crate::specs::Operands::mask_len))]
+    fn list_combined(&mut self, d: &[u16], x: u64) -> Option<usize>
+        requires { length d.now ≤ 65535 }
+        ensures kept { Kept self.old self.new result }
+        ensures listed { Into (MaskedListed x d.now) self.old self.new result }
+    {
+        let t = behind_mask(d);
+        let at = self.count;
+        let n = self.list_shown(t, x)?;
+        let middle = self.count;
+        let left = self.list_shown(last(t, n), x)?;
+        let k = self.count - middle;
+        let c = combine(mask_set(d), middle - at, k, &mut self.acts[at..])?;
+        self.count = at + c;
+        Some(left)
+    }
+
+    // The term's moves where the condition holds, else none.
+    #[cycle(listing_terms)]
+    #[tactic(auto, using(scan::specs::Laws::last_len))]
+    fn list_guard(&mut self, t: &[u16], x: u64) -> Option<usize>
+        requires { length t.now ≤ 65535 }
+        ensures kept { Kept self.old self.new result }
+        ensures listed { Into (ShownListed x (26 ∷ t.now)) self.old self.new result }
+    {
+        let c = eval_cond(t, self.store);
+        let u = last(t, c / 65536);
+        if c % 65536 == 0 {
+            return Some(skip(u));
+        }
+        self.list_shown(u, x)
+    }
 }

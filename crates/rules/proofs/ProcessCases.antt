@@ -1,11 +1,11 @@
 -- One process and all of them: a case for each way that these functions return, and what they ask.
 use mathlib.Core.Path.{◌≡◌, refl, ap, sym, ◌∙◌, subst}
-use mathlib.Core.List.{List, ◌++◌}
+use mathlib.Core.List.{List}
 use Prim.Native.Nat.{ℕ, zero, suc, ◌+◌, ◌-◌, ◌*◌, ◌≤◌, ◌<◌}
 use native.Mathlib.Numerals.{sub-one}
 use native.Mathlib.Omega.{arith}
 use lib.ListN.{length, get_or, take, drop, set, length-take, length-set}
-use lib.Seq.{paste, take-length, length-take-le, get_or-set_same}
+use lib.Seq.{paste, get_or-set_same}
 use Rattle.eb3.specs.RuleSets.{RuleTerm, Process, RuleSet}
 use Rattle.eb3.specs.Measures.{Measure}
 use Rattle.eb3.specs.Reading.{Read, refused, taken, giving, then, counted, number_of}
@@ -71,14 +71,11 @@ module _ (T t : List ℕ) (hi d x : ℕ) (p : Checked) (e : p ≡ checked (count
 
 -- ── entering it ──
 
-paste_front : (T t : List ℕ) (at n : ℕ) → n ≤ length t → paste T at t n ≡ paste T at (take n t) (length (take n t))
-paste_front T t at n h = (λ i. take at T ++ sym (take-length (take n t)) i ++ drop (at + sym (length-take-le n t h) i) T)
-
-pub entered_is : (T T₁ t : List ℕ) (p k a b c left x y : ℕ) → T₁ ≡ paste T (212 + 9 * p) t (k + 1) → k ≡ get_or t 0 0 → get_or t 0 0 + 1 ≤ length t → x ≡ left → y ≡ p + 1
+pub entered_is : (T T₁ t : List ℕ) (p k a b c left x y : ℕ) → T₁ ≡ paste T (212 + 9 * p) (take (k + 1) t) (length (take (k + 1) t)) → k ≡ get_or t 0 0 → x ≡ left → y ≡ p + 1
     → set (set (set (set (set T₁ (212 + 9 * p + 5) a) (212 + 9 * p + 6) b) (212 + 9 * p + 7) c) (212 + 9 * p + 8) x) 211 y ≡ entered_process T p (take (get_or t 0 0 + 1) t) a b c left
 unfolding entered_process
-entered_is T T₁ t p k a b c left x y e f h g i =
-    let q : T₁ ≡ paste T (212 + 9 * p) (take (get_or t 0 0 + 1) t) (length (take (get_or t 0 0 + 1) t)) = e ∙ ap (λ n. paste T (212 + 9 * p) t (n + 1)) f ∙ paste_front T t (212 + 9 * p) (get_or t 0 0 + 1) h in
+entered_is T T₁ t p k a b c left x y e f g i =
+    let q : T₁ ≡ paste T (212 + 9 * p) (take (get_or t 0 0 + 1) t) (length (take (get_or t 0 0 + 1) t)) = e ∙ ap (λ n. paste T (212 + 9 * p) (take (n + 1) t) (length (take (n + 1) t))) f in
     (λ j. set (set (set (set (set (q j) (212 + 9 * p + 5) a) (212 + 9 * p + 6) b) (212 + 9 * p + 7) c) (212 + 9 * p + 8) (g j)) 211 (i j))
 
 -- ── what the rest asks ──

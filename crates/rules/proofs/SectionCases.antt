@@ -3,8 +3,8 @@ use mathlib.Core.Path.{◌≡◌, refl, ap, sym, ◌∙◌, subst}
 use mathlib.Core.List.{List}
 use Prim.Native.Nat.{ℕ, ◌+◌, ◌*◌, ◌≤◌, ◌<◌}
 use native.Mathlib.Omega.{arith}
-use lib.ListN.{length, get_or, set, length-set}
-use lib.Seq.{paste, length-paste, get_or-set_same, get_or-set_other}
+use lib.ListN.{length, get_or, set, take, length-set}
+use lib.Seq.{paste, length-paste, length-take-le, get_or-set_same, get_or-set_other}
 use Rattle.eb3.specs.Generic.AllLists.{All}
 use Rattle.eb3.specs.Editions.{edition_1}
 use Rattle.eb3.specs.RuleSets.{Function, RuleSet}
@@ -22,6 +22,7 @@ use Rattle.declarations.specs.Entering.{put_rows, Entered}
 use Rattle.declarations.specs.Declaring.{Heads, Tables, Declares}
 use Rattle.declarations.specs.DeclaringLaws.{domains_counted, domains_entered, labels_counted, labels_entered, processes_start}
 use Rattle.declarations.specs.ProcessLaws.{Bounded, set_bounded}
+use Rattle.declarations.specs.Regions.{paste_front}
 use Rattle.declarations.specs.Rows.{RowAt, domains_row}
 use Rattle.declarations.specs.SectionFacts.{labels_read}
 use Rattle.rules.specs.declared.Rules.{Rules}
@@ -74,10 +75,10 @@ module _ (T t : List ℕ) (p : Checked) (e : p ≡ checked (count_of 1 32 t)) wh
             k.placed whole (without_processes edition_1 ds ls fs) R u (tail_on r t whole tl (subst (λ y. Tail y t) (sym l) (last_tail m t))) (record { declares = start ds ls fs z; rows = tt }) tt (sym (same ds ls fs) ∙ g);
       }
 
-  pub section_asks : (m n : ℕ) → length T ≡ 500 → Bounded T → p ≡ Ok m → n ≡ get_or t 0 0 → (1 ≤ n) × (212 + 9 * (n + 0) ≤ length (set T 211 0)) × (n + 0 < 65536) × (get_or (set T 211 0) 211 0 ≡ 0) × Bounded (set T 211 0)
+  pub section_asks : (m n : ℕ) → length T ≡ 500 → Bounded T → p ≡ Ok m → n ≡ get_or t 0 0 → (1 ≤ n) × (n ≤ 32) × (get_or (set T 211 0) 211 0 ≡ 0) × Bounded (set T 211 0)
   section_asks m n s b h i =
       let c = count_between 1 32 m n t p e h i in
-      (c.0, omega (arith, c.1, length-set T 211 0), omega (arith, c.1), get_or-set_same T 211 0 0 (omega arith), set_bounded T 211 0 (omega arith) (omega arith) b)
+      (c.0, c.1, get_or-set_same T 211 0 0 (omega arith), set_bounded T 211 0 (omega arith) (omega arith) b)
 
 -- ── labels ──
 
@@ -183,10 +184,17 @@ module _ (T t : List ℕ) (p : Checked) (e : p ≡ checked (read_domains t)) whe
     domains_here : RowAt 16 t (read_domains t) m
     domains_here = domains_row m t p e h
 
-    pub read_copies : (0 + (k + 1) ≤ length T) × (k + 1 ≤ length t)
+    read_copies : (0 + (k + 1) ≤ length T) × (k + 1 ≤ length t)
     read_copies = (omega (arith, domains_here.small, i), omega (arith, domains_here.room, i))
 
-    module _ (T' : List ℕ) (c : T' ≡ paste T 0 t (k + 1)) where
+    -- those of them that are copied
+    pub read_front : (k + 1 ≡ length (take (k + 1) t)) × (0 + length (take (k + 1) t) ≤ length T)
+    read_front = let e = length-take-le (k + 1) t read_copies.1 in (sym e, rw e read_copies.0)
+
+    module _ (T' : List ℕ) (copy : T' ≡ paste T 0 (take (k + 1) t) (length (take (k + 1) t))) where
+      c : T' ≡ paste T 0 t (k + 1)
+      c = copy ∙ sym (paste_front T t 0 (k + 1) read_copies.1)
+
       copied : T' ≡ paste T 0 t (get_or t 0 0 + 1)
       copied = c ∙ ap (λ n. paste T 0 t (n + 1)) i
 

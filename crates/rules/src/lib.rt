@@ -54,13 +54,14 @@ fn check_process(t: &[u16], tb: &[u32], hi: usize) -> Result<Weighed, Refusal>
 // Process p, whose parameters are at the front of t, may be called from now on.
 // Stays, here and in `processes`: p, n and left are usize with their bounds as clauses, since p and n make places in the tables, and left is how many words
 // are left, which are counted as usize.
-fn enter_process(tb: &mut [u32], t: &[u16], p: usize, w: Weight, left: usize)
-    requires { (212 + 9 * p + 9 ≤ length tb.old) × (p < 65536) × (get_or t.now 0 0 ≤ 4) × (get_or t.now 0 0 + 1 ≤ length t.now) × (left < 65536) }
+#[tactic(auto, using(crate::proofs::ProcessCases::entered_is))]
+fn enter_process(tb: &mut [u32; 500], t: &[u16], p: usize, w: Weight, left: usize)
+    requires { (p < 32) × (get_or t.now 0 0 ≤ 4) × (get_or t.now 0 0 + 1 ≤ length t.now) × (left < 65536) }
     ensures { tb.new ≡ entered_process tb.old p (take (get_or t.now 0 0 + 1) t.now) w.size w.reach w.breadth left }
 {
     let k = first(t) + 1;
     let at = PROCESS_ROWS + PROCESS_WORDS * p;
-    copy(tb, at, t, k);
+    copy(tb, at, &t[..k]);
     tb[at + SIZE] = w.size;
     tb[at + REACH] = w.reach;
     tb[at + BREADTH] = w.breadth;
@@ -71,8 +72,8 @@ fn enter_process(tb: &mut [u32], t: &[u16], p: usize, w: Weight, left: usize)
 // n processes; the last is main, whose measures are returned.
 // Stays, here and below: that the tables are `Bounded` is a fact of what the sections before have put into them, and each of these functions writes into
 // them.
-fn processes(t: &[u16], tb: &mut [u32], n: usize) -> Result<Weighed, Refusal>
-    requires { (1 ≤ n) × (212 + 9 * n ≤ length tb.old) × (n < 65536) × (length t.now ≤ 65535) × (get_or tb.old 211 0 ≡ 0) × Bounded tb.old }
+fn processes(t: &[u16], tb: &mut [u32; 500], n: usize) -> Result<Weighed, Refusal>
+    requires { (1 ≤ n) × (n ≤ 32) × (length t.now ≤ 65535) × (get_or tb.old 211 0 ≡ 0) × Bounded tb.old }
     ensures { ProcessesRead t.now tb.old n result tb.new }
 {
     let mut main = Weighed {
@@ -144,6 +145,6 @@ pub fn read(t: &[u16], tb: &mut [u32; 500], dir: &mut [u32]) -> Result<Rules, Re
 {
     let m = check_domains(t)?;
     let k = first(t) + 1;
-    copy(tb, DOMAINS, t, k);
+    copy(tb, DOMAINS, &t[..k]);
     label_section(last(t, m), tb, dir)
 }

@@ -13,7 +13,8 @@ use sharing::step;
 use steps::renewing::renew;
 
 // Move k of the shared term in the first n words of d; the cells are renewed.
-// Stays: the answer of `step` is one number, measured in sharing (seeking.rt), which is taken apart here; and n beside d, as in lib.rt.
+// Stays: the answer of `step` is one number, measured (docs/DESIGN-PASS.md, "Answers packed in one number"), which is taken apart here; and n beside d, as
+// in lib.rt.
 // Stays, here and below: d, m and scratch are lent apart and keep their lengths, as ws, m and scratch in lib.rt; k is a usize with its bound as a clause, as
 // in sharing; and u has at most 65,503 words, as sharing asks.
 fn step_shared(

@@ -56,7 +56,7 @@ sound_part {here = here} {left = left} {k = k} {entry = entry} m l b h = record 
 }
 
 -- where move k is passed
-pub sound_passed : (n k l left j r : ℕ) → r ≡ passed + answer left j → left ≤ n → j ≤ k → n ≤ 65535 → k < 65536 → Sound n k l r
+pub sound_passed : (n k l left j r : ℕ) → r ≡ passed + answer left j → left ≤ n → j ≤ k → n ≤ 65535 → k < 131072 → Sound n k l r
 sound_passed n k l left j r e a b c d = record {
   bounded = omega (arith, answer_is left j);
   place_bounded = λ z. absurd (omega (arith, answer_is left j));
@@ -65,7 +65,7 @@ sound_passed n k l left j r e a b c d = record {
 
 -- ── done ──
 
-pub done_found : (u t M : List ℕ) (k : ℕ) (entry : List ℕ) (n r : ℕ) → length t < 65535 → k < 65536 → r ≡ passed + answer (length t) k → Found u (30 ∷ t) M k entry entry n r
+pub done_found : (u t M : List ℕ) (k : ℕ) (entry : List ℕ) (n r : ℕ) → length t < 65535 → k < 131072 → r ≡ passed + answer (length t) k → Found u (30 ∷ t) M k entry entry n r
 unfolding term_of moves
 done_found u t M k entry n r short small e = found_of refl (sound_passed (length (30 ∷ t)) k (length entry) (length t) k r e (omega arith) (omega arith) (omega arith) small)
     (λ P. ended_cases t (Told u M k entry entry n r P)

@@ -26,7 +26,7 @@ part_size : (u : List ℕ) (P : Scope) (l : ℕ) (E : Term) → PartAt u P l E �
 part_size u P l E h = omega (arith, last_len l u (last_of l u) refl, ap length h.there.spelled, length-append (words 1 E) h.rest, fits_length P E h.there.fits)
 
 module _ (u s : List ℕ) (w here left : ℕ) (M : List ℕ) (k : ℕ) (entry exit : List ℕ) (n m r : ℕ) (wide : 32 ≤ w) (iss : s ≡ last_of (w - 32) u) (ism : m ≡ n) (h : Sought s M k entry exit m r)
-    (few : here ≤ 65535) (behind : left ≤ here) (small : k < 65536) (short : length entry ≤ 65535) where
+    (few : here ≤ 65535) (behind : left ≤ here) (small : k < 131072) (short : length entry ≤ 65535) where
   module _ (P : Scope) (l : ℕ) (E : Term) (isw : w ≡ part_word l) (a : PartAt u P l E) (long : length u ≤ length entry) (room_for : length u ≤ n) where
     there : TermAt s P E a.rest
     there =

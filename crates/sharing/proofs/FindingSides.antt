@@ -57,7 +57,7 @@ module _ (u t v M : List ℕ) (k : ℕ) (entry : List ℕ) (n : ℕ) (isv : v �
         λ c. absurd (omega (arith, one_move S T rest i)),
       )))
 
-  pub beside_past : (left r : ℕ) → (k ≡ 0 → ⊥) → length t < 65535 → k < 65536 → left ≡ length (drop 1 v) → r ≡ passed + answer left (k - 1) → Found u (25 ∷ t) M k entry entry n r
+  pub beside_past : (left r : ℕ) → (k ≡ 0 → ⊥) → length t < 65535 → k < 131072 → left ≡ length (drop 1 v) → r ≡ passed + answer left (k - 1) → Found u (25 ∷ t) M k entry entry n r
   beside_past left r z short small il e =
       let few : left ≤ length t = omega (arith, ap length isv, length-drop 1 t, length-drop 1 v) in
       found_of refl (sound_passed (length (25 ∷ t)) k (length entry) left (k - 1) r e (omega arith) (omega arith) (omega arith) small)
@@ -89,7 +89,7 @@ apart_first t w a h e f = h (a ∙ e)
 pub apart_second : (t v : List ℕ) (w : ℕ) → v ≡ drop 1 t → w ≡ get_or v 0 0 → (w ≡ 30 → ⊥) → Apart t
 apart_second t v w b a h e f = h (a ∙ ap (λ z. get_or z 0 0) b ∙ f)
 
-module _ (u t M : List ℕ) (k : ℕ) (entry mid : List ℕ) (n l : ℕ) (apart : Apart t) (short : length t < 65535) (small : k < 65536)
+module _ (u t M : List ℕ) (k : ℕ) (entry mid : List ℕ) (n l : ℕ) (apart : Apart t) (short : length t < 65535) (small : k < 131072)
     (first : Found u t M k entry mid n l) where
   module _ (P : Scope) (S T : Shared) (rest : List ℕ) (i : t ≡ shared_words S ++ (shared_words T ++ rest)) (st : Stands u P (Beside S T)) where
     not_both : (done? (term_of S) && done? (term_of T)) ≡ false

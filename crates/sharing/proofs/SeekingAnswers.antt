@@ -23,10 +23,10 @@ pub bounded_more : {k l r : ℕ} (j : ℕ) → Bounded k l r → k ≤ j → Bou
 bounded_more {k} {l} {r} j h a = record { bounded = h.bounded; place_bounded = h.place_bounded; passed_bounded = λ y z. omega (arith, h.passed_bounded y z) }
 
 -- where move k is passed
-pub bounded_passed : (k l j r : ℕ) → r ≡ passed + j → j ≤ k → k < 65536 → Bounded k l r
+pub bounded_passed : (k l j r : ℕ) → r ≡ passed + j → j ≤ k → k < 131072 → Bounded k l r
 bounded_passed k l j r e a b = record { bounded = omega arith; place_bounded = λ z. absurd (omega arith); passed_bounded = λ y z. omega arith }
 
-pub bounded_single : (k l r : ℕ) → (k ≡ 0 → r ≡ l) → (1 ≤ k → r ≡ passed + (k - 1)) → l ≤ 65535 → k < 65536 → Bounded k l r
+pub bounded_single : (k l r : ℕ) → (k ≡ 0 → r ≡ l) → (1 ≤ k → r ≡ passed + (k - 1)) → l ≤ 65535 → k < 131072 → Bounded k l r
 bounded_single k l r f g a b = by_order k 1
     (λ z. let e : r ≡ l = f (omega arith) in record { bounded = omega arith; place_bounded = λ y. omega arith; passed_bounded = λ y w. absurd (omega arith) })
     (λ z. bounded_passed k l (k - 1) r (g z) (omega arith) b)

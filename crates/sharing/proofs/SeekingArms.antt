@@ -29,7 +29,7 @@ use Rattle.sharing.proofs.SeekingCounts.{count_done, count_internal, count_perfo
 
 -- ── one move ──
 
-module _ (t M entry : List ℕ) (k n r : ℕ) (f : k ≡ 0 → r ≡ length entry) (g : 1 ≤ k → r ≡ passed + (k - 1)) (few : length entry ≤ 65535) (small : k < 65536) where
+module _ (t M entry : List ℕ) (k n r : ℕ) (f : k ≡ 0 → r ≡ length entry) (g : 1 ≤ k → r ≡ passed + (k - 1)) (few : length entry ≤ 65535) (small : k < 131072) where
   single_low : r < full
   single_low = by_order k 1 (λ z. omega (arith, f (omega arith))) (λ z. omega (arith, g z))
 
@@ -44,7 +44,7 @@ module _ (t M entry : List ℕ) (k n r : ℕ) (f : k ≡ 0 → r ≡ length entr
 -- ── two operands ──
 
 -- the first's end is looked for
-module _ (c : ℕ) (t M : List ℕ) (k : ℕ) (entry mid : List ℕ) (n l : ℕ) (first : Derived t M k entry mid n l) (same : length mid ≡ length entry) (short : length t ≤ 65535) (small : k < 65536) where
+module _ (c : ℕ) (t M : List ℕ) (k : ℕ) (entry mid : List ℕ) (n l : ℕ) (first : Derived t M k entry mid n l) (same : length mid ≡ length entry) (short : length t ≤ 65535) (small : k < 131072) where
   pub two_left : l < passed → (exit : List ℕ) (q : ℕ) → Decided (c ∷ []) l mid exit q → TwoSought c t M k entry exit n q
   two_left f exit q h = record {
     same_length = h.same_length ∙ same;
@@ -164,7 +164,7 @@ module _ (d t M : List ℕ) (k : ℕ) (entry exit : List ℕ) (n : ℕ) (ist : t
   sides : {P : Scope} {Δ : List ℕ} {E F : Term} {rest : List ℕ} → MaskedAt d P Δ E F rest → TwoAt t P E F rest
   sides {P} {Δ} {E} {F} {rest} h = subst (λ x. TwoAt x P E F rest) (sym ist) h.sides
 
-  pub parallel_done : (q : ℕ) → b ≡ true → (k ≡ 0 → q ≡ length entry) → (1 ≤ k → q ≡ passed + (k - 1)) → length entry ≤ 65535 → k < 65536
+  pub parallel_done : (q : ℕ) → b ≡ true → (k ≡ 0 → q ≡ length entry) → (1 ≤ k → q ≡ passed + (k - 1)) → length entry ≤ 65535 → k < 131072
       → Decided (0 ∷ []) q entry exit r → Sought (25 ∷ d) M k entry exit n r
   unfolding size
   parallel_done q e a c few small h =
@@ -191,7 +191,7 @@ module _ (d t M : List ℕ) (k : ℕ) (entry exit : List ℕ) (n : ℕ) (ist : t
 -- ── a guard ──
 
 module _ (t M u : List ℕ) (c : ℕ) (judged : Judged t M c) (isu : u ≡ last_of (c / 65536) t) (k : ℕ) where
-  pub guard_shut : (entry : List ℕ) (n r : ℕ) → c % 65536 ≡ 0 → k < 65536 → r ≡ passed + k → Sought (26 ∷ t) M k entry entry n r
+  pub guard_shut : (entry : List ℕ) (n r : ℕ) → c % 65536 ≡ 0 → k < 131072 → r ≡ passed + k → Sought (26 ∷ t) M k entry entry n r
   guard_shut entry n r e small q = sought_of refl (bounded_passed k (length entry) k r q (omega arith) small) (guard_cases t (Told M k entry entry n r)
       (λ P C E rest s w.
       let no = count_shut M C E (truth_none (holding M C) (sym (holds t M u c judged isu P C E rest s) ∙ e)) in (
@@ -214,6 +214,6 @@ module _ (t M u : List ℕ) (c : ℕ) (judged : Judged t M c) (isu : u ≡ last_
 pub at_front : (s t M : List ℕ) (k : ℕ) (entry exit : List ℕ) (n w j r : ℕ) → w ≡ get_or s 0 0 → t ≡ drop 1 s → w ≡ j → 0 < j → Sought (j ∷ t) M k entry exit n r → Sought s M k entry exit n r
 at_front s t M k entry exit n w j r a b e z h = subst (λ u. Sought u M k entry exit n r) (sym (front_form s t w j a b e z)) h
 
-pub other_sought : (s M : List ℕ) (k : ℕ) (entry : List ℕ) (n w r : ℕ) → w ≡ get_or s 0 0 → k < 65536 → NoOther w → r ≡ passed + k → Sought s M k entry entry n r
+pub other_sought : (s M : List ℕ) (k : ℕ) (entry : List ℕ) (n w r : ℕ) → w ≡ get_or s 0 0 → k < 131072 → NoOther w → r ≡ passed + k → Sought s M k entry entry n r
 other_sought s M k entry n w r a small h e = sought_of refl (bounded_passed k (length entry) k r e (omega arith) small) (λ P X rest v.
     by_rest (λ Y. Told M k entry entry n r P Y rest) w h (λ u. (λ b y. omega (arith, e), λ z. outcome_none (move_count M Done) k r _ entry (count_done M) e)) X (a ∙ term_front s P X rest v))

@@ -3,6 +3,7 @@
 pub mod Shared
 pub mod SharedLaws
 pub mod RoomLaws
+pub mod Walking
 pub mod Seeking
 pub mod Finding
 pub mod Beginning

@@ -4,13 +4,14 @@
 ghost use Rattle.std.specs.Prelude.{◌≡◌, ◌+◌, ◌≤◌, ◌<◌, [], ◌∷◌, length};
 ghost use Rattle.derivation.specs.Lending.{Kept, Over};
 ghost use Rattle.sharing.specs.Finding.{Found, PartFound};
+ghost use Rattle.sharing.specs.Walking.{found_in};
 
 use super::seeking::seek;
 use code_numbers::{DONE, PARALLEL, SEQUENCE};
-use derivation::{Arrays, FULL, PASSED, passing};
+use derivation::{Arrays, Walked};
 use scan::{behind, first, last};
 
-// Stays, in each function here: the answer is one number, as that of a derivation, measured together with seek (seeking.rt).
+// The answers here are those of derivation; where the place of the move is found, `left` is how many words are left where it begins.
 
 // How many words are left where a place begins, and after it.
 #[derive(Clone, Copy)]
@@ -20,56 +21,59 @@ struct Place {
 }
 
 // In the part with this word, which moves in this place.
-// Stays, here and below: u, the words, k and the arrays are parameters, with the bounds of the first three as clauses: every call is handed other words, and
-// after a first term another k, which is a part of the answer before and would be cast as a u16.
+// Stays, here and below: u and the words are parameters, with their bounds as clauses: every call is handed other words.
 // Stays: that the arrays stay the same (`Kept`) is a fact of what they were and what they are then, which no field of a struct holds.
-fn find_part(u: &[u16], w: usize, place: Place, k: usize, arrays: &mut Arrays) -> usize
-    requires { (length u.now ≤ 65503) × (place.here ≤ 65535) × (place.behind ≤ place.here) × (k < 65536) }
+fn find_part(u: &[u16], w: usize, place: Place, arrays: &mut Arrays) -> Walked
+    requires { (length u.now ≤ 65503) × (place.here ≤ 65535) × (place.behind ≤ place.here) }
     ensures kept { Kept arrays.old arrays.new }
-    ensures found { Over (PartFound u.now w place.here place.behind) k arrays.old arrays.new result }
+    ensures found { Over (PartFound u.now w place.here place.behind) arrays.old.k arrays.old arrays.new (found_in arrays.new result) }
 {
     // never for the word of a part
     if w < 32 {
-        return FULL;
+        return Walked::Full;
     }
-    let r = seek(last(u, w - 32), k, arrays);
-    if r < PASSED {
-        return place.here + 65536 * r;
+    let r = seek(last(u, w - 32), arrays);
+    match r {
+        Walked::Found => {
+            arrays.left = place.here;
+            Walked::Found
+        }
+        Walked::Passed => {
+            arrays.left = place.behind;
+            Walked::Passed
+        }
+        Walked::Full => Walked::Full,
     }
-    if FULL <= r {
-        return FULL;
-    }
-    passing(r - PASSED, place.behind)
 }
 
 #[cycle(finding)]
-pub fn find(u: &[u16], s: &[u16], k: usize, arrays: &mut Arrays) -> usize
-    requires { (length u.now ≤ 65503) × (length s.now ≤ 65535) × (k < 65536) }
+pub fn find(u: &[u16], s: &[u16], arrays: &mut Arrays) -> Walked
+    requires { (length u.now ≤ 65503) × (length s.now ≤ 65535) }
     ensures kept { Kept arrays.old arrays.new }
-    ensures found { Over (Found u.now s.now) k arrays.old arrays.new result }
+    ensures found { Over (Found u.now s.now) arrays.old.k arrays.old arrays.new (found_in arrays.new result) }
 {
     let w = first(s);
     let t = behind(s);
     match w {
-        SEQUENCE => find_then(u, t, k, arrays),
-        PARALLEL => find_beside(u, t, k, arrays),
-        DONE => passing(k, t.len()),
+        SEQUENCE => find_then(u, t, arrays),
+        PARALLEL => find_beside(u, t, arrays),
+        DONE => arrays.passing(t.len()),
         _ => {
             let place = Place {
                 here: s.len(),
                 behind: t.len(),
             };
-            find_part(u, w, place, k, arrays)
+            find_part(u, w, place, arrays)
         }
     }
 }
 
 // After its code: the part that follows, and what it follows. That part moves once what it follows is done.
 #[cycle(finding)]
-fn find_then(u: &[u16], t: &[u16], k: usize, arrays: &mut Arrays) -> usize
-    requires { (length u.now ≤ 65503) × (length t.now < 65535) × (k < 65536) }
+fn find_then(u: &[u16], t: &[u16], arrays: &mut Arrays) -> Walked
+    requires { (length u.now ≤ 65503) × (length t.now < 65535) }
     ensures kept { Kept arrays.old arrays.new }
-    ensures found { Over (Found u.now (22 ∷ t.now)) k arrays.old arrays.new result }
+    ensures found { Over (Found u.now (22 ∷ t.now)) arrays.old.k arrays.old arrays.new (found_in arrays.new result) }
 {
     let q = behind(t);
     if first(q) == DONE {
@@ -77,32 +81,33 @@ fn find_then(u: &[u16], t: &[u16], k: usize, arrays: &mut Arrays) -> usize
             here: t.len() + 1,
             behind: behind(q).len(),
         };
-        return find_part(u, first(t), place, k, arrays);
+        return find_part(u, first(t), place, arrays);
     }
-    find(u, q, k, arrays)
+    find(u, q, arrays)
 }
 
 // After its code: two terms, the second's moves after the first's; or one move where both are done.
 // Stays without `both_done` of `listing`, which promises something of the words of two terms only: these are of shared terms, whose parts are single words.
 #[cycle(finding)]
-fn find_beside(u: &[u16], t: &[u16], k: usize, arrays: &mut Arrays) -> usize
-    requires { (length u.now ≤ 65503) × (length t.now < 65535) × (k < 65536) }
+fn find_beside(u: &[u16], t: &[u16], arrays: &mut Arrays) -> Walked
+    requires { (length u.now ≤ 65503) × (length t.now < 65535) }
     ensures kept { Kept arrays.old arrays.new }
-    ensures found { Over (Found u.now (25 ∷ t.now)) k arrays.old arrays.new result }
+    ensures found { Over (Found u.now (25 ∷ t.now)) arrays.old.k arrays.old arrays.new (found_in arrays.new result) }
 {
     if first(t) == DONE && first(behind(t)) == DONE {
-        if k == 0 {
-            return t.len() + 1;
+        if arrays.k == 0 {
+            arrays.left = t.len() + 1;
+            // no path leads to it
+            arrays.at = 0;
+            return Walked::Found;
         }
-        return passing(k - 1, behind(behind(t)).len());
+        arrays.k = arrays.k - 1;
+        return arrays.passing(behind(behind(t)).len());
     }
-    let l = find(u, t, k, arrays);
-    if l < PASSED {
-        return l;
+    let l = find(u, t, arrays);
+    match l {
+        Walked::Found => l,
+        Walked::Passed => find(u, last(t, arrays.left), arrays),
+        Walked::Full => Walked::Full,
     }
-    if FULL <= l {
-        return FULL;
-    }
-    let a = l - PASSED;
-    find(u, last(t, a % 65536), a / 65536, arrays)
 }

@@ -19,16 +19,16 @@ pub mod splicing;
 pub mod writer;
 
 use code_numbers::{DONE, PARALLEL, SEQUENCE};
-use derivation::{Arrays, PASSED, Scratch};
+use derivation::{Arrays, PASSED, Scratch, Walked};
 use finding::find;
 use scan::{front, last};
 use splicing::splice;
 use std::ops::Range;
 use writer::Writer;
 
-// Stays: the answers are one number, measured together with seek (seeking.rt). The term is the first n words of d: it grows and shrinks within one array of a
-// fixed size, since there is no heap. A struct of both would be lent, and each contract would have to say too that its array stays the same (`ghost_name`); and
-// that n words are there, and word i is one of them, are facts of two values.
+// Stays: the answers are one number, measured (docs/DESIGN-PASS.md, "Answers packed in one number"). The term is the first n words of d: it grows and shrinks
+// within one array of a fixed size, since there is no heap. A struct of both would be lent, and each contract would have to say too that its array stays the
+// same (`ghost_name`); and that n words are there, and word i is one of them, are facts of two values.
 
 // The place that begins in word i of the first n gives way to the successor: of a part, of a part after done, or done where two that are done
 // stood in parallel.
@@ -115,13 +115,17 @@ pub fn step(u: &[u16], d: &mut [u16], n: usize, m: &[u16], k: usize, scratch: &m
         store: m,
         path,
         acts: scratch.acts,
+        k,
+        at: 0,
+        left: 0,
     };
-    let r = find(u, front(d, n), k, &mut arrays);
-    if PASSED <= r {
-        return PASSED;
+    let r = find(u, front(d, n), &mut arrays);
+    let left = arrays.left;
+    let q = arrays.at;
+    match r {
+        Walked::Found => (),
+        _ => return PASSED,
     }
-    let left = r % 65536;
-    let q = r / 65536;
     if n < left || left == 0 || path.len() < q {
         return PASSED;
     }

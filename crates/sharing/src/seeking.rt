@@ -5,68 +5,69 @@ ghost use Rattle.std.specs.Prelude.{◌≡◌, ◌+◌, ◌-◌, ◌≤◌, ◌<
 ghost use Rattle.derivation.specs.Derived.{passed};
 ghost use Rattle.derivation.specs.Lending.{Kept, Over};
 ghost use Rattle.sharing.specs.Seeking.{Sought, TwoSought};
+ghost use Rattle.sharing.specs.Walking.{sought_in};
 
 use code_numbers::{ACTION, CHOICE, DONE, GUARD, INTERNAL, PARALLEL, SEQUENCE, STAR};
-use derivation::{Arrays, FULL, PASSED, decide, decide_right, derive, size_before};
+use derivation::{Arrays, Walked, size_before};
 use expressions::eval_cond;
 use listing::{behind_mask, both_done};
 use paths::{BOTH_DONE, CHOOSE_LEFT, END, LEFT_MOVES, ROUND};
 use scan::{behind, first, last};
 
-// The answers here are those of derivation: a place below PASSED; from PASSED on, how much of k is left; from FULL on, that there was no room.
-// Stays: one number, measured; Options of structs and enums as the answers of seek, find, begin and step take 1.15 to 1.33 times the instructions in runs
-// of 10,000 numbers over a shared term (docs/DESIGN-PASS.md, "Answers packed in one number").
+// The answers here are those of derivation, but that nobody asks how many words are left after a term without move k.
 // Stays beside the walk of `derivation`, which has the same codes: it must answer where the term ends, by skipping what did not move, and here that is
 // saved at every level. One function of both would be handed a flag for it; with a const parameter there is no proof, since a call of the walk would be
 // one of the same cycle at another instance, which the check does not cover.
 
 // One move, whose path is empty: it begins at the end.
-// Stays beside derivation's `single`, whose answer holds the words left too.
-fn only(k: usize, end: usize) -> usize
-    requires { k < 65536 }
-    ensures { (k ≡ 0 → result ≡ end) × (1 ≤ k → result ≡ passed + (k - 1)) }
+// Stays beside derivation's `single`, which is told the words left too.
+fn only(arrays: &mut Arrays) -> Walked
+    ensures kept { Kept arrays.old arrays.new }
+    ensures path { arrays.new.path.now ≡ arrays.old.path.now }
+    ensures one { (arrays.old.k ≡ 0 → sought_in arrays.new result ≡ length arrays.old.path.now) × (1 ≤ arrays.old.k → sought_in arrays.new result ≡ passed + (arrays.old.k - 1)) }
 {
-    if k == 0 {
-        return end;
+    if arrays.k == 0 {
+        arrays.at = arrays.path.len();
+        return Walked::Found;
     }
-    PASSED + (k - 1)
+    arrays.k = arrays.k - 1;
+    Walked::Passed
 }
 
 // Writes the path at the end of the lent array; acts is room for the walk over left operands.
-// Stays, here and below: t, k and the arrays are parameters, with the bounds of t and k as clauses: every call is handed other words, and after a first term
-// another k, which is a part of the answer before and would be cast as a u16.
+// Stays, here and below: t is a parameter, with its bound as a clause: every call is handed other words.
 // Stays: that the arrays stay the same (`Kept`) is a fact of what they were and what they are then, which no field of a struct holds.
 #[cycle(seeking)]
-pub fn seek(s: &[u16], k: usize, arrays: &mut Arrays) -> usize
-    requires { (length s.now ≤ 65535) × (k < 65536) }
+pub fn seek(s: &[u16], arrays: &mut Arrays) -> Walked
+    requires { length s.now ≤ 65535 }
     ensures kept { Kept arrays.old arrays.new }
-    ensures sought { Over (Sought s.now) k arrays.old arrays.new result }
+    ensures sought { Over (Sought s.now) arrays.old.k arrays.old arrays.new (sought_in arrays.new result) }
 {
     let w = first(s);
     let t = behind(s);
     match w {
-        INTERNAL => only(k, arrays.path.len()),
-        ACTION => only(k, arrays.path.len()),
-        SEQUENCE => seek_sequence(t, k, arrays),
-        CHOICE => seek_two(t, k, CHOOSE_LEFT as u16, arrays),
-        STAR => seek_star(t, k, arrays),
-        PARALLEL => seek_parallel(t, k, arrays),
-        GUARD => seek_guard(t, k, arrays),
-        _ => PASSED + k,
+        INTERNAL => only(arrays),
+        ACTION => only(arrays),
+        SEQUENCE => seek_sequence(t, arrays),
+        CHOICE => seek_two(t, CHOOSE_LEFT as u16, arrays),
+        STAR => seek_star(t, arrays),
+        PARALLEL => seek_parallel(t, arrays),
+        GUARD => seek_guard(t, arrays),
+        _ => Walked::Passed,
     }
 }
 
 // The left term's path, or the right's where the left is done.
 #[cycle(seeking)]
-fn seek_sequence(t: &[u16], k: usize, arrays: &mut Arrays) -> usize
-    requires { (length t.now ≤ 65535) × (k < 65536) }
+fn seek_sequence(t: &[u16], arrays: &mut Arrays) -> Walked
+    requires { length t.now ≤ 65535 }
     ensures kept { Kept arrays.old arrays.new }
-    ensures sought { Over (Sought (22 ∷ t.now)) k arrays.old arrays.new result }
+    ensures sought { Over (Sought (22 ∷ t.now)) arrays.old.k arrays.old arrays.new (sought_in arrays.new result) }
 {
     if first(t) == DONE {
-        return seek(behind(t), k, arrays);
+        return seek(behind(t), arrays);
     }
-    seek(t, k, arrays)
+    seek(t, arrays)
 }
 
 // The path in the first of two terms, or in the second for what the first's moves leave of k.
@@ -74,62 +75,64 @@ fn seek_sequence(t: &[u16], k: usize, arrays: &mut Arrays) -> usize
 // Inlined, since its frame would come on top of seek's at each level.
 #[cycle(seeking)]
 #[inline(always)]
-fn seek_two(t: &[u16], k: usize, c: u16, arrays: &mut Arrays) -> usize
-    requires { (length t.now ≤ 65535) × (k < 65536) × (c ≤ 1) }
+fn seek_two(t: &[u16], c: u16, arrays: &mut Arrays) -> Walked
+    requires { (length t.now ≤ 65535) × (c ≤ 1) }
     ensures kept { Kept arrays.old arrays.new }
-    ensures sought { Over (TwoSought c t.now) k arrays.old arrays.new result }
+    ensures sought { Over (TwoSought c t.now) arrays.old.k arrays.old arrays.new (sought_in arrays.new result) }
 {
-    let l = derive(t, arrays.store, k, arrays.path, arrays.acts);
-    if l < PASSED {
-        return decide(c, l, arrays.path);
+    let l = arrays.walk_all(t);
+    match l {
+        Walked::Found => arrays.decide(c, l),
+        Walked::Passed => {
+            let u = last(t, arrays.left);
+            let r = seek(u, arrays);
+            arrays.decide_right(c + 1, size_before(t, u), r)
+        }
+        Walked::Full => Walked::Full,
     }
-    if FULL <= l {
-        return FULL;
-    }
-    let a = l - PASSED;
-    let u = last(t, a % 65536);
-    let r = seek(u, a / 65536, arrays);
-    decide_right(c + 1, size_before(t, u), r, arrays.path)
 }
 
 // The end of a star is its first move, the rounds' moves follow.
 #[cycle(seeking)]
-fn seek_star(t: &[u16], k: usize, arrays: &mut Arrays) -> usize
-    requires { (length t.now ≤ 65535) × (k < 65536) }
+fn seek_star(t: &[u16], arrays: &mut Arrays) -> Walked
+    requires { length t.now ≤ 65535 }
     ensures kept { Kept arrays.old arrays.new }
-    ensures sought { Over (Sought (24 ∷ t.now)) k arrays.old arrays.new result }
+    ensures sought { Over (Sought (24 ∷ t.now)) arrays.old.k arrays.old arrays.new (sought_in arrays.new result) }
 {
-    if k == 0 {
-        return decide(END as u16, arrays.path.len(), arrays.path);
+    if arrays.k == 0 {
+        arrays.at = arrays.path.len();
+        return arrays.decide(END as u16, Walked::Found);
     }
-    let r = seek(t, k - 1, arrays);
-    decide(ROUND as u16, r, arrays.path)
+    arrays.k = arrays.k - 1;
+    let r = seek(t, arrays);
+    arrays.decide(ROUND as u16, r)
 }
 
 // Without a mask the moves are those of both sides, as in a choice.
 #[cycle(seeking)]
-fn seek_parallel(d: &[u16], k: usize, arrays: &mut Arrays) -> usize
-    requires { (length d.now ≤ 65535) × (k < 65536) }
+fn seek_parallel(d: &[u16], arrays: &mut Arrays) -> Walked
+    requires { length d.now ≤ 65535 }
     ensures kept { Kept arrays.old arrays.new }
-    ensures sought { Over (Sought (25 ∷ d.now)) k arrays.old arrays.new result }
+    ensures sought { Over (Sought (25 ∷ d.now)) arrays.old.k arrays.old arrays.new (sought_in arrays.new result) }
 {
     let t = behind_mask(d);
     if both_done(t) {
-        return decide(BOTH_DONE as u16, only(k, arrays.path.len()), arrays.path);
+        let r = only(arrays);
+        return arrays.decide(BOTH_DONE as u16, r);
     }
-    seek_two(t, k, LEFT_MOVES as u16, arrays)
+    seek_two(t, LEFT_MOVES as u16, arrays)
 }
 
 // The term's path where the condition holds, else none.
 #[cycle(seeking)]
-fn seek_guard(t: &[u16], k: usize, arrays: &mut Arrays) -> usize
-    requires { (length t.now ≤ 65535) × (k < 65536) }
+fn seek_guard(t: &[u16], arrays: &mut Arrays) -> Walked
+    requires { length t.now ≤ 65535 }
     ensures kept { Kept arrays.old arrays.new }
-    ensures sought { Over (Sought (26 ∷ t.now)) k arrays.old arrays.new result }
+    ensures sought { Over (Sought (26 ∷ t.now)) arrays.old.k arrays.old arrays.new (sought_in arrays.new result) }
 {
     let c = eval_cond(t, arrays.store);
     if c % 65536 == 0 {
-        return PASSED + k;
+        return Walked::Passed;
     }
-    seek(last(t, c / 65536), k, arrays)
+    seek(last(t, c / 65536), arrays)
 }

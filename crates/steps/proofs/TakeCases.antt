@@ -24,7 +24,11 @@ use Rattle.listing.specs.RoomLaws.{room_below_breadth}
 use Rattle.paths.specs.Paths.{path, Followed, follow, followed, marked}
 use Rattle.paths.proofs.SeekLaws.{some_within}
 use Rattle.paths.proofs.PathLaws.{follow_path}
+use Rattle.listing.specs.Operands.{answer_is}
+use Rattle.derivation.specs.declared.arrays.Derivation.{Derivation}
+use Rattle.derivation.specs.declared.arrays.Derivation.TheVariants.{At, Behind, NoRoom}
 use Rattle.derivation.specs.Derived.{passed, full, move_count, Derived}
+use Rattle.derivation.specs.Lending.{Placed as Within, told}
 use Rattle.successors.specs.declared.Built.{Built}
 use Rattle.successors.specs.Building.{built_words, Building, BuiltRight}
 use Rattle.steps.specs.Counting.{Whole}
@@ -35,6 +39,28 @@ use Rattle.steps.specs.declared.moving.Taken.{Taken}
 -- The place in an answer of a derivation.
 abbrev pub Placed : Option ℕ → ℕ → Type 0
 Placed o r = MatchOption o (passed ≤ r) (λ at. (at ≡ r) × (r < passed))
+
+-- ── an answer with its numbers ──
+
+pub told_place : (i : ℕ) (d : Derivation) → d ≡ At i → Within 65535 d → (i ≡ told d) × (told d < passed)
+told_place i d h p =
+    let q : i ≤ 65535 = subst (Within 65535) h p in
+    (sym (ap told h), subst (λ x. told x < passed) (sym h) (omega (arith, q)))
+
+pub told_other : (d : Derivation) → ((i : ℕ) → d ≡ At i → ⊥) → passed ≤ told d
+told_other (At i) h = absurd (h i refl)
+told_other (Behind k left) h = omega arith
+told_other NoRoom h = omega arith
+
+pub told_few : (d : Derivation) → (d ≡ NoRoom → ⊥) → Within 65535 d → told d < full
+told_few (At i) h p = omega (arith, p)
+told_few (Behind k left) h p = omega (arith, answer_is left k, p.0, p.1)
+told_few NoRoom h p = absurd (h refl)
+
+pub within_more : (n : ℕ) (d : Derivation) → n ≤ 65535 → Within n d → Within 65535 d
+within_more n (At i) l p = omega (arith, p)
+within_more n (Behind k left) l p = p
+within_more n NoRoom l p = p
 
 module _ {s M : List ℕ} {k : ℕ} where
   -- ── the path ──

@@ -1,34 +1,29 @@
 -- What listing answers, as far as it counts: in a cleared array of a fixed size, and for words that are one running term.
-use Rattle.std.specs.Prelude.{◌≡◌, refl, List, [], ℕ, ◌/◌, ◌≤◌, ◌<◌, length, take, replicate, Option, None, Some, unwrap_or}
-use Rattle.std.proofs.Common.{ap, subst, ◌∙◌, length-append}
-use Rattle.std.proofs.lemmas.List.{length-map}
+use Rattle.std.specs.Prelude.{◌≡◌, refl, List, [], ℕ, ◌≤◌, length, take, replicate, Option, None, Some, unwrap_or}
+use Rattle.std.proofs.Common.{ap, subst, ◌∙◌}
+use Rattle.std.proofs.lemmas.List.{length-map, length-replicate}
 use Rattle.cells.specs.FrontLaws.{false_no}
 use native.Mathlib.Omega.{arith}
 use Rattle.eb3.specs.Scopes.{Scope}
 use Rattle.eb3.specs.Terms.{Term}
 use Rattle.eb3.specs.Moves.{moves}
-use Rattle.eb3.specs.Spelling.{words}
-use Rattle.expressions.specs.Answering.{answer}
-use Rattle.listing.specs.Listing.{TermAt, holding, code_of, codes, room, full, Listed}
+use Rattle.listing.specs.Listing.{holding, code_of, codes, room, Right, Listed}
 use Rattle.listing.specs.RoomLaws.{room_below_breadth}
+use Rattle.listing.specs.declared.lister.Moves.{Moves}
 use Rattle.steps.specs.Counting.{Whole, Made, MadeOfAll}
-
-pub answered_count : (r left n : ℕ) → r ≡ answer left n → left ≤ 65535 → r / 65536 ≡ n
-unfolding answer
-answered_count r left n e h = omega (arith, e)
-
-pub rest_short : (s : List ℕ) (P : Scope) (E : Term) (rest : List ℕ) → TermAt s P E rest → length s ≤ 65535 → length rest ≤ 65535
-rest_short s P E rest k h = omega (arith, ap length k.spelled, length-append (words 1 E) rest)
 
 -- ── in an array ──
 
-module _ {R : Type 0} (s M exit : List ℕ) (n r : ℕ) (makes : List ℕ → R → Type 0) (short : length s ≤ 65535) (h : Listed s M (replicate n 0) exit r) where
-  pub made_of : (v : R) → r < full → makes (take (r / 65536) exit) v → Made s M n makes (Some v)
-  made_of v l e = record {
+module _ {R : Type 0} (s M exit : List ℕ) (n : ℕ) (makes : List ℕ → R → Type 0) where
+  pub made_none : Listed s M (replicate n 0) exit None → Made s M n makes None
+  made_none h = record { has_room = λ P E rest k z. h.has_room P E rest k (omega (arith, z, length-replicate {A = ℕ} n 0)); right = λ P E rest k. tt }
+
+  pub made_of : (r : Moves) (v : R) → Listed s M (replicate n 0) exit (Some r) → makes (take r.count exit) v → Made s M n makes (Some v)
+  made_of r v h e = record {
     has_room = λ P E rest k z. refl;
     right = λ P E rest k.
-        let c = answered_count r (length rest) (length (codes (holding M) E)) (h.right P E rest k l).counted (rest_short s P E rest k short) in
-        subst (λ w. makes w v) (ap (λ j. take j exit) c ∙ (h.right P E rest k l).listed) e;
+        let l : Right (holding M) E rest exit r = h.right P E rest k in
+        subst (λ w. makes w v) (ap (λ j. take j exit) l.counted ∙ l.listed) e;
   }
 
 -- ── one running term ──

@@ -12,12 +12,12 @@ ghost use Rattle.actions.specs.Codes.{action_code, Small};
 ghost use Rattle.listing.specs.Listing.{holding};
 ghost use Rattle.steps.specs.Counting.{Whole, Made, MadeOfAll, found_at};
 
-use listing::{FULL, list};
+use listing::list;
 
-// What is made of the numbers of the moves' actions, or None where they take more than N numbers. A listing's answer is one number (measured in `listing`),
-// taken apart here.
+// What is made of the numbers of the moves' actions, or None where they take more than N numbers.
 // Stays a function that only makes an array and asks: not put into its caller, so that a call with few numbers does not pay for a frame with many.
 // Stays, here and in moving.rt: the bound of N is a clause of a const parameter, which each call gives as a number: the check finds it there.
+// Stays, here and in of_moves: that the closure may always be called is what every call of one asks, and no type says it.
 #[inline(never)]
 fn listed<const N: usize, R, F: Fn(&[u32]) -> R>(s: &[u16], m: &[u16], then: F) -> Option<R>
     requires room { (length s.now ≤ 65535) × (N ≤ 131072) }
@@ -25,12 +25,9 @@ fn listed<const N: usize, R, F: Fn(&[u32]) -> R>(s: &[u16], m: &[u16], then: F) 
     ensures { Made s.now m.now N (FnReturnsAt F.Fn then) result }
 {
     let mut acts = [0u32; N];
-    let r = list(s, m, &mut acts);
-    if r < FULL {
-        Some(then(&acts[..r / 65536]))
-    } else {
-        None
-    }
+    let moves = list(s, m, &mut acts)?;
+    let count = moves.count;
+    Some(then(&acts[..count]))
 }
 
 // The same, with as many numbers as it takes: few are tried first. Within the limits there is always room for all of them.

@@ -10,11 +10,12 @@ ghost use Rattle.eb3.specs.Moves.{moves};
 ghost use Rattle.eb3.specs.Sizes.{size};
 ghost use Rattle.derivation.specs.Arrays.{SameArrays};
 ghost use Rattle.derivation.specs.Derived.{passed};
+ghost use Rattle.derivation.specs.Lending.{Placed, told};
 ghost use Rattle.listing.specs.Listing.{holding};
 ghost use Rattle.steps.specs.Counting.{Whole};
 ghost use Rattle.steps.specs.Taking.{PathSought, PathFound, SuccessorFits, Took};
 
-use derivation::{FULL, PASSED, Scratch, derive};
+use derivation::{Derivation, Scratch, derive};
 use successors::build;
 
 /// A move that was taken.
@@ -28,25 +29,29 @@ pub struct Taken {
 
 // ── the path ──
 
-// Move k's path sought with room for N numbers, answered as a derivation does: one number (measured in `derivation`), which `place` makes an Option of.
+// Move k's path sought with room for N numbers.
 // Stays a function that only makes an array and asks: not put into its caller, so that a call with few numbers does not pay for a frame with many.
 // Stays, here and in find_path: the words, the store, k, the path and the numbers are parameters, with their bounds as clauses, as `derivation::derive` takes
 // them. The bound of N is of a const parameter, which each call gives as a number.
 #[inline(never)]
-fn path_in<const N: usize>(s: &[u16], m: &[u16], k: usize, path: &mut [u16]) -> usize
+fn path_in<const N: usize>(s: &[u16], m: &[u16], k: usize, path: &mut [u16]) -> Derivation
     requires { (length s.now ≤ 65535) × (k < 65536) × (length path.old ≤ 65535) × (N ≤ 131072) }
-    ensures { PathSought s.now m.now k path.old path.new N result }
+    ensures sought { PathSought s.now m.now k path.old path.new N (told result) }
+    ensures placed { Placed (length path.old) result }
 {
     let mut acts = [0u32; N];
     let r = derive(s, m, k, path, &mut acts);
     r
 }
 
-// The place in an answer of a derivation.
-fn place(r: usize) -> Option<usize>
-    ensures { MatchOption result (passed ≤ r) (λ at. (at ≡ r) × (r < passed)) }
+// The place in an answer of a derivation, if there is one.
+fn place(r: Derivation) -> Option<usize>
+    ensures { Placed 65535 r → MatchOption result (passed ≤ told r) (λ at. (at ≡ told r) × (told r < passed)) }
 {
-    if r < PASSED { Some(r) } else { None }
+    match r {
+        Derivation::At(at) => Some(at),
+        _ => None,
+    }
 }
 
 // The place in a lent array where move k's path begins; it goes to the array's end. The lent numbers are tried first.
@@ -57,12 +62,14 @@ fn find_path(s: &[u16], m: &[u16], k: usize, path: &mut [u16], acts: &mut [u32])
     ensures { PathFound s.now m.now k path.old path.new result }
 {
     let few = derive(s, m, k, path, acts);
-    if few < FULL {
-        return place(few);
+    match few {
+        Derivation::NoRoom => (),
+        _ => return place(few),
     }
     let more = path_in::<4096>(s, m, k, path);
-    if more < FULL {
-        return place(more);
+    match more {
+        Derivation::NoRoom => (),
+        _ => return place(more),
     }
     // within the limits there is always room for all of them
     let most = path_in::<131072>(s, m, k, path);

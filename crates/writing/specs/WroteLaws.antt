@@ -1,8 +1,8 @@
 -- Laws of writing: one word more at a time, and one list behind another into the rest that is lent on.
 -- Document 01, "Operations": what is written, and what is kept.
-use Rattle.std.specs.Prelude.{◌≡◌, refl, Bool, true, false, ℕ, zero, suc, ◌+◌, ◌*◌, ◌/◌, ◌%◌, ◌≤◌, ◌<◌, take, get_or}
+use Rattle.std.specs.Prelude.{◌≡◌, refl, Bool, true, false, ℕ, suc, ◌+◌, ◌*◌, ◌/◌, ◌%◌, ◌≤◌, ◌<◌, take, get_or}
 use Rattle.std.proofs.Math.Path.{sym, ap}
-use Rattle.std.proofs.Common.{◌∙◌, add-one, length-drop, take_at, drop_at, drop-drop, take_all, length-take-le, le-leb}
+use Rattle.std.proofs.Common.{◌∙◌, add-one, length-drop, take_at, drop_at, drop-drop, take_all, length-take-le, take-suc, le-leb}
 use mathlib.Core.List.{List, [], ◌∷◌, ◌++◌, append_assoc}
 use native.Mathlib.Omega.{arith}
 use Rattle.std.proofs.Math.ListN.{length, drop, set, length-append}
@@ -27,9 +27,7 @@ two_front (a ∷ []) h = absurd (let z : ⊥ = omega arith in z)
 two_front (a ∷ b ∷ r) h = (a, b, r, refl)
 
 take_suc : (s : List ℕ) (i : ℕ) → i < length s → take (suc i) s ≡ take i s ++ (get_or s i 0 ∷ [])
-take_suc [] i h = absurd (let z : ⊥ = omega arith in z)
-take_suc (w ∷ s) zero h = refl
-take_suc (w ∷ s) (suc i) h = ap (λ l. w ∷ l) (take_suc s i (omega arith))
+take_suc s i h = take-suc s i 0 h
 
 module _ (ws x : List ℕ) (room : 2 * length ws + 2 ≤ length x) where
   tail : (a : ℕ) × (b : ℕ) × (r : List ℕ) × (drop (2 * length ws) x ≡ a ∷ b ∷ r)

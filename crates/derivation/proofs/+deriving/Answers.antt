@@ -1,27 +1,31 @@
 use Rattle.derivation.proofs.Sides.{both_none_right, both_none_left, both_made, sides_none_left, sides_left_made, sides_none_right, sides_right_made, sides_together}
-use lib.ListN.{length, drop}
+use Rattle.std.proofs.Common.{rules}
+use lib.ListN.{drop}
+use lib.Seq.{length-take-le}
 use mathlib.Core.Path.{refl, sym, ap, ◌∙◌}
 use lib.Dec.{lit<}
 use Rattle.scan.specs.Laws.{behind_len, last_len}
-use Rattle.listing.specs.Operands.{answer_is, mask_len}
 use Rattle.derivation.specs.AnswerLaws.{sized}
-use Rattle.derivation.proofs.Answers.{sound_single, at_store}
-use Rattle.derivation.proofs.Arms.{internal_derived, perform_derived, two_left, rest_count, two_right, choice_derived, sequence_right, sequence_lost, sequence_found, sequence_passed, star_end, star_round, guard_shut, guard_open, at_front, other_derived}
-use Rattle.derivation.proofs.Listed.{lent_few, whole_length, listed_lost_second, listed_none, listed_sides}
+use Rattle.derivation.proofs.Answers.{at_store}
+use Rattle.derivation.proofs.Walking.{at_low, walk_found, found_low, full_high, other_high, passed_high, passed_few, last_is, rest_is, walk_on, whole_back, placed_at, told_at, told_other, derived_path, operands_path, decided_path}
+use Rattle.derivation.proofs.Arms.{internal_derived, perform_derived, two_left, two_right, choice_derived, sequence_right, sequence_lost, sequence_found, sequence_passed, star_end, star_round, guard_shut, guard_open, at_front, other_derived}
+use Rattle.derivation.proofs.Listed.{whole_length, listed_lost_second, listed_none, listed_sides}
 use Rattle.derivation.proofs.Idle.{right_derived, left_found, left_passed, masked_right, masked_left, masked_listed}
 use Rattle.derivation.proofs.Parallels.{parallel_done, parallel_covered, parallel_masked}
 use native.Mathlib.Omega.{arith}
-use lib.ListN.{length}
 use Rattle.derivation.proofs.+deriving.Goals as goal
 
-pub arrays::Arrays::derive_both-returns-then-q-ge-PASSED-clause-derived : goal.arrays::Arrays::derive_both-returns-then-q-ge-PASSED-clause-derived
-arrays::Arrays::derive_both-returns-then-q-ge-PASSED-clause-derived t c = both_none_right _ _ _ _ _ _ _ _ _ c.walk-q.ensures.derived c.walk-q.ensures.kept.path_length c.if-q-ge-PASSED.true
+pub arrays::Arrays::derive_both-invariant_of-self-in-At : goal.arrays::Arrays::derive_both-invariant_of-self-in-At
+arrays::Arrays::derive_both-invariant_of-self-in-At t c = let w = whole_back c.walk.new.self.at c.walk.new.self.path.now _ c.derive_lent-before.auto.path c.walk.new.self.within.0 in record { few = (omega (arith, w, c.walk.new.self.few.0), omega (arith, c.derive_lent-before.auto.acts, c.walk.new.self.few.1)); due = c.walk.new.self.due; within = (omega (arith, w, c.walk.new.self.within.0, placed_at _ _ _ c.in-At.is c.derive_lent-before.ensures.placed, length-take-le c.walk.new.self.at c.walk.new.self.path.now c.walk.new.self.within.0), c.walk.new.self.within.1) }
 
-pub arrays::Arrays::derive_both-returns-then-p-ge-PASSED-clause-derived : goal.arrays::Arrays::derive_both-returns-then-p-ge-PASSED-clause-derived
-arrays::Arrays::derive_both-returns-then-p-ge-PASSED-clause-derived t c = both_none_left _ _ _ _ _ _ _ _ _ c.walk-q.ensures.derived c.walk-q.ensures.kept.path_length c.if-q-ge-PASSED.false _ _ _ c.walk-q.ensures.kept.acts_length (at_store c.walk-q.ensures.kept.store c.derive_lent-p.ensures) c.derive_lent-p.auto.path c.if-p-ge-PASSED.true _
+pub arrays::Arrays::derive_both-returns-in-At-clause-derived : goal.arrays::Arrays::derive_both-returns-in-At-clause-derived
+arrays::Arrays::derive_both-returns-in-At-clause-derived t c = both_made _ _ _ _ _ _ _ _ _ (walk_found c.walk.new.self _ c.in-Found.is c.walk.ensures.derived) c.walk.ensures.kept.path_length (at_low c.walk.new.self) _ _ _ c.walk.ensures.kept.acts_length (at_store c.walk.ensures.kept.store (told_at _ _ c.in-At.is c.derive_lent-before.ensures.derived)) c.derive_lent-before.auto.path (omega (arith, placed_at _ _ _ c.in-At.is c.derive_lent-before.ensures.placed)) _ _ _ refl (sized c.size_before.ensures c.decide_right.ensures.decided)
 
-pub arrays::Arrays::derive_both-returns-clause-derived : goal.arrays::Arrays::derive_both-returns-clause-derived
-arrays::Arrays::derive_both-returns-clause-derived t c = both_made _ _ _ _ _ _ _ _ _ c.walk-q.ensures.derived c.walk-q.ensures.kept.path_length c.if-q-ge-PASSED.false _ _ _ c.walk-q.ensures.kept.acts_length (at_store c.walk-q.ensures.kept.store c.derive_lent-p.ensures) c.derive_lent-p.auto.path c.if-p-ge-PASSED.false _ _ _ refl (sized c.size_before.ensures c.decide_right.ensures)
+pub arrays::Arrays::derive_both-returns-in_default-before : goal.arrays::Arrays::derive_both-returns-in_default-before
+arrays::Arrays::derive_both-returns-in_default-before t c = let k = c.walk.ensures.kept in let w = whole_back c.walk.new.self.at c.walk.new.self.path.now _ c.derive_lent-before.auto.path c.walk.new.self.within.0 in record { kept = record { store = k.store; path = k.path; acts = k.acts; path_length = w ∙ k.path_length; acts_length = c.derive_lent-before.auto.acts ∙ k.acts_length }; derived = both_none_left _ _ _ _ _ _ _ _ _ (walk_found c.walk.new.self _ c.in-Found.is c.walk.ensures.derived) c.walk.ensures.kept.path_length (at_low c.walk.new.self) _ _ _ c.walk.ensures.kept.acts_length (at_store c.walk.ensures.kept.store c.derive_lent-before.ensures.derived) c.derive_lent-before.auto.path (told_other _ c.in_default-before.not-At) _ }
+
+pub arrays::Arrays::derive_both-returns-in_default : goal.arrays::Arrays::derive_both-returns-in_default
+arrays::Arrays::derive_both-returns-in_default t c = let k = c.walk.ensures.kept in record { kept = record { store = k.store; path = k.path; acts = k.acts; path_length = k.path_length; acts_length = k.acts_length }; derived = both_none_right _ _ _ _ _ _ _ _ _ c.walk.ensures.derived c.walk.ensures.kept.path_length (other_high c.walk.new.self _ (search rules)) }
 
 pub arrays::Arrays::derive_guard-skip-requires : goal.arrays::Arrays::derive_guard-skip-requires
 arrays::Arrays::derive_guard-skip-requires t c = omega (arith, last_len _ _ _ c.last-u.ensures)
@@ -30,43 +34,43 @@ pub arrays::Arrays::derive_guard-passing-requires : goal.arrays::Arrays::derive_
 arrays::Arrays::derive_guard-passing-requires t c = omega (arith, c.skip.ensures.0, last_len _ _ _ c.last-u.ensures)
 
 pub arrays::Arrays::derive_guard-returns-then-c-eq0-clause-derived : goal.arrays::Arrays::derive_guard-returns-then-c-eq0-clause-derived
-arrays::Arrays::derive_guard-returns-then-c-eq0-clause-derived t c = guard_shut _ _ _ _ _ c.eval_cond-c.ensures.0 c.last-u.ensures _ c.requires.0 c.requires.1 _ _ _ _ c.if-c-eq0.true c.skip.ensures.0 c.skip.ensures.1 c.passing.ensures.0
+arrays::Arrays::derive_guard-returns-then-c-eq0-clause-derived t c = derived_path c.passing.ensures.path (guard_shut _ _ _ _ _ c.eval_cond-c.ensures.0 c.last-u.ensures _ c.requires c.args.self.now.due _ _ _ _ c.if-c-eq0.true c.skip.ensures.0 c.skip.ensures.1 c.passing.ensures.passed.0)
 
 pub arrays::Arrays::derive_guard-walk-requires : goal.arrays::Arrays::derive_guard-walk-requires
 arrays::Arrays::derive_guard-walk-requires t c = (omega (arith, last_len _ _ _ c.last-u.ensures), omega (arith, last_len _ _ _ c.last-u.ensures))
 
 pub arrays::Arrays::derive_guard-returns-clause-derived : goal.arrays::Arrays::derive_guard-returns-clause-derived
-arrays::Arrays::derive_guard-returns-clause-derived t c = guard_open _ _ _ _ _ c.eval_cond-c.ensures.0 c.last-u.ensures _ c.requires.0 c.requires.1 _ _ _ _ c.if-c-eq0.false c.walk.ensures.derived
-
-pub arrays::Arrays::derive_left-returns-then-l-lt-PASSED-clause-derived : goal.arrays::Arrays::derive_left-returns-then-l-lt-PASSED-clause-derived
-arrays::Arrays::derive_left-returns-then-l-lt-PASSED-clause-derived t c = left_found _ _ _ _ _ _ _ _ c.walk-l.ensures.derived c.walk-l.ensures.kept.path_length c.if-l-lt-PASSED.true _ _ c.decide.ensures
+arrays::Arrays::derive_guard-returns-clause-derived t c = guard_open _ _ _ _ _ c.eval_cond-c.ensures.0 c.last-u.ensures _ c.requires c.args.self.now.due _ _ _ _ c.if-c-eq0.false c.walk.ensures.derived
 
 pub arrays::Arrays::derive_left-skip-requires : goal.arrays::Arrays::derive_left-skip-requires
 arrays::Arrays::derive_left-skip-requires t c = omega (arith, last_len _ _ _ c.last.ensures)
 
 pub arrays::Arrays::derive_left-passing-requires : goal.arrays::Arrays::derive_left-passing-requires
-arrays::Arrays::derive_left-passing-requires t c = omega (arith, c.skip.ensures.0, last_len _ _ _ c.last.ensures, c.walk-l.ensures.derived.passed_bounded c.if-l-lt-PASSED.false c.if-l-ge-FULL.false, answer_is (length c.args.t.now) c.args.k)
+arrays::Arrays::derive_left-passing-requires t c = omega (arith, c.skip.ensures.0, last_len _ _ _ c.last.ensures)
 
-pub arrays::Arrays::derive_left-returns-clause-derived : goal.arrays::Arrays::derive_left-returns-clause-derived
-arrays::Arrays::derive_left-returns-clause-derived t c = left_passed _ _ _ _ _ _ _ _ c.walk-l.ensures.derived _ _ _ c.if-l-lt-PASSED.false c.if-l-ge-FULL.false c.requires.0 c.requires.1 c.last.ensures c.skip.ensures c.passing.ensures.0
+pub arrays::Arrays::derive_left-returns-in-Found-clause-derived : goal.arrays::Arrays::derive_left-returns-in-Found-clause-derived
+arrays::Arrays::derive_left-returns-in-Found-clause-derived t c = left_found _ _ _ _ _ _ _ _ c.walk-l.ensures.derived c.walk-l.ensures.kept.path_length (found_low c.walk-l.new.self _ c.in-Found.is) _ _ c.decide.ensures.decided
 
-pub arrays::Arrays::derive_listed-list-r-requires : goal.arrays::Arrays::derive_listed-list-r-requires
-arrays::Arrays::derive_listed-list-r-requires t c = (omega (arith, last_len _ _ _ c.last-u.ensures), lent_few c.list-l.ensures c.args.self.now.few.1)
+pub arrays::Arrays::derive_left-returns-in-Passed-clause-derived : goal.arrays::Arrays::derive_left-returns-in-Passed-clause-derived
+arrays::Arrays::derive_left-returns-in-Passed-clause-derived t c = operands_path c.passing.ensures.path (left_passed _ _ _ _ _ _ _ _ c.walk-l.ensures.derived _ _ _ (passed_high c.walk-l.new.self _ c.in-Passed.is) (passed_few c.walk-l.new.self _ c.in-Passed.is) c.requires c.args.self.now.due (last_is c.walk-l.new.self _ c.in-Passed.is _ c.last.ensures) c.skip.ensures (rest_is c.walk-l.new.self _ c.in-Passed.is _ c.passing.ensures.passed.0))
 
-pub arrays::Arrays::derive_listed-returns-then-r-ge-FULL-clause-derived : goal.arrays::Arrays::derive_listed-returns-then-r-ge-FULL-clause-derived
-arrays::Arrays::derive_listed-returns-then-r-ge-FULL-clause-derived t c = listed_lost_second _ _ _ _ _ c.list-l.ensures c.requires.0 c.if-l-ge-FULL.false _ _ _ c.last-u.ensures c.list-r.ensures _ _ _ _ c.if-r-ge-FULL.true
+pub arrays::Arrays::derive_listed-list-requires-2 : goal.arrays::Arrays::derive_listed-list-requires-2
+arrays::Arrays::derive_listed-list-requires-2 t c = omega (arith, last_len _ _ _ c.last-u.ensures)
+
+pub arrays::Arrays::derive_listed-returns-in_default-list-clause-derived : goal.arrays::Arrays::derive_listed-returns-in_default-list-clause-derived
+arrays::Arrays::derive_listed-returns-in_default-list-clause-derived t c = listed_lost_second _ _ _ _ _ c.in-Some.ensures c.requires _ _ _ c.last-u.ensures c.in_default-list.ensures _ _ _ _ refl
 
 pub arrays::Arrays::derive_listed-passing-requires : goal.arrays::Arrays::derive_listed-passing-requires
-arrays::Arrays::derive_listed-passing-requires t c = omega (arith, c.locate-z.ensures.bounded, last_len _ _ _ c.last-v.ensures, last_len _ _ _ c.last-u.ensures)
+arrays::Arrays::derive_listed-passing-requires t c = omega (arith, last_len _ _ _ c.last-v.ensures, last_len _ _ _ c.last-u.ensures)
 
 pub arrays::Arrays::derive_listed-returns-then-z-ge-PASSED-clause-derived : goal.arrays::Arrays::derive_listed-returns-then-z-ge-PASSED-clause-derived
-arrays::Arrays::derive_listed-returns-then-z-ge-PASSED-clause-derived t c = listed_none _ _ _ _ _ c.list-l.ensures c.requires.0 c.if-l-ge-FULL.false _ _ _ c.last-u.ensures c.list-r.ensures c.if-r-ge-FULL.false _ _ c.split_at.ensures.front c.split_at.ensures.back _ _ _ _ _ c.locate-z.ensures c.requires.1 c.if-z-ge-PASSED.true _ _ c.last-v.ensures c.passing.ensures.0
+arrays::Arrays::derive_listed-returns-then-z-ge-PASSED-clause-derived t c = operands_path c.passing.ensures.path (listed_none _ _ _ _ _ c.in-Some.ensures c.requires _ _ _ c.last-u.ensures c.in-Some-list.ensures _ refl _ _ c.split_at.ensures.front c.split_at.ensures.back _ _ _ _ _ c.locate-z.ensures c.args.self.now.due c.if-z-ge-PASSED.true _ _ c.last-v.ensures c.passing.ensures.passed.0)
 
 pub arrays::Arrays::derive_listed-derive_sides-requires : goal.arrays::Arrays::derive_listed-derive_sides-requires
 arrays::Arrays::derive_listed-derive_sides-requires t c = (omega arith, (omega arith, last_len _ _ _ c.last-u.ensures, c.locate-z.ensures.low c.if-z-ge-PASSED.false))
 
 pub arrays::Arrays::derive_listed-returns-clause-derived : goal.arrays::Arrays::derive_listed-returns-clause-derived
-arrays::Arrays::derive_listed-returns-clause-derived t c = listed_sides _ _ _ _ _ c.list-l.ensures c.requires.0 c.if-l-ge-FULL.false _ _ _ c.last-u.ensures c.list-r.ensures c.if-r-ge-FULL.false _ _ c.split_at.ensures.front c.split_at.ensures.back _ _ _ _ _ c.locate-z.ensures c.requires.1 c.if-z-ge-PASSED.false c.args.self.now.few.0 _ _ _ (omega (arith, whole_length _ _ _ _ _ c.list-l.ensures c.requires.0 c.if-l-ge-FULL.false _ _ _ c.last-u.ensures c.list-r.ensures)) c.derive_sides.ensures.derived
+arrays::Arrays::derive_listed-returns-clause-derived t c = listed_sides _ _ _ _ _ c.in-Some.ensures c.requires _ _ _ c.last-u.ensures c.in-Some-list.ensures _ refl _ _ c.split_at.ensures.front c.split_at.ensures.back _ _ _ _ _ c.locate-z.ensures c.args.self.now.due c.if-z-ge-PASSED.false c.args.self.now.few.0 _ _ _ (omega (arith, whole_length _ _ _ _ _ c.in-Some.ensures c.requires _ _ _ c.last-u.ensures c.in-Some-list.ensures)) c.derive_sides.ensures.derived
 
 pub arrays::Arrays::derive_masked-returns-then-idle-clause-derived : goal.arrays::Arrays::derive_masked-returns-then-idle-clause-derived
 arrays::Arrays::derive_masked-returns-then-idle-clause-derived t c = masked_right _ _ _ _ _ _ _ _ _ _ c.idle.ensures c.if-idle.true _ c.join.ensures c.derive_right.ensures.derived
@@ -80,86 +84,83 @@ arrays::Arrays::derive_masked-returns-then-idle-2-clause-derived t c = masked_le
 pub arrays::Arrays::derive_masked-returns-clause-derived : goal.arrays::Arrays::derive_masked-returns-clause-derived
 arrays::Arrays::derive_masked-returns-clause-derived t c = masked_listed _ _ _ _ _ _ _ _ _ _ c.idle.ensures c.if-idle.false _ _ c.skip.ensures c.last.ensures _ c.idle-2.ensures c.if-idle-2.false c.derive_listed.ensures.derived
 
-pub arrays::Arrays::derive_parallel-decide-requires : goal.arrays::Arrays::derive_parallel-decide-requires
-arrays::Arrays::derive_parallel-decide-requires t c = let s = sound_single 65535 _ _ _ _ c.single.ensures.0 c.single.ensures.1 c.args.self.now.few.0 (omega (arith, behind_len c.behind.result.now _ c.behind-v.ensures, behind_len c.behind_mask-t.result.now _ c.behind.ensures, mask_len c.args.d.now _ c.behind_mask-t.ensures)) (omega arith) c.requires.1 in (s.bounded, s.place_bounded)
-
-pub arrays::Arrays::derive_parallel-returns-then-both_done-clause-derived : goal.arrays::Arrays::derive_parallel-returns-then-both_done-clause-derived
-arrays::Arrays::derive_parallel-returns-then-both_done-clause-derived t c = parallel_done _ _ _ _ _ _ _ _ c.behind_mask-t.ensures _ c.both_done.ensures _ _ _ c.if-both_done.true (c.behind-v.ensures ∙ ap (drop 1) c.behind.ensures) c.single.ensures.0 c.single.ensures.1 c.requires.0 c.args.self.now.few.0 c.requires.1 c.decide.ensures
-
 pub arrays::Arrays::derive_parallel-returns-then-join-x-clause-derived : goal.arrays::Arrays::derive_parallel-returns-then-join-x-clause-derived
 arrays::Arrays::derive_parallel-returns-then-join-x-clause-derived t c = parallel_covered _ _ _ _ _ _ _ _ c.behind_mask-t.ensures _ c.both_done.ensures _ c.if-both_done.false _ c.mask_set-mask.ensures _ c.join.ensures c.if-join-x.true c.derive_two.ensures.derived
 
 pub arrays::Arrays::derive_parallel-returns-clause-derived : goal.arrays::Arrays::derive_parallel-returns-clause-derived
 arrays::Arrays::derive_parallel-returns-clause-derived t c = parallel_masked _ _ _ _ _ _ _ _ c.behind_mask-t.ensures _ c.both_done.ensures _ c.if-both_done.false _ c.mask_set-mask.ensures _ c.join.ensures c.if-join-x.false c.derive_masked.ensures.derived
 
+pub arrays::Arrays::derive_parallel-returns-then-both_done-clause-derived : goal.arrays::Arrays::derive_parallel-returns-then-both_done-clause-derived
+arrays::Arrays::derive_parallel-returns-then-both_done-clause-derived t c = parallel_done _ _ _ _ _ _ _ _ c.behind_mask-t.ensures _ c.both_done.ensures _ _ _ c.if-both_done.true (c.behind-v.ensures ∙ ap (drop 1) c.behind.ensures) c.single-r.ensures.one.0 c.single-r.ensures.one.1 c.requires c.args.self.now.few.0 c.args.self.now.due (decided_path c.single-r.ensures.path c.decide.ensures.decided)
+
 pub arrays::Arrays::derive_right-walk-r-requires : goal.arrays::Arrays::derive_right-walk-r-requires
 arrays::Arrays::derive_right-walk-r-requires t c = (omega (arith, last_len _ _ _ c.last-u.ensures), omega (arith, last_len _ _ _ c.last-u.ensures))
 
 pub arrays::Arrays::derive_right-size_before-requires : goal.arrays::Arrays::derive_right-size_before-requires
-arrays::Arrays::derive_right-size_before-requires t c = (c.requires.0, last_len _ _ _ c.last-u.ensures)
+arrays::Arrays::derive_right-size_before-requires t c = (c.requires, last_len _ _ _ c.last-u.ensures)
 
 pub arrays::Arrays::derive_right-returns-clause-derived : goal.arrays::Arrays::derive_right-returns-clause-derived
-arrays::Arrays::derive_right-returns-clause-derived t c = right_derived _ _ _ _ _ _ _ _ _ _ _ _ c.skip.ensures c.last-u.ensures c.walk-r.ensures.derived c.walk-r.ensures.kept.path_length (sized c.size_before.ensures c.decide_right.ensures)
+arrays::Arrays::derive_right-returns-clause-derived t c = right_derived _ _ _ _ _ _ _ _ _ _ _ _ c.skip.ensures c.last-u.ensures c.walk-r.ensures.derived c.walk-r.ensures.kept.path_length (sized c.size_before.ensures c.decide_right.ensures.decided)
 
 pub arrays::Arrays::derive_sequence-returns-then-first-eq-DONE-clause-derived : goal.arrays::Arrays::derive_sequence-returns-then-first-eq-DONE-clause-derived
 arrays::Arrays::derive_sequence-returns-then-first-eq-DONE-clause-derived t c = sequence_right _ _ _ _ _ _ _ _ _ (sym c.first.ensures.0 ∙ c.if-first-eq-DONE.true) c.behind.ensures c.walk.ensures.derived
-
-pub arrays::Arrays::derive_sequence-returns-then-l-lt-PASSED-clause-derived : goal.arrays::Arrays::derive_sequence-returns-then-l-lt-PASSED-clause-derived
-arrays::Arrays::derive_sequence-returns-then-l-lt-PASSED-clause-derived t c = sequence_found _ _ _ _ _ _ _ _ c.walk-l.ensures.derived (λ e. c.if-first-eq-DONE.false (c.first.ensures.0 ∙ e)) c.if-l-lt-PASSED.true
-
-pub arrays::Arrays::derive_sequence-returns-then-l-ge-FULL-clause-derived : goal.arrays::Arrays::derive_sequence-returns-then-l-ge-FULL-clause-derived
-arrays::Arrays::derive_sequence-returns-then-l-ge-FULL-clause-derived t c = sequence_lost _ _ _ _ _ _ _ _ c.walk-l.ensures.derived (λ e. c.if-first-eq-DONE.false (c.first.ensures.0 ∙ e)) c.if-l-ge-FULL.true
 
 pub arrays::Arrays::derive_sequence-skip-requires : goal.arrays::Arrays::derive_sequence-skip-requires
 arrays::Arrays::derive_sequence-skip-requires t c = omega (arith, last_len _ _ _ c.last.ensures)
 
 pub arrays::Arrays::derive_sequence-passing-requires : goal.arrays::Arrays::derive_sequence-passing-requires
-arrays::Arrays::derive_sequence-passing-requires t c = omega (arith, c.skip.ensures.0, last_len _ _ _ c.last.ensures, c.walk-l.ensures.derived.passed_bounded c.if-l-lt-PASSED.false c.if-l-ge-FULL.false, answer_is (length c.args.t.now) c.args.k)
+arrays::Arrays::derive_sequence-passing-requires t c = omega (arith, c.skip.ensures.0, last_len _ _ _ c.last.ensures)
 
-pub arrays::Arrays::derive_sequence-returns-clause-derived : goal.arrays::Arrays::derive_sequence-returns-clause-derived
-arrays::Arrays::derive_sequence-returns-clause-derived t c = sequence_passed _ _ _ _ _ _ _ _ c.walk-l.ensures.derived (λ e. c.if-first-eq-DONE.false (c.first.ensures.0 ∙ e)) _ _ _ c.if-l-lt-PASSED.false c.if-l-ge-FULL.false c.requires.0 c.requires.1 c.last.ensures c.skip.ensures.0 c.skip.ensures.1 c.passing.ensures.0
+pub arrays::Arrays::derive_sequence-returns-in-Found-clause-derived : goal.arrays::Arrays::derive_sequence-returns-in-Found-clause-derived
+arrays::Arrays::derive_sequence-returns-in-Found-clause-derived t c = sequence_found _ _ _ _ _ _ _ _ c.walk-l.ensures.derived (λ e. c.if-first-eq-DONE.false (c.first.ensures.0 ∙ e)) (found_low c.walk-l.new.self _ c.in-Found.is)
 
-pub arrays::Arrays::derive_sides-returns-then-l-ge-PASSED-clause-derived : goal.arrays::Arrays::derive_sides-returns-then-l-ge-PASSED-clause-derived
-arrays::Arrays::derive_sides-returns-then-l-ge-PASSED-clause-derived t c = sides_none_left _ _ _ _ _ _ _ _ c.walk-l.ensures.kept.path_length c.walk-l.ensures.derived c.if-z-lt-RIGHT.true c.if-l-ge-PASSED.true
+pub arrays::Arrays::derive_sequence-returns-in-Full-clause-derived : goal.arrays::Arrays::derive_sequence-returns-in-Full-clause-derived
+arrays::Arrays::derive_sequence-returns-in-Full-clause-derived t c = sequence_lost _ _ _ _ _ _ _ _ c.walk-l.ensures.derived (λ e. c.if-first-eq-DONE.false (c.first.ensures.0 ∙ e)) (full_high c.walk-l.new.self _ c.in-Full.is)
 
-pub arrays::Arrays::derive_sides-returns-then-z-lt-RIGHT-clause-derived : goal.arrays::Arrays::derive_sides-returns-then-z-lt-RIGHT-clause-derived
-arrays::Arrays::derive_sides-returns-then-z-lt-RIGHT-clause-derived t c = sides_left_made _ _ _ _ _ _ _ _ c.walk-l.ensures.kept.path_length c.walk-l.ensures.derived c.if-z-lt-RIGHT.true c.if-l-ge-PASSED.false _ _ c.decide.ensures
+pub arrays::Arrays::derive_sequence-returns-in-Passed-clause-derived : goal.arrays::Arrays::derive_sequence-returns-in-Passed-clause-derived
+arrays::Arrays::derive_sequence-returns-in-Passed-clause-derived t c = derived_path c.passing.ensures.path (sequence_passed _ _ _ _ _ _ _ _ c.walk-l.ensures.derived (λ e. c.if-first-eq-DONE.false (c.first.ensures.0 ∙ e)) _ _ _ (passed_high c.walk-l.new.self _ c.in-Passed.is) (passed_few c.walk-l.new.self _ c.in-Passed.is) c.requires c.args.self.now.due (last_is c.walk-l.new.self _ c.in-Passed.is _ c.last.ensures) c.skip.ensures.0 c.skip.ensures.1 (rest_is c.walk-l.new.self _ c.in-Passed.is _ c.passing.ensures.passed.0))
 
-pub arrays::Arrays::derive_sides-returns-then-r-ge-PASSED-clause-derived : goal.arrays::Arrays::derive_sides-returns-then-r-ge-PASSED-clause-derived
-arrays::Arrays::derive_sides-returns-then-r-ge-PASSED-clause-derived t c = sides_none_right _ _ _ _ _ _ _ _ c.walk-r.ensures.kept.path_length c.walk-r.ensures.derived c.if-z-lt-RIGHT.false c.if-z-lt-BOTH.true c.if-r-ge-PASSED.true
+pub arrays::Arrays::derive_sides-returns-in-Found-clause-derived : goal.arrays::Arrays::derive_sides-returns-in-Found-clause-derived
+arrays::Arrays::derive_sides-returns-in-Found-clause-derived t c = sides_left_made _ _ _ _ _ _ _ _ c.walk-l.ensures.kept.path_length c.walk-l.ensures.derived c.if-z-lt-RIGHT.true (found_low c.walk-l.new.self _ c.in-Found.is) _ _ c.decide.ensures.decided
 
-pub arrays::Arrays::derive_sides-returns-then-z-lt-BOTH-clause-derived : goal.arrays::Arrays::derive_sides-returns-then-z-lt-BOTH-clause-derived
-arrays::Arrays::derive_sides-returns-then-z-lt-BOTH-clause-derived t c = sides_right_made _ _ _ _ _ _ _ _ c.walk-r.ensures.kept.path_length c.walk-r.ensures.derived c.if-z-lt-RIGHT.false c.if-z-lt-BOTH.true c.if-r-ge-PASSED.false _ _ (sized c.size_before.ensures c.decide_right.ensures)
+pub arrays::Arrays::derive_sides-returns-in_default : goal.arrays::Arrays::derive_sides-returns-in_default
+arrays::Arrays::derive_sides-returns-in_default t c = let k = c.walk-l.ensures.kept in record { kept = record { store = k.store; path = k.path; acts = k.acts; path_length = k.path_length; acts_length = k.acts_length }; derived = sides_none_left _ _ _ _ _ _ _ _ c.walk-l.ensures.kept.path_length c.walk-l.ensures.derived c.if-z-lt-RIGHT.true (other_high c.walk-l.new.self _ (search rules)) }
+
+pub arrays::Arrays::derive_sides-returns-in-Found-r-clause-derived : goal.arrays::Arrays::derive_sides-returns-in-Found-r-clause-derived
+arrays::Arrays::derive_sides-returns-in-Found-r-clause-derived t c = sides_right_made _ _ _ _ _ _ _ _ c.walk-r.ensures.kept.path_length c.walk-r.ensures.derived c.if-z-lt-RIGHT.false c.if-z-lt-BOTH.true (found_low c.walk-r.new.self _ c.in-Found-r.is) _ _ (sized c.size_before.ensures c.decide_right.ensures.decided)
+
+pub arrays::Arrays::derive_sides-returns-in_default-r : goal.arrays::Arrays::derive_sides-returns-in_default-r
+arrays::Arrays::derive_sides-returns-in_default-r t c = let k = c.walk-r.ensures.kept in record { kept = record { store = k.store; path = k.path; acts = k.acts; path_length = k.path_length; acts_length = k.acts_length }; derived = sides_none_right _ _ _ _ _ _ _ _ c.walk-r.ensures.kept.path_length c.walk-r.ensures.derived c.if-z-lt-RIGHT.false c.if-z-lt-BOTH.true (other_high c.walk-r.new.self _ (search rules)) }
 
 pub arrays::Arrays::derive_sides-returns-clause-derived : goal.arrays::Arrays::derive_sides-returns-clause-derived
 arrays::Arrays::derive_sides-returns-clause-derived t c = sides_together _ _ _ _ _ _ _ _ c.if-z-lt-BOTH.false c.derive_both.ensures.derived
 
-pub arrays::Arrays::derive_star-returns-then-k-eq0-clause-derived : goal.arrays::Arrays::derive_star-returns-then-k-eq0-clause-derived
-arrays::Arrays::derive_star-returns-then-k-eq0-clause-derived t c = star_end _ _ _ _ _ _ _ _ c.requires.0 c.args.self.now.few.0 c.if-k-eq0.true c.decide.ensures
+pub arrays::Arrays::derive_star-returns-then-self-eq0-clause-derived : goal.arrays::Arrays::derive_star-returns-then-self-eq0-clause-derived
+arrays::Arrays::derive_star-returns-then-self-eq0-clause-derived t c = star_end _ _ _ _ _ _ _ _ c.requires c.args.self.now.few.0 c.if-self-eq0.true c.decide.ensures.decided
 
 pub arrays::Arrays::derive_star-returns-clause-derived : goal.arrays::Arrays::derive_star-returns-clause-derived
-arrays::Arrays::derive_star-returns-clause-derived t c = star_round _ _ _ _ _ _ _ _ c.requires.0 c.args.self.now.few.0 _ _ _ c.if-k-eq0.false c.walk-r.ensures.derived c.walk-r.ensures.kept.path_length c.decide-2.ensures (omega arith)
-
-pub arrays::Arrays::derive_two-returns-then-l-lt-PASSED-clause-derived : goal.arrays::Arrays::derive_two-returns-then-l-lt-PASSED-clause-derived
-arrays::Arrays::derive_two-returns-then-l-lt-PASSED-clause-derived t c = two_left _ _ _ _ _ _ _ _ _ c.walk-l.ensures.derived c.walk-l.ensures.kept.path_length c.requires.0 c.requires.1 c.if-l-lt-PASSED.true _ _ c.decide.ensures
+arrays::Arrays::derive_star-returns-clause-derived t c = star_round _ _ _ _ _ _ _ _ c.requires c.args.self.now.few.0 _ _ _ c.if-self-eq0.false c.walk-r.ensures.derived c.walk-r.ensures.kept.path_length c.decide-2.ensures.decided (omega arith)
 
 pub arrays::Arrays::derive_two-walk-r-requires : goal.arrays::Arrays::derive_two-walk-r-requires
-arrays::Arrays::derive_two-walk-r-requires t c = (omega (arith, last_len _ _ _ c.last-u.ensures), (omega (arith, last_len _ _ _ c.last-u.ensures), omega (arith, rest_count _ c.args.c _ _ _ _ _ _ _ c.walk-l.ensures.derived c.walk-l.ensures.kept.path_length c.requires.0 c.requires.1 c.if-l-lt-PASSED.false c.if-l-ge-FULL.false)))
+arrays::Arrays::derive_two-walk-r-requires t c = (omega (arith, last_len _ _ _ c.last-u.ensures), omega (arith, last_len _ _ _ c.last-u.ensures))
 
 pub arrays::Arrays::derive_two-size_before-requires : goal.arrays::Arrays::derive_two-size_before-requires
 arrays::Arrays::derive_two-size_before-requires t c = (c.requires.0, last_len _ _ _ c.last-u.ensures)
 
-pub arrays::Arrays::derive_two-returns-clause-derived : goal.arrays::Arrays::derive_two-returns-clause-derived
-arrays::Arrays::derive_two-returns-clause-derived t c = two_right _ _ _ _ _ _ _ _ _ c.walk-l.ensures.derived c.walk-l.ensures.kept.path_length c.requires.0 c.requires.1 c.if-l-lt-PASSED.false c.if-l-ge-FULL.false _ _ _ _ _ _ c.last-u.ensures c.walk-l.ensures.kept.acts_length (at_store c.walk-l.ensures.kept.store c.walk-r.ensures.derived) c.walk-r.ensures.kept.path_length (sized c.size_before.ensures c.decide_right.ensures)
+pub arrays::Arrays::derive_two-returns-in-Found-clause-derived : goal.arrays::Arrays::derive_two-returns-in-Found-clause-derived
+arrays::Arrays::derive_two-returns-in-Found-clause-derived t c = two_left _ _ _ _ _ _ _ _ _ c.walk-l.ensures.derived c.walk-l.ensures.kept.path_length c.requires.0 c.args.self.now.due (found_low c.walk-l.new.self _ c.in-Found.is) _ _ c.decide.ensures.decided
+
+pub arrays::Arrays::derive_two-returns-in-Passed-clause-derived : goal.arrays::Arrays::derive_two-returns-in-Passed-clause-derived
+arrays::Arrays::derive_two-returns-in-Passed-clause-derived t c = two_right _ _ _ _ _ _ _ _ _ c.walk-l.ensures.derived c.walk-l.ensures.kept.path_length c.requires.0 c.args.self.now.due (passed_high c.walk-l.new.self _ c.in-Passed.is) (passed_few c.walk-l.new.self _ c.in-Passed.is) _ _ _ _ _ _ (last_is c.walk-l.new.self _ c.in-Passed.is _ c.last-u.ensures) c.walk-l.ensures.kept.acts_length (walk_on c.walk-l.new.self _ c.in-Passed.is (at_store c.walk-l.ensures.kept.store c.walk-r.ensures.derived)) c.walk-r.ensures.kept.path_length (sized c.size_before.ensures c.decide_right.ensures.decided)
 
 pub arrays::Arrays::walk-returns-in-20-clause-derived : goal.arrays::Arrays::walk-returns-in-20-clause-derived
-arrays::Arrays::walk-returns-in-20-clause-derived t c = at_front _ _ _ _ _ _ _ _ _ 20 _ c.first-w.ensures.0 c.behind-t.ensures c.in-20.is (lit< tt) (internal_derived _ _ _ _ _ _ _ _ c.single.ensures.0 c.single.ensures.1 c.args.self.now.few.0 (omega arith) (omega (arith, behind_len c.args.s.now _ c.behind-t.ensures)) c.requires.1 refl)
+arrays::Arrays::walk-returns-in-20-clause-derived t c = at_front _ _ _ _ _ _ _ _ _ 20 _ c.first-w.ensures.0 c.behind-t.ensures c.in-20.is (lit< tt) (derived_path c.single.ensures.path (internal_derived _ _ _ _ _ _ _ _ c.single.ensures.one.0 c.single.ensures.one.1 c.args.self.now.few.0 (omega arith) (omega (arith, behind_len c.args.s.now _ c.behind-t.ensures)) c.args.self.now.due refl))
 
 pub arrays::Arrays::walk-returns-in-21-clause-derived : goal.arrays::Arrays::walk-returns-in-21-clause-derived
-arrays::Arrays::walk-returns-in-21-clause-derived t c = at_front _ _ _ _ _ _ _ _ _ 21 _ c.first-w.ensures.0 c.behind-t.ensures c.in-21.is (lit< tt) (perform_derived _ _ _ _ _ _ _ c.args.self.now.few.0 c.derive_action.ensures)
+arrays::Arrays::walk-returns-in-21-clause-derived t c = at_front _ _ _ _ _ _ _ _ _ 21 _ c.first-w.ensures.0 c.behind-t.ensures c.in-21.is (lit< tt) (derived_path c.derive_action.ensures.path (perform_derived _ _ _ _ _ _ _ c.args.self.now.few.0 c.derive_action.ensures.derived))
 
 pub arrays::Arrays::walk-returns-in-23-clause-derived : goal.arrays::Arrays::walk-returns-in-23-clause-derived
 arrays::Arrays::walk-returns-in-23-clause-derived t c = at_front _ _ _ _ _ _ _ _ _ 23 _ c.first-w.ensures.0 c.behind-t.ensures c.in-23.is (lit< tt) (choice_derived _ _ _ _ _ _ _ _ _ c.derive_two.ensures.derived (omega arith))
 
 pub arrays::Arrays::walk-returns-in_default-clause-derived : goal.arrays::Arrays::walk-returns-in_default-clause-derived
-arrays::Arrays::walk-returns-in_default-clause-derived t c = other_derived _ _ _ _ _ _ _ _ _ c.first-w.ensures.0 c.behind-t.ensures c.requires.0 c.requires.1 c.in_default.in_default-own.rest c.passing.ensures.0
+arrays::Arrays::walk-returns-in_default-clause-derived t c = derived_path c.passing.ensures.path (other_derived _ _ _ _ _ _ _ _ _ c.first-w.ensures.0 c.behind-t.ensures c.requires c.args.self.now.due (search rules) c.passing.ensures.passed.0)

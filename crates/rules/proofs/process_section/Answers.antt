@@ -5,7 +5,7 @@ use Rattle.scan.specs.ReadingLaws.{handed_err}
 use Rattle.rules.proofs.process_section.Goals as goal
 
 pub processes-requires : goal.processes-requires
-processes-requires c = let h = section_asks c.args.tb.now c.args.t.now _ c.count.ensures _ _ c.told-tb c.requires.1 c.in_ok-m.was c.first-n.ensures.0 in (h.0, omega (arith, h.1), omega (arith, h.2), omega (arith, last_len _ _ _ c.last.ensures), h.3, h.4)
+processes-requires c = let h = section_asks c.args.tb.now c.args.t.now _ c.count.ensures _ _ c.told-tb c.requires.1 c.in_ok-m.was c.first-n.ensures.0 in (h.0, h.1, omega (arith, last_len _ _ _ c.last.ensures), h.2, h.3)
 
 pub returns : goal.returns
 returns c = section_in c.args.tb.now c.args.t.now _ c.count.ensures _ _ _ _ _ (omega arith) c.requires.1 c.in_ok-m.was c.first-n.ensures.0 c.last.ensures c.processes.ensures

@@ -1,11 +1,14 @@
 use Rattle.scan.specs.Laws.{last_len}
-use Rattle.rules.proofs.SectionCases.{read_copies, read_asks, read_in, read_out}
+use Rattle.rules.proofs.SectionCases.{read_front, read_asks, read_in, read_out}
 use native.Mathlib.Omega.{arith}
 use Rattle.scan.specs.ReadingLaws.{handed_err}
 use Rattle.rules.proofs.read.Goals as goal
 
+pub slice_bounds-copy-end-2 : goal.slice_bounds-copy-end-2
+slice_bounds-copy-end-2 c = (read_front c.args.tb.now c.args.t.now _ c.check_domains.ensures _ _ c.told-tb c.in_ok-m.was c.first-k.ensures.0).0
+
 pub copy-requires : goal.copy-requires
-copy-requires c = read_copies c.args.tb.now c.args.t.now _ c.check_domains.ensures _ _ c.told-tb c.in_ok-m.was c.first-k.ensures.0
+copy-requires c = (read_front c.args.tb.now c.args.t.now _ c.check_domains.ensures _ _ c.told-tb c.in_ok-m.was c.first-k.ensures.0).1
 
 pub label_section-requires : goal.label_section-requires
 label_section-requires c = (omega (arith, last_len _ _ _ c.last.ensures), read_asks c.args.tb.now c.args.t.now _ c.check_domains.ensures _ _ c.told-tb c.in_ok-m.was c.first-k.ensures.0 _ c.copy.ensures)

@@ -11,9 +11,6 @@ use Rattle.cells.proofs.framing.fill_function.Goals as goal
 pub returns-then-m-at : goal.returns-then-m-at
 returns-then-m-at c = let a = c.args in (refl, λ T r. absurd (let z : ⊥ = omega (arith, turn_room T a.m.now r c.word-k.result c.word-o.result c.word-k.ensures.0 c.word-o.ensures.0) in z))
 
-pub fill_each-requires : goal.fill_each-requires
-fill_each-requires c = (omega (arith, last_len _ _ _ c.last-s.ensures), omega arith, omega arith, omega arith)
-
 pub returns-then-m-from : goal.returns-then-m-from
 returns-then-m-from c = let a = c.args in (c.fill_each.ensures.0, c.fill_each.ensures.1 a.f a.t.now a.left (placed_by a.t.now a.f a.left c.last-s.result.now a.m.now c.word-o.result c.word-k.result c.last-s.ensures c.word-k.ensures.0 c.word-o.ensures.0))
 
@@ -22,9 +19,6 @@ returns-then-keeps c = let a = c.args in let s = c.last-s.result.now in (c.copy_
 
 pub fill_named-requires : goal.fill_named-requires
 fill_named-requires c = (c.names_one.ensures.1 c.if-names_one.true, omega (arith, last_len _ _ _ c.last-s.ensures), omega arith, omega arith, omega arith, omega arith, λ j. c.word.ensures.0 j + c.word-o.ensures.0 j, subst (λ q. Tells q c.last-s.result.now AsksOne) c.if-names_one.true c.names_one.ensures.0)
-
-pub fill_each-requires-2 : goal.fill_each-requires-2
-fill_each-requires-2 c = (omega (arith, last_len _ _ _ c.last-s.ensures), omega arith, omega arith, omega arith)
 
 pub returns : goal.returns
 returns c = let a = c.args in (c.fill_each-2.ensures.0, c.fill_each-2.ensures.1 a.f a.t.now a.left (placed_by a.t.now a.f a.left c.last-s.result.now a.m.now c.word-o.result c.word-k.result c.last-s.ensures c.word-k.ensures.0 c.word-o.ensures.0))

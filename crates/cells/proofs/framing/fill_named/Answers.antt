@@ -2,15 +2,11 @@
 -- their values every cell is computed (`any_first`).
 use mathlib.Core.Path.{◌≡◌, subst}
 use Prim.Native.Nat.{◌+◌}
-use native.Mathlib.Omega.{arith}
-use Rattle.scan.specs.Laws.{last_len, part}
+use Rattle.scan.specs.Laws.{part}
 use Rattle.expressions.specs.Answering.{Evaluated}
 use Rattle.cells.specs.Frames.{kept_value, Tells}
 use Rattle.cells.specs.FramingLaws.{any_first, first_set, two_set, named_past, named_one}
 use Rattle.cells.proofs.framing.fill_named.Goals as goal
-
-pub eval_data-valued-requires : goal.eval_data-valued-requires
-eval_data-valued-requires c = omega (arith, last_len _ _ _ c.last-t.ensures)
 
 pub returns-then-named-k : goal.returns-then-named-k
 returns-then-named-k c = let a = c.args in (two_set a.m.now c.copy_cells.new.m c.eval_data-named.result.value (a.at + c.eval_data-named.result.value) c.eval_data-valued.result.value c.copy_cells.ensures.same_length, named_one a.f a.s.now a.m.now a.from a.at a.k c.requires.6 (λ i. (c.slice_known-1.given i).fits) c.requires.7 c.eval_data-named.result (subst (λ l. Evaluated l a.m.now c.eval_data-named.result) (part 4 a.s.now) c.eval_data-named.ensures.0) c.last-t.result.now c.last-t.ensures c.eval_data-valued.result c.eval_data-valued.ensures.0 c.last.result.now c.last.ensures (subst (λ r. Tells r c.last.result.now (λ d. d ≡ kept_value a.f)) c.if-keeps.true c.keeps.ensures) c.copy_cells.new.m c.copy_cells.ensures c.if-named-k.true c.requires.3)

@@ -2,17 +2,22 @@
 use native.Mathlib.Omega.{arith}
 use mathlib.Core.Path.{refl}
 use Rattle.scan.specs.Laws.{last_len}
+use Rattle.sharing.proofs.WalkingCases.{seek_low, placed_is, seek_full, seek_high, seek_few, seek_rest, part_as}
 use Rattle.sharing.proofs.FindingParts.{part_lost, part_placed, part_passed}
 use Rattle.sharing.proofs.finding.find_part.Goals as goal
 
 pub seek-r-requires : goal.seek-r-requires
-seek-r-requires c = (omega (arith, last_len _ _ _ c.last.ensures, c.requires.0), c.requires.3)
+seek-r-requires c = omega (arith, last_len _ _ _ c.last.ensures, c.requires.0)
 
-pub returns-then-r-lt-PASSED-clause-found : goal.returns-then-r-lt-PASSED-clause-found
-returns-then-r-lt-PASSED-clause-found c = part_placed _ _ _ _ _ _ _ _ _ _ _ _ c.if-w-lt32.false c.last.ensures refl c.seek-r.ensures.sought c.requires.1 c.requires.2 c.requires.3 (omega arith) c.if-r-lt-PASSED.true
+pub returns-in-Found-clause-found : goal.returns-in-Found-clause-found
+returns-in-Found-clause-found c =
+    let e = c.seek-r.new.arrays in
+    part_as (placed_is e _ c.args.place.here c.in-Found.is) (part_placed _ _ _ _ _ _ _ _ _ _ _ _ c.if-w-lt32.false c.last.ensures refl c.seek-r.ensures.sought c.requires.1 c.requires.2 c.args.arrays.now.due c.args.arrays.now.few.0 (seek_low e _ c.in-Found.is))
 
-pub returns-then-r-ge-FULL-clause-found : goal.returns-then-r-ge-FULL-clause-found
-returns-then-r-ge-FULL-clause-found c = part_lost _ _ _ _ _ _ _ _ _ _ _ _ c.if-w-lt32.false c.last.ensures refl c.seek-r.ensures.sought c.requires.1 c.requires.2 c.requires.3 (omega arith) c.if-r-ge-FULL.true
+pub returns-in-Full-clause-found : goal.returns-in-Full-clause-found
+returns-in-Full-clause-found c = part_lost _ _ _ _ _ _ _ _ _ _ _ _ c.if-w-lt32.false c.last.ensures refl c.seek-r.ensures.sought c.requires.1 c.requires.2 c.args.arrays.now.due c.args.arrays.now.few.0 (seek_full c.seek-r.new.arrays _ c.in-Full.is)
 
-pub returns-clause-found : goal.returns-clause-found
-returns-clause-found c = part_passed _ _ _ _ _ _ _ _ _ _ _ _ c.if-w-lt32.false c.last.ensures refl c.seek-r.ensures.sought c.requires.1 c.requires.2 c.requires.3 (omega arith) c.if-r-lt-PASSED.false c.if-r-ge-FULL.false _ c.passing.ensures.0
+pub returns-in-Passed-clause-found : goal.returns-in-Passed-clause-found
+returns-in-Passed-clause-found c =
+    let e = c.seek-r.new.arrays in
+    part_passed _ _ _ _ _ _ _ _ _ _ _ _ c.if-w-lt32.false c.last.ensures refl c.seek-r.ensures.sought c.requires.1 c.requires.2 c.args.arrays.now.due c.args.arrays.now.few.0 (seek_high e _ c.in-Passed.is) (seek_few e _ c.in-Passed.is) _ (seek_rest e _ c.args.place.behind c.in-Passed.is)

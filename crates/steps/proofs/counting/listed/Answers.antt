@@ -1,6 +1,9 @@
 use Rattle.std.proofs.Common.{refl}
-use Rattle.steps.proofs.Tallying.{made_of}
+use Rattle.steps.proofs.Tallying.{made_none, made_of}
 use Rattle.steps.proofs.counting.listed.Goals as goal
 
-pub returns-then-r-lt-FULL : goal.returns-then-r-lt-FULL
-returns-then-r-lt-FULL g c = made_of _ _ _ _ _ _ c.requires.room.0 c.list-r.ensures _ c.if-r-lt-FULL.true (record { shown = _; shows = refl; says = record { met = c.then.ensures } })
+pub returns-in_err-moves : goal.returns-in_err-moves
+returns-in_err-moves g c = rw c.from_residual.ensures (made_none _ _ _ _ _ c.in_err-moves.ensures)
+
+pub returns : goal.returns
+returns g c = made_of _ _ _ _ _ _ _ c.in_ok-moves.ensures (record { shown = _; shows = refl; says = record { met = c.then.ensures } })

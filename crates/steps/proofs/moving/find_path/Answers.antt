@@ -1,13 +1,20 @@
 -- Sought in the lent numbers first (`walked`), then in more room, until there is an answer (`answered_path`); in the most room there is one (`most_path`).
 use mathlib.Core.Path.{refl, ◌∙◌}
-use Rattle.steps.proofs.TakeCases.{walked, answered_path, most_path}
+use native.Mathlib.Omega.{arith}
+use Rattle.steps.proofs.TakeCases.{told_few, within_more, walked, answered_path, most_path}
 use Rattle.steps.proofs.moving.find_path.Goals as goal
 
-pub returns-then-few-lt-FULL : goal.returns-then-few-lt-FULL
-returns-then-few-lt-FULL c = answered_path refl (walked c.derive-few.ensures.0 c.derive-few.ensures.1) c.if-few-lt-FULL.true c.place.ensures
+pub returns-in_default : goal.returns-in_default
+returns-in_default c =
+    let w = within_more _ _ c.requires.2 c.derive-few.ensures.placed in
+    answered_path refl (walked c.derive-few.ensures.kept c.derive-few.ensures.derived) (told_few _ c.in_default.not-NoRoom w) (c.place.ensures w)
 
-pub returns-then-more-lt-FULL : goal.returns-then-more-lt-FULL
-returns-then-more-lt-FULL c = answered_path c.derive-few.ensures.0 c.path_in-more.ensures c.if-more-lt-FULL.true c.place-then-more-lt-FULL.ensures
+pub returns-in_default-more : goal.returns-in_default-more
+returns-in_default-more c =
+    let w = within_more _ _ (omega (arith, c.derive-few.ensures.kept)) c.path_in-more.ensures.placed in
+    answered_path c.derive-few.ensures.kept c.path_in-more.ensures.sought (told_few _ c.in_default-more.not-NoRoom w) (c.place-in_default-more.ensures w)
 
 pub returns : goal.returns
-returns c = most_path (c.path_in-more.ensures.same_length ∙ c.derive-few.ensures.0) c.path_in-most.ensures c.place-2.ensures
+returns c =
+    let w = within_more _ _ (omega (arith, c.derive-few.ensures.kept, c.path_in-more.ensures.sought.same_length)) c.path_in-most.ensures.placed in
+    most_path (c.path_in-more.ensures.sought.same_length ∙ c.derive-few.ensures.kept) c.path_in-most.ensures.sought (c.place-2.ensures w)

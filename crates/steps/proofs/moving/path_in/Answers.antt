@@ -3,4 +3,4 @@ use Rattle.steps.proofs.TakeCases.{walked_in}
 use Rattle.steps.proofs.moving.path_in.Goals as goal
 
 pub returns : goal.returns
-returns g c = walked_in c.derive-r.ensures.0 c.derive-r.ensures.1
+returns g c = record { sought = walked_in c.derive-r.ensures.kept c.derive-r.ensures.derived; placed = c.derive-r.ensures.placed }

@@ -1,5 +1,0 @@
-use Rattle.actions.proofs.Cases.{cases}
-use Rattle.actions.proofs.mask_set.Goals as goal
-
-pub returns : goal.returns
-returns c = search cases
