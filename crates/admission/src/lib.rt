@@ -12,6 +12,7 @@ ghost use Rattle.eb3.specs.Judging.{judged};
 ghost use Rattle.admission.specs.Answering.{admitted, read_whole};
 ghost use Rattle.admission.specs.Admitting.{WordsAdmitted, FileAdmitted};
 
+use arguments::layout::TABLES;
 use arguments::zeros;
 use blocks::opened::Blocks;
 use blocks::{CONTENT_WORDS, join, open};
@@ -35,7 +36,7 @@ fn judge(cells: u32, w: Weight) -> Result<Limits, Refusal>
 
 // The stream's words after its first two: sections 2 to 5, the end, and main's measures; with the tables and the directory that
 // later steps go by. An empty directory will do where there are none.
-fn admit_words(t: &[u16], tables: &mut [u32; 500], dir: &mut [u32]) -> Result<Limits, Refusal>
+fn admit_words(t: &[u16], tables: &mut [u32; TABLES], dir: &mut [u32]) -> Result<Limits, Refusal>
     requires { length t.now ≤ 16254 }
     ensures { WordsAdmitted t.now dir.old result tables.new dir.new }
 {
@@ -55,7 +56,7 @@ fn admit_words(t: &[u16], tables: &mut [u32; 500], dir: &mut [u32]) -> Result<Li
 pub fn admit_in(
     rules: &[u8],
     words: &mut [u16],
-    tables: &mut [u32; 500],
+    tables: &mut [u32; TABLES],
     dir: &mut [u32],
     n: usize,
 ) -> Result<Limits, Refusal>
@@ -75,7 +76,7 @@ fn admit_sized<const WORDS: usize>(file: &Blocks) -> Result<Limits, Refusal>
     ensures { result ≡ read_whole (drop 2 (stream file.now.bytes.now)) }
 {
     let mut words = [0u16; WORDS];
-    let mut tables = [0u32; 500];
+    let mut tables = [0u32; TABLES];
     let mut none = [0u32; 0];
     let r = admit_in(file.bytes, &mut words, &mut tables, &mut none, file.count);
     r

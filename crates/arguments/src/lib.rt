@@ -13,7 +13,7 @@ ghost use Rattle.arguments.specs.Tables.{row, declared, constant_of_domain, vari
 
 use code_numbers::{CONSTANT, VARIABLE};
 use refusals::Refusal;
-use scan::{behind, front, last};
+use scan::{behind, first, front, last, number};
 
 pub mod layout;
 
@@ -98,16 +98,9 @@ pub fn row_at(tb: &[u32], at: usize) -> &[u32]
     ensures { result.now ≡ row tb.now at }
 {
     if at < tb.len() {
-        let from = at + 1;
-        let n = tb[at] as usize;
-        if n <= tb.len() - from {
-            let end = from + n;
-            return &tb[from..end];
-        }
-        return &tb[from..];
+        return front(&tb[at + 1..], tb[at] as usize);
     }
-    let k = tb.len();
-    &tb[k..]
+    &[]
 }
 
 // The size of domain d, or 0 where there is no such domain.
@@ -136,17 +129,13 @@ fn mask_limit(n: usize) -> usize
 pub fn check_mask(t: &[u16], k: usize, n: usize) -> Result<usize, Refusal>
     ensures { result ≡ checked (mask_of k n t.now) }
 {
-    let mut left = n;
-    for i in 0..k {
-        if t.len() <= i {
-            return Err(Refusal::Form);
-        }
-        if mask_limit(left) <= t[i] as usize {
-            return Err(Refusal::Reference);
-        }
-        left = left.saturating_sub(16);
+    let mut labels = n;
+    let mut left = t.len();
+    for _ in 0..k {
+        left = number(last(t, left), Refusal::Reference, mask_limit(labels))?;
+        labels = labels.saturating_sub(16);
     }
-    Ok(t.len() - k)
+    Ok(left)
 }
 
 // All words are zero.
@@ -166,8 +155,7 @@ pub fn mask_zero(t: &[u16]) -> bool
 // ── variables ──
 
 // What is known of the variables in scope, their domains or their values, and of one more.
-// Stays, here and where a variable is added (rule_terms, unfold): that there is room for one more is a clause. It is asked nowhere else, since a `Context`
-// may have eight variables.
+// Stays, here and where a variable is added (rule_terms, unfold): that there is room for one more is a clause, since a `Context` may have eight variables.
 pub fn with(vars: &[u16], x: u16) -> [u16; 8]
     requires { length vars.now < 8 }
     ensures { take (length vars.now + 1) result ≡ vars.now ++ (x ∷ []) }
@@ -201,15 +189,9 @@ fn check_argument(t: &[u16], tb: &[u32], vars: &[u16], d: usize) -> Result<usize
 fn constant_argument(t: &[u16], tb: &[u32], d: usize) -> Result<usize, Refusal>
     ensures { result ≡ checked (constant_of_domain (declared tb.now) d t.now) }
 {
-    if t.len() == 0 {
-        return Err(Refusal::Form);
-    }
-    let v = t[0] as usize;
-    if 65534 < v {
-        return Err(Refusal::Form);
-    }
-    if v < size_of(tb, d) {
-        return Ok(t.len() - 1);
+    let n = number(t, Refusal::Form, 65535)?;
+    if first(t) < size_of(tb, d) {
+        return Ok(n);
     }
     Err(Refusal::Kind)
 }
@@ -219,17 +201,11 @@ fn constant_argument(t: &[u16], tb: &[u32], d: usize) -> Result<usize, Refusal>
 fn variable_argument(t: &[u16], vars: &[u16], d: usize) -> Result<usize, Refusal>
     ensures { result ≡ checked (variable_of_domain vars.now d t.now) }
 {
-    if t.len() == 0 {
-        return Err(Refusal::Form);
+    let n = number(t, Refusal::Reference, vars.len())?;
+    if vars[first(t)] as usize == d {
+        return Ok(n);
     }
-    let i = t[0] as usize;
-    if i < vars.len() {
-        if vars[i] as usize == d {
-            return Ok(t.len() - 1);
-        }
-        return Err(Refusal::Kind);
-    }
-    Err(Refusal::Reference)
+    Err(Refusal::Kind)
 }
 
 // An argument for each of some domains. Always inlined: as a call, a term of actions takes a fifth more instructions.

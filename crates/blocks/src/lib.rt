@@ -167,14 +167,15 @@ fn decode(content: &[u8], words: &mut [u16])
     requires { length content.now ≡ 2 * length words.old }
     ensures { words.new ≡ words_in content.now }
 {
-    for i in 0..words.len() {
-        words[i] = word_at(content, i);
+    for (i, word) in words.iter_mut().enumerate() {
+        *word = word_at(content, i);
     }
 }
 
 // The contents of n blocks, joined: the stream's words, before what the array held there.
 // Stays, here and in admission, given and engine: that the words have room for the blocks is a fact of two values. The words are
 // the caller's, who goes on with a part of them as a slice, so a struct of both would be taken apart at once.
+// Stays, here and as admission's `admit_in`, with n beside the file: both are public, and ask less than a `Blocks` says.
 pub fn join(rules: &[u8], words: &mut [u16], n: usize)
     requires { (length rules.now ≡ 512 * n) × (254 * n ≤ length words.old) × (n ≤ 64) }
     ensures { words.new ≡ stream rules.now ++ drop (254 * n) words.old }

@@ -9,7 +9,7 @@ use admission::admit;
 use engine::counting::count;
 use engine::running::run;
 use engine::starting::start;
-use engine::stepping::{Step, Visible, make_move, present};
+use engine::stepping::{Step, make_move, present};
 use refusals::Refusal;
 
 // In place of a refusal's number, where the operation was done.
@@ -118,37 +118,41 @@ pub extern "C" fn eb3_count(rules: &[u8], term: &[u8], memory: &[u8]) -> Counted
 }
 
 // What a step gives: with a visible action, and with the internal one.
-fn taken(size: u32, action: Option<Visible>) -> Moved
-    ensures { result ≡ exported_action size action }
-{
-    match action {
-        Some(a) => Moved {
-            refusal: DONE,
-            size,
-            visible: 1,
-            label: a.label,
-            arguments: a.arguments,
-            first: a.first,
-            second: a.second,
-        },
-        None => Moved {
-            refusal: DONE,
-            size,
-            ..Moved::default()
-        },
+impl From<Step> for Moved {
+    ghost from_gives = { λ step m. m ≡ exported_action step.size step.action };
+
+    fn from(step: Step) -> Moved {
+        match step.action {
+            Some(a) => Moved {
+                refusal: DONE,
+                size: step.size,
+                visible: 1,
+                label: a.label,
+                arguments: a.arguments,
+                first: a.first,
+                second: a.second,
+            },
+            None => Moved {
+                refusal: DONE,
+                size: step.size,
+                ..Moved::default()
+            },
+        }
     }
 }
 
 // What Move and Present give.
-fn told(r: Result<Step, Refusal>) -> Moved
-    ensures { result ≡ exported_step r }
-{
-    match r {
-        Ok(step) => taken(step.size, step.action),
-        Err(refusal) => Moved {
-            refusal: u32::from(refusal),
-            ..Moved::default()
-        },
+impl From<Result<Step, Refusal>> for Moved {
+    ghost from_gives = { λ r m. m ≡ exported_step r };
+
+    fn from(r: Result<Step, Refusal>) -> Moved {
+        match r {
+            Ok(step) => Moved::from(step),
+            Err(refusal) => Moved {
+                refusal: u32::from(refusal),
+                ..Moved::default()
+            },
+        }
     }
 }
 
@@ -163,7 +167,7 @@ pub extern "C" fn eb3_move(
 ) -> Moved
     ensures { (result ≡ moved (move rules.now term.now memory.now k next_term.old next_memory.old).answer) × (next_term.new ≡ (move rules.now term.now memory.now k next_term.old next_memory.old).term) × (next_memory.new ≡ (move rules.now term.now memory.now k next_term.old next_memory.old).memory) }
 {
-    told(make_move(rules, term, memory, k as usize, next_term, next_memory))
+    Moved::from(make_move(rules, term, memory, k as usize, next_term, next_memory))
 }
 
 #[unsafe(no_mangle)]
@@ -177,7 +181,7 @@ pub extern "C" fn eb3_present(
 ) -> Moved
     ensures { (result ≡ moved (present rules.now term.now memory.now event.now next_term.old next_memory.old).answer) × (next_term.new ≡ (present rules.now term.now memory.now event.now next_term.old next_memory.old).term) × (next_memory.new ≡ (present rules.now term.now memory.now event.now next_term.old next_memory.old).memory) }
 {
-    told(present(rules, term, memory, event, next_term, next_memory))
+    Moved::from(present(rules, term, memory, event, next_term, next_memory))
 }
 
 // The spare cells are read by their length only. Of the spare buffer a refusal writes nothing, and a run only whole words.

@@ -39,13 +39,17 @@ Tells r s Q = (P : Scope) (d : Data) (rest : List ℕ) → DataAt s P d rest →
 
 -- ── cells ──
 
--- The k words from one place on are as those of m from another, where these are read no earlier than written, or all lie before it; all other words are kept.
+-- The k words from one place on are as those of m from another, where these are read no earlier than written; all other words are kept.
 pub record Copied (m m' : List ℕ) (from at k : ℕ) : Type 0 where
   pub same_length : length m' ≡ length m
   pub copies : at ≤ from → (x : ℕ) → x < k → stored m' (at + x) ≡ stored m (from + x)
-  pub copies_up : from + k ≤ at → (x : ℕ) → x < k → stored m' (at + x) ≡ stored m (from + x)
   pub kept_below : (i : ℕ) → i < at → stored m' i ≡ stored m i
   pub kept_above : (i : ℕ) → at + k ≤ i → stored m' i ≡ stored m i
+
+-- The same, and so they are where all that is read lies before what is written.
+pub record CopiedApart (m m' : List ℕ) (from at k : ℕ) : Type 0 where
+  pub copied : Copied m m' from at k
+  pub copies_up : from + k ≤ at → (x : ℕ) → x < k → stored m' (at + x) ≡ stored m (from + x)
 
 -- Function f's expression is at the front of s, and in m it has k cells, which begin at a place.
 pub record Placed (t : List ℕ) (f left : ℕ) (s m : List ℕ) (at k : ℕ) : Type 0 where

@@ -11,7 +11,7 @@ use Rattle.expressions.specs.Answering.{Evaluated}
 use Rattle.expressions.specs.ValueLaws.{any_default}
 use Rattle.cells.specs.Turns.{Turn, Reached}
 use Rattle.cells.specs.TurnLaws.{stored_there, stored_else, turn_next, turn_end}
-use Rattle.cells.specs.Frames.{kept_value, AsksOne, Tells, Copied, Placed, NewCells}
+use Rattle.cells.specs.Frames.{kept_value, AsksOne, Tells, Copied, CopiedApart, Placed, NewCells}
 use Rattle.cells.specs.FrameLaws.{kept_cells, none_named, one_named}
 
 -- o is where the cells begin among all cells
@@ -25,10 +25,12 @@ module _ (m : List ℕ) (from at : ℕ) where
   copy_start = record {
     same_length = refl;
     copies = λ l x h. absurd (let z : ⊥ = omega arith in z);
-    copies_up = λ l x h. absurd (let z : ⊥ = omega arith in z);
     kept_below = λ i h. refl;
     kept_above = λ i h. refl;
   }
+
+  pub apart_start : CopiedApart m m from at 0
+  apart_start = record { copied = copy_start; copies_up = λ l x h. absurd (let z : ⊥ = omega arith in z) }
 
   -- w is the word read
   module _ (M' : List ℕ) (x w : ℕ) (read : from + x < length m) (room : at + x < length m) (is_w : w ≡ get_or M' (from + x) 0) (copied : Copied m M' from at x) where
@@ -45,18 +47,20 @@ module _ (m : List ℕ) (from at : ℕ) where
     written_there : stored (set M' (at + x) w) (at + x) ≡ w
     written_there = stored_there M' (at + x) w (omega (arith, copied.same_length))
 
+    copies : w ≡ stored m (from + x) → (y : ℕ) → y < x + 1 → (y < x → stored M' (at + y) ≡ stored m (from + y)) → Dec (y ≡ x) → stored (set M' (at + x) w) (at + y) ≡ stored m (from + y)
+    copies r y h earlier (yes e) = ap (λ i. stored (set M' (at + x) w) (at + i)) e ∙ written_there ∙ r ∙ ap (λ i. stored m (from + i)) (sym e)
+    copies r y h earlier (no n) = stored_else M' (at + x) (at + y) w (λ e. n (omega arith)) ∙ earlier (omega arith)
+
     pub copy_next : Copied m (set M' (at + x) w) from at (x + 1)
     copy_next = record {
       same_length = length-set M' (at + x) w ∙ copied.same_length;
       copies = λ l y h. copies (word_read l) y h (λ k. copied.copies l y k) (ℕ_discrete y x);
-      copies_up = λ l y h. copies (word_below l) y h (λ k. copied.copies_up (omega arith) y k) (ℕ_discrete y x);
       kept_below = λ i h. stored_else M' (at + x) i w (λ e. let z : ⊥ = omega arith in z) ∙ copied.kept_below i h;
       kept_above = λ i h. stored_else M' (at + x) i w (λ e. let z : ⊥ = omega arith in z) ∙ copied.kept_above i (omega arith);
     }
-      where
-        copies : w ≡ stored m (from + x) → (y : ℕ) → y < x + 1 → (y < x → stored M' (at + y) ≡ stored m (from + y)) → Dec (y ≡ x) → stored (set M' (at + x) w) (at + y) ≡ stored m (from + y)
-        copies r y h earlier (yes e) = ap (λ i. stored (set M' (at + x) w) (at + i)) e ∙ written_there ∙ r ∙ ap (λ i. stored m (from + i)) (sym e)
-        copies r y h earlier (no n) = stored_else M' (at + x) (at + y) w (λ e. n (omega arith)) ∙ earlier (omega arith)
+
+    pub apart_next : (from + x ≤ at → (y : ℕ) → y < x → stored M' (at + y) ≡ stored m (from + y)) → CopiedApart m (set M' (at + x) w) from at (x + 1)
+    apart_next up = record { copied = copy_next; copies_up = λ l y h. copies (word_below l) y h (λ k. up (omega arith) y k) (ℕ_discrete y x) }
 
   pub copy_end : (M' : List ℕ) (x k : ℕ) → x ≤ k → k ≤ x → Copied m M' from at x → Copied m M' from at k
   copy_end M' x k h l r = let e : x ≡ k = omega arith in subst (Copied m M' from at) e r

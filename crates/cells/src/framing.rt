@@ -81,6 +81,8 @@ fn fill_named(s: &[u16], m: &mut [u16], f: usize, from: usize, at: usize, k: usi
 }
 
 // The cells of function f, by the expression where `left` words of the stream are left.
+// Stays with the stream and a number: the directory says by such a number where an expression begins. It asks of both what `Functions` says of them, since it
+// is public, and asks for no more.
 #[tactic(auto, using(scan::specs::Laws::last_len))]
 pub fn fill_function(t: &[u16], m: &mut [u16], f: usize, left: usize)
     requires { (length t.now ≤ 65535) × (f < 16) }

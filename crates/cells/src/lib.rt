@@ -8,7 +8,7 @@ ghost use Rattle.eb3.specs.Expressions.{Reading};
 ghost use Rattle.eb3.specs.Terms.{VisibleAction};
 ghost use Rattle.eb3.specs.Attributes.{Attributes};
 ghost use Rattle.cells.specs.Filling.{Filling, Filled};
-ghost use Rattle.cells.specs.Frames.{Copied};
+ghost use Rattle.cells.specs.Frames.{CopiedApart};
 ghost use Rattle.cells.specs.Preparing.{Prepared, ready_word, Loaded, Saved};
 ghost use Rattle.cells.specs.PreparingLaws.{Loading};
 
@@ -44,7 +44,7 @@ pub struct Functions<'a> {
 
 impl<'a> Functions<'a> {
     /// The functions that a rule set's tables and directory are of: a row has three words, and one more for each label.
-    // Stays: what is asked are the facts of the fields that are made here; from then on they are asked of no function.
+    // Stays: what is asked are the facts of the fields that are made here; after that only public functions of the words alone ask for one of them.
     pub fn of(words: &'a [u16], tables: &[u32], directory: &'a [u32], cells: usize) -> Functions<'a>
         requires { (length words.now ≤ 65535) × (cells ≤ 1024) × (get_or tables.now 17 0 ≤ 64) × (get_or tables.now 210 0 ≤ 16) }
         ensures { (result.words.now ≡ words.now) × (result.directory.now ≡ directory.now) × (result.width ≡ 3 + get_or tables.now 17 0) × (result.count ≡ get_or tables.now 210 0) × (result.cells ≡ cells) }
@@ -80,7 +80,7 @@ pub fn fill(functions: &Functions, m: &mut [u16], j: usize)
 // Stays with two places and k: both parts are of one array, which each caller would have to split.
 pub fn copy_cells(m: &mut [u16], from: usize, at: usize, k: usize)
     requires { (from + k ≤ length m.old) × (at + k ≤ length m.old) }
-    ensures { Copied m.old m.new from at k }
+    ensures { CopiedApart m.old m.new from at k }
 {
     for i in 0..k {
         m[at + i] = m[from + i];

@@ -139,6 +139,7 @@ fn word(t: &[u16], i: usize) -> usize
 }
 
 // How many arguments follow the label at a place: they are constants, and no term begins with a constant's code.
+// Stays, here and below: s with a place, and no part of s: who skips counts places in s, and would take a part of it at each word.
 fn arguments(s: &[u16], at: usize, shape: usize) -> usize
     requires { at ≤ 65536 }
     ensures { (result ≡ argument_count shape (drop at s.now)) × (result ≤ 2) }

@@ -38,8 +38,8 @@ pub fn copy(tb: &mut [u32], at: usize, s: &[u16])
     requires { at + length s.now ≤ length tb.old }
     ensures { tb.new ≡ paste tb.old at s.now (length s.now) }
 {
-    for i in 0..s.len() {
-        tb[at + i] = s[i] as u32;
+    for (i, &w) in s.iter().enumerate() {
+        tb[at + i] = w as u32;
     }
 }
 

@@ -146,3 +146,7 @@ module _ (t M acts mid : List ℕ) (l : Moves) (first : Listed t M acts mid (Som
                 none_found = λ y. absurd (omega (arith, (loc.found pw).0, e));
               };
         }
+
+-- What is left of a number, told by its answer.
+pub told_left : (a l k : ℕ) → a ≡ passed + answer l k → a ≡ passed + answer l (passed + k - passed)
+told_left a l k e = e ∙ ap (λ n. passed + answer l n) (let f : k ≡ passed + k - passed = omega arith in f)

@@ -1,7 +1,7 @@
 -- Sides of a parallel: from the answers of one side or of both to that of the move they make.
 use mathlib.Core.Path.{◌≡◌, sym, ap, ◌∙◌, subst}
 use mathlib.Core.List.{List, [], ◌∷◌, ◌++◌}
-use Prim.Native.Nat.{ℕ, ◌+◌, ◌-◌, ◌/◌, ◌%◌, ◌≤◌, ◌<◌}
+use Prim.Native.Nat.{ℕ, ◌+◌, ◌*◌, ◌-◌, ◌/◌, ◌%◌, ◌≤◌, ◌<◌}
 use native.Mathlib.Nat.{le_refl}
 use native.Mathlib.Omega.{arith}
 use lib.ListN.{length, take, drop, length-drop}
@@ -127,3 +127,12 @@ sides_together t u M x entry exit n r lx h =
           let i = subst (Within (shown_count 0 M E) (shown_count 0 M F)) e w in
           h.found P E F rest y v i.0 i.1 z ∙ ap (sides_path M E F) (sym e);
     }
+
+pub sides_pair : (t u M : List ℕ) (i j : ℕ) (entry exit : List ℕ) (n r : ℕ) → j < 131072 → BothDerived t u M i j entry exit n r → SidesDerived t u M (262144 + (i * 131072 + j)) entry exit n r
+sides_pair t u M i j entry exit n r l h =
+    let d : i ≡ (262144 + (i * 131072 + j) - 262144) / 131072 = omega (arith, l) in
+    let m : j ≡ (262144 + (i * 131072 + j) - 262144) % 131072 = omega (arith, l) in
+    sides_together t u M (262144 + (i * 131072 + j)) entry exit n r (omega arith) (subst (λ a. BothDerived t u M a ((262144 + (i * 131072 + j) - 262144) % 131072) entry exit n r) d (subst (λ b. BothDerived t u M i b entry exit n r) m h))
+
+pub at_place : {t M entry exit : List ℕ} {j n r : ℕ} → DerivedShown 0 t M j entry exit n r → DerivedShown 0 t M (131072 + j - 131072) entry exit n r
+at_place {t} {M} {entry} {exit} {j} {n} {r} h = subst (λ k. DerivedShown 0 t M k entry exit n r) (let e : j ≡ 131072 + j - 131072 = omega arith in e) h

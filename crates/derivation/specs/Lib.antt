@@ -3,6 +3,7 @@
 -- Document 01, "Moves, in order".
 pub mod Derived
 pub mod Searching
+pub mod Told
 pub mod Arms
 pub mod FitLaws
 pub mod AnswerLaws

@@ -3,6 +3,9 @@
 ghost use Rattle.std.specs.Prelude.{◌≤◌, ◌<◌, length};
 
 /// What a walk answers; the numbers that belong to it are in the arrays.
+// Stays without its numbers, here and in sharing's finding.rt and seeking.rt, with the arm that hands on `Full` by hand: measured, an enum with the numbers, or
+// an Option of the words left, takes up to 1.10 of the instructions, and a Result of a number and an enum comes back in memory (docs/DESIGN-PASS.md, "Answers
+// packed in one number").
 #[derive(Clone, Copy)]
 pub enum Walked {
     /// The path was found: it begins at `at`.
@@ -13,7 +16,7 @@ pub enum Walked {
     Full,
 }
 
-/// The same with its numbers, for who has no `Arrays`.
+/// The same with its numbers, for who has no `Arrays`: made once, after the walk.
 #[derive(Clone, Copy)]
 pub enum Derivation {
     /// The path begins at this place.

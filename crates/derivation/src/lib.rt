@@ -6,24 +6,24 @@ ghost use Rattle.std.specs.Prelude.{◌≡◌, ◌+◌, ◌-◌, ◌≤◌, ◌<
 ghost use Rattle.expressions.specs.Answering.{answer};
 ghost use Rattle.derivation.specs.Derived.{passed, full, Derived, DerivedShown};
 ghost use Rattle.derivation.specs.Lending.{Kept, Over, Placed, answered, told};
-ghost use Rattle.derivation.specs.Searching.{sides_end};
 ghost use Rattle.derivation.specs.Arms.{Decided, ActionDerived, TwoDerived, RightDerived, LeftDerived, ListedDerived, MaskedDerived, SidesDerived, BothDerived};
 
 use actions::{behind_action, code_at, in_set, join, mask_set};
 use code_numbers::{ACTION, CHOICE, DONE, GUARD, INTERNAL, PARALLEL, SEQUENCE, STAR};
 use expressions::eval_cond;
 use listing::{behind_mask, both_done, idle, list, skip};
+use located::Located;
 use paths::{BOTH_DONE, BOTH_MOVE, CHOOSE_LEFT, END, LEFT_MOVES, RIGHT_MOVES, ROUND};
 use scan::{behind, first, last};
-use searching::{BOTH, RIGHT, locate};
+use searching::locate;
 
 mod arrays;
+mod located;
 mod scratch;
 mod searching;
 
 pub use arrays::{Arrays, Derivation, Walked};
 pub use scratch::Scratch;
-pub use searching::PASSED;
 
 // ── answers ──
 
@@ -121,8 +121,10 @@ pub fn derive(s: &[u16], m: &[u16], k: usize, path: &mut [u16], acts: &mut [u32]
 }
 
 // The same over arrays that are lent one by one, as the part of a path array that is left free; and for every k that is a place in acts, since a side
-// of a parallel may have as many moves as acts has places.
+// of a parallel may have as many moves as acts has places. Stays with the parameters of `derive`, which calls it, and their facts.
+// Inlined, since its frame would come on top of derive_listed's at each level.
 #[cycle(deriving)]
+#[inline(always)]
 fn derive_lent(s: &[u16], store: &[u16], k: usize, path: &mut [u16], acts: &mut [u32]) -> Derivation
     requires { (length s.now ≤ 65535) × (k < 131072) × (length path.old ≤ 65535) × (length acts.old ≤ 131072) }
     ensures derived { DerivedShown 0 s.now store.now k path.old path.new (length acts.old) (told result) }
@@ -146,7 +148,7 @@ fn derive_lent(s: &[u16], store: &[u16], k: usize, path: &mut [u16], acts: &mut 
     }
 }
 
-// Stays: t and x are two parameters of each walk. Every call is handed another t, so that a struct of them would be made anew at every level.
+// Stays: t and x are two parameters of each walk. A call for an operand is handed another t, so that a struct of them would be made anew at every level.
 // Stays: that u is no longer than t is a fact of both, asked where both are handed on; and that the arrays stay the same and keep their lengths (`Kept`) is a
 // fact of what they were and what they are then: no field of a struct holds either.
 impl Arrays<'_> {
@@ -293,8 +295,10 @@ impl Arrays<'_> {
         }
     }
 
-    // The sides of the move are found among both sides' moves, listed; then acts is free for the sides.
+    // The sides of the move are found among both sides' moves, listed; then acts is free for the sides. Not put into the walk, whose every level would have the
+    // frame that listing takes.
     #[cycle(deriving)]
+    #[inline(never)]
     fn derive_listed(&mut self, t: &[u16], x: u64, mask: u64) -> Walked
         requires { length t.now ≤ 65535 }
         ensures kept { Kept self.old self.new }
@@ -310,40 +314,46 @@ impl Arrays<'_> {
         };
         let (left, rest) = self.acts.split_at(n);
         let j = r.count;
-        let z = locate(x, mask, left, &rest[..j], self.k);
-        if PASSED <= z {
-            let v = last(u, r.left);
-            self.k = z - PASSED;
-            return self.passing(v.len());
+        match locate(x, mask, left, &rest[..j], self.k) {
+            Located::Left(i) => self.derive_left_alone(t, u, i),
+            Located::Right(j) => self.derive_right_alone(t, u, j),
+            Located::Both(i, j) => self.derive_both(t, u, i, j),
+            Located::Passed(k) => {
+                let v = last(u, r.left);
+                self.k = k;
+                self.passing(v.len())
+            }
         }
-        self.derive_sides(t, u, z)
     }
 
-    // The path of the left side, of the right, or of both, of all their moves.
+    // The path of move i of all the left side's, which it makes alone.
     #[cycle(deriving)]
-    fn derive_sides(&mut self, t: &[u16], u: &[u16], z: usize) -> Walked
-        requires { (length t.now ≤ 65535) × (length u.now ≤ length t.now) × (z < sides_end) }
+    fn derive_left_alone(&mut self, t: &[u16], u: &[u16], i: usize) -> Walked
+        requires { (length t.now ≤ 65535) × (length u.now ≤ length t.now) × (i < 131072) }
         ensures kept { Kept self.old self.new }
-        ensures derived { Over (SidesDerived t.now u.now) z self.old self.new (answered self.new result) }
+        ensures derived { Over (SidesDerived t.now u.now) i self.old self.new (answered self.new result) }
     {
-        if z < RIGHT {
-            self.k = z;
-            let l = self.walk(t, 0);
-            return match l {
-                Walked::Found => self.decide(LEFT_MOVES as u16, l),
-                _ => Walked::Full,
-            };
+        self.k = i;
+        let l = self.walk(t, 0);
+        match l {
+            Walked::Found => self.decide(LEFT_MOVES as u16, l),
+            _ => Walked::Full,
         }
-        if z < BOTH {
-            self.k = z - RIGHT;
-            let r = self.walk(u, 0);
-            return match r {
-                Walked::Found => self.decide_right(RIGHT_MOVES as u16, size_before(t, u), r),
-                _ => Walked::Full,
-            };
+    }
+
+    // The path of move j of all the right side's, which it makes alone.
+    #[cycle(deriving)]
+    fn derive_right_alone(&mut self, t: &[u16], u: &[u16], j: usize) -> Walked
+        requires { (length t.now ≤ 65535) × (length u.now ≤ length t.now) × (j < 131072) }
+        ensures kept { Kept self.old self.new }
+        ensures derived { Over (SidesDerived t.now u.now) (131072 + j) self.old self.new (answered self.new result) }
+    {
+        self.k = j;
+        let r = self.walk(u, 0);
+        match r {
+            Walked::Found => self.decide_right(RIGHT_MOVES as u16, size_before(t, u), r),
+            _ => Walked::Full,
         }
-        let p = z - BOTH;
-        self.derive_both(t, u, p / 131072, p % 131072)
     }
 
     // The right side's path at the end, the left's before it.

@@ -88,6 +88,7 @@ fn tell(code: u32, size: usize) -> Step
 // ── the step ──
 
 // Move k from a loaded store, into buffers with room.
+// Stays, here and below: that the buffers stay the same (`SameBuffers`) is a fact of what they were and what they are then, which no field of a struct holds.
 fn step_from(
     rules: &Admitted,
     s: &[u16],

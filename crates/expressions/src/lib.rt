@@ -39,6 +39,8 @@ fn pack(v: usize, left: usize) -> usize
 
 // ── values as words ──
 
+// Stays, in the evaluators: the words and the store are two parameters: most calls are handed other words, for which a struct of both would be made anew, in
+// memory. So it is in rule_terms with the words and the `Context`, and in steps.
 // Stays: values are of the type usize with their bound as a fact: each is a place or a part of a sum next, and as u16 it would be cast at every use.
 
 // The word of undefined is above every number, so a sum with it is no number either.

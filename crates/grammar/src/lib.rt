@@ -36,6 +36,7 @@ enum Front {
 }
 
 // A number below a limit with m expressions after it, else the refusal given.
+// Stays, here and in the fronts below: s with a place, and no part of s, since the answer is a place in s, from which the row goes on.
 fn operand(s: &[u16], at: usize, refusal: Refusal, limit: usize, m: usize) -> Result<Front, Refusal>
     requires { at ≤ length s.now }
     ensures { Operand refusal limit s.now at m result }

@@ -16,7 +16,6 @@ use Rattle.listing.specs.Positions.{TwoAt, second_at}
 use Rattle.listing.specs.Arms.{Lists, OneListed, ShownListed, TwoListed}
 use Rattle.listing.specs.Shown.{shown}
 use Rattle.listing.specs.ShownLaws.{shown_all, shown_below}
-use Rattle.listing.specs.declared.lister.Moves.{Moves}
 
 -- ── the whole ──
 

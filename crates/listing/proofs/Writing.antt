@@ -9,9 +9,11 @@ use native.Mathlib.Omega.{arith}
 use lib.ListN.{length, take, drop, get_or, length-append, length-drop, take-append-drop}
 use lib.Seq.{length-take-le, drop-cons, take_at, drop_at, drop-drop}
 use borrow.Author.Tests.{eq-eqb, ne_eqb}
-use Rattle.std.specs.Prelude.{Option, Some, None, eqb}
+use Rattle.std.specs.Prelude.{Option, Some, None, eqb, ⊤}
 use Rattle.std.proofs.lemmas.List.{at_drop_all}
+use Rattle.listing.specs.declared.combining.Out.{Out}
 use Rattle.listing.specs.Combining.{outside, equal_to, pairs, Written, Wrote}
+use Rattle.listing.specs.Putting.{Puts}
 
 pub written_none : (e : ℕ) (x : List ℕ) → e ≤ length x → Written [] e x x e
 written_none e x h = record { end = omega arith; inside = h; text = sym (take-append-drop e x) }
@@ -79,6 +81,29 @@ module _ {all : List ℕ} {e : ℕ} {x0 x : List ℕ} {at : ℕ} {todo : List �
   pub writing_ends : todo ≡ [] → Wrote all e x0 x (Some at)
   writing_ends h = record { same_length = written_length w.so_far; written = rw (w.split ∙ ap (λ t. w.done ++ t) h ∙ append-nil w.done) w.so_far }
 
+-- ── by the writer ──
+
+-- Of all that is to be written by the writer that was b and is e, todo is still to be.
+pub record Putting (all : List ℕ) (b e : Out) (todo : List ℕ) : Type 0 where
+  pub same_array : e.numbers.ghost_name ≡ b.numbers.ghost_name
+  pub so_far : Writing all b.at b.numbers.now e.numbers.now e.at todo
+
+pub putting_start : (all : List ℕ) (b : Out) → b.at ≤ length b.numbers.now → Putting all b b all
+putting_start all b h = record { same_array = refl; so_far = writing_start all b.at b.numbers.now h }
+
+module _ {all : List ℕ} {b e : Out} {todo : List ℕ} (w : Putting all b e todo) where
+  pub putting_pass : {rest : List ℕ} → todo ≡ rest → Putting all b e rest
+  putting_pass h = record { same_array = w.same_array; so_far = writing_pass w.so_far h }
+
+  pub putting_lost : {p : List ℕ} {f : Out} (rest : List ℕ) → todo ≡ p ++ rest → Puts p e f None → Puts all b f None
+  putting_lost rest h v = record { same_array = v.same_array ∙ w.same_array; wrote = writing_lost w.so_far rest h v.wrote }
+
+  pub putting_next : {p rest : List ℕ} {f : Out} (t : ⊤) → todo ≡ p ++ rest → Puts p e f (Some t) → Putting all b f rest
+  putting_next t h v = record { same_array = v.same_array ∙ w.same_array; so_far = writing_next w.so_far h v.wrote }
+
+  pub putting_ends : (t : ⊤) → todo ≡ [] → Puts all b e (Some t)
+  putting_ends t h = record { same_array = w.same_array; wrote = writing_ends w.so_far h }
+
 -- ── the three lists, step by step ──
 
 module _ (i : ℕ) (x : List ℕ) (h : i < length x) where
@@ -114,8 +139,8 @@ outside_different a (x ∷ xs) = go (outside_different a xs) (ℕ_discrete x a)
     go ih (no n) = ap (λ b. cond (not b) (outside (λ b. not (eqb b a)) xs) (x ∷ outside (λ b. not (eqb b a)) xs)) (ne_eqb x a n)
         ∙ ih ∙ sym (ap (λ b. cond b (a ∷ equal_to a xs) (equal_to a xs)) (ne_eqb x a n))
 
-pub wrote_equal : (a : ℕ) (xs : List ℕ) {e : ℕ} {x y : List ℕ} {r : Option ℕ} → Wrote (outside (λ b. not (eqb b a)) xs) e x y r → Wrote (equal_to a xs) e x y r
-wrote_equal a xs {e} {x} {y} {r} w = subst (λ l. Wrote l e x y r) (outside_different a xs) w
+pub puts_equal : (a : ℕ) (xs : List ℕ) {b e : Out} {r : Option ⊤} → Puts (outside (λ b. not (eqb b a)) xs) b e r → Puts (equal_to a xs) b e r
+puts_equal a xs {b} {e} {r} w = subst (λ l. Puts l b e r) (outside_different a xs) w
 
 -- ── all that there are are read ──
 

@@ -3,62 +3,65 @@
 ghost use Rattle.std.specs.Prelude.{Bool, ℕ, ◌+◌, ◌-◌, ◌≤◌, ◌<◌, ◌≡◌, [], ◌∷◌, length, take};
 ghost use Rattle.std.proofs.Math.Seq.{slice};
 ghost use Rattle.actions.specs.Sets.{in_set};
-ghost use Rattle.listing.specs.Combining.{outside, pairs, combined, Wrote, Combined};
+ghost use Rattle.listing.specs.Combining.{outside, pairs, combined, Combined};
 
 use actions::in_set;
 
-// Each of the functions below writes into `out` from a place on, and returns the place after what it wrote, or None where there was no room.
-// Stays: a struct of `out` and the place would be the same two again, after a `&mut self`, for three private functions that one caller chains by `?`.
-
-// One number.
-fn put(a: u32, at: usize, out: &mut [u32]) -> Option<usize>
-    requires { at ≤ length out.old }
-    ensures { Wrote (a ∷ []) at out.old out.new result }
-{
-    if out.len() <= at {
-        return None;
-    }
-    out[at] = a;
-    Some(at + 1)
+// The numbers written so far into a lent array.
+#[derive(Drop)]
+struct Out<'a> {
+    numbers: &'a mut [u32],
+    // How many are written.
+    at: usize,
+    ghost room: { at ≤ length numbers.now },
 }
 
-// Those of the numbers that a test does not pass over.
-// Stays `continue`, since with the call of `put` within an `if` the loop was measured to take 1.6 times as long for a mask's test, a seventh longer for
-// an equal number's.
-// Stays: that the closure may always be called is what every call of one asks, and no type says it.
-fn put_outside<F: Fn(u32) -> bool>(
-    test: F,
-    from: &[u32],
-    e: usize,
-    out: &mut [u32],
-) -> Option<usize>
-    requires room { e ≤ length out.old }
-    requires callable { F.IsAlwaysCallable test }
-    ensures { (q : ℕ → Bool) → ((a : ℕ) (b : Bool) → a < 4294967296 → F.post test a b → b ≡ q a) → Wrote (outside q from.now) e out.old out.new result }
-{
-    let mut at = e;
-    for a in from {
-        if test(*a) {
-            continue;
-        }
-        at = put(*a, at, out)?;
-    }
-    Some(at)
-}
+// Each of these writes numbers after those that are written already, or answers None where there is no room.
+impl Out<'_> {
+    ghost use Rattle.listing.specs.Putting.{Puts};
 
-// The pairs of a number on the left with an equal one on the right, of those in the mask.
-fn put_pairs(mask: u64, left: &[u32], right: &[u32], e: usize, out: &mut [u32]) -> Option<usize>
-    requires { e ≤ length out.old }
-    ensures { Wrote (pairs (in_set mask) left.now right.now) e out.old out.new result }
-{
-    let mut at = e;
-    for x in left {
-        if in_set(mask, *x) {
-            let a = *x;
-            at = put_outside(|b| b != a, right, at, out)?;
+    // One number.
+    fn put(&mut self, a: u32) -> Option<()>
+        ensures { Puts (a ∷ []) self.old self.new result }
+    {
+        let at = self.at;
+        if self.numbers.len() <= at {
+            return None;
         }
+        self.numbers[at] = a;
+        self.at = at + 1;
+        Some(())
     }
-    Some(at)
+
+    // Those of the numbers that a test does not pass over.
+    // Stays `continue`, since with the call of `put` within an `if` the loop was measured, as a function of the array and a place, to take 1.6 times as long
+    // for a mask's test, a seventh longer for an equal number's.
+    // Stays: that the closure may always be called is what every call of one asks, and no type says it.
+    fn put_outside<F: Fn(u32) -> bool>(&mut self, test: F, from: &[u32]) -> Option<()>
+        requires callable { F.IsAlwaysCallable test }
+        ensures { (q : ℕ → Bool) → ((a : ℕ) (b : Bool) → a < 4294967296 → F.post test a b → b ≡ q a) → Puts (outside q from.now) self.old self.new result }
+    {
+        for a in from {
+            if test(*a) {
+                continue;
+            }
+            self.put(*a)?;
+        }
+        Some(())
+    }
+
+    // The pairs of a number on the left with an equal one on the right, of those in the mask.
+    fn put_pairs(&mut self, mask: u64, left: &[u32], right: &[u32]) -> Option<()>
+        ensures { Puts (pairs (in_set mask) left.now right.now) self.old self.new result }
+    {
+        for x in left {
+            if in_set(mask, *x) {
+                let a = *x;
+                self.put_outside(|b| b != a, right)?;
+            }
+        }
+        Some(())
+    }
 }
 
 // Copies the numbers from b to e to the front.
@@ -78,16 +81,19 @@ fn shift(b: usize, e: usize, acts: &mut [u32])
 
 // Of the n numbers at the front and the k after them, those of the parallel, at the front: how many, or None where there was no room. They are made
 // after both lists, which are read to the end.
+// Stays with two counts: both lists are parts of the array at whose front their moves end, so they are no two slices beside it.
 pub fn combine(mask: u64, n: usize, k: usize, acts: &mut [u32]) -> Option<usize>
     requires { n + k ≤ length acts.old }
     ensures { Combined (combined (in_set mask) (slice 0 n acts.old) (slice n (n + k) acts.old)) (n + k) acts.old acts.new result }
 {
     let b = n + k;
-    let (both, out) = acts.split_at_mut(b);
+    let (both, numbers) = acts.split_at_mut(b);
     let (left, right) = both.split_at(n);
-    let p = put_outside(|a| in_set(mask, a), left, 0, out)?;
-    let q = put_outside(|a| in_set(mask, a), right, p, out)?;
-    let e = put_pairs(mask, left, right, q, out)?;
+    let mut out = Out { numbers, at: 0 };
+    out.put_outside(|a| in_set(mask, a), left)?;
+    out.put_outside(|a| in_set(mask, a), right)?;
+    out.put_pairs(mask, left, right)?;
+    let e = out.at;
     shift(b, b + e, acts);
     Some(e)
 }

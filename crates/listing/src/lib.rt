@@ -91,7 +91,9 @@ pub fn list(s: &[u16], m: &[u16], acts: &mut [u32]) -> Option<Moves>
 }
 
 // Each of these lists moves after those that are listed already, and answers how many words are left after the term, or None where there was no room.
-// Stays: the words and x are parameters. Every call is handed other words, and most masks add to x.
+// Stays: the words and x are parameters. Of the 19 calls here that take both, 14 hand on other words than the caller's, and list_sequence, list_two,
+// list_masked and list_combined read their own again after a call, list_two and list_combined also their x: fields would have to be put back there.
+// Stays: that the array stays the same and keeps what is listed (`Kept`) is a fact of what it was and what it is then, which no field of a struct holds.
 impl Lister<'_> {
     // One move.
     fn list_one(&mut self, code: u32, left: usize) -> Option<usize>

@@ -28,7 +28,7 @@ pub struct Course<'a, 'b> {
 
 impl<'a> Admitted<'a> {
     /// The rule set of these words, tables and directory, with this number of cells.
-    // Stays: what is asked are the facts of the fields that are made here and in `Functions`; from then on they are asked of no function.
+    // Stays: what is asked are the facts of the fields that are made here and in `Functions`; after that only public functions of the words alone ask for one.
     pub fn of(
         words: &'a [u16],
         tables: &'a [u32; TABLES],

@@ -25,13 +25,27 @@ use writing::put_words;
 pub mod admitted;
 
 // The last term's size in words, and how many numbers took a visible move, took an internal one, or were refused.
-// Stays beside runs' Tally, whose size is a place in an array (usize): here it has 32 bits, as a size has in every other answer.
+// Stays beside runs' Tally, whose size is a place in an array (usize): here it has 32 bits, as a size has in every other answer. One struct generic in the
+// size would be written with that type at every place, and would be turned by the same function.
 #[derive(Clone, Copy, Default)]
 pub struct Totals {
     pub size: u32,
     pub visible: u64,
     pub internal: u64,
     pub refused: u64,
+}
+
+impl From<Tally> for Totals {
+    ghost from_gives = { λ t r. r ≡ totals t };
+
+    fn from(tally: Tally) -> Totals {
+        Totals {
+            size: (tally.size % 4294967296) as u32,
+            visible: tally.visible,
+            internal: tally.internal,
+            refused: tally.refused,
+        }
+    }
 }
 
 // Zeros from one word up to another.
@@ -66,12 +80,7 @@ fn finish(
     pad(ws, tally.size, reach);
     put_words(front(ws, reach), term);
     save(m, memory, course.rules.functions.cells);
-    Totals {
-        size: (tally.size % 4294967296) as u32,
-        visible: tally.visible,
-        internal: tally.internal,
-        refused: tally.refused,
-    }
+    Totals::from(tally)
 }
 
 // From the words of main's unfolding, which has no masks, and the cells of the start: at first the term is the whole of it, and the last

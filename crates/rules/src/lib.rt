@@ -12,7 +12,7 @@ ghost use Rattle.rules.specs.Filling.{ProcessesRead, ProcessSectionRead, Functio
 
 use arguments::layout::{
     BODY, BREADTH, DOMAINS, FUNCTIONS, LABEL_ROWS, LABELS, PROCESS_ROWS, PROCESS_WORDS, PROCESSES,
-    REACH, SIZE,
+    REACH, SIZE, TABLES,
 };
 use arguments::{Context, domains};
 use declarations::{check_domains, copy, enter_labels, functions, parameters};
@@ -55,7 +55,7 @@ fn check_process(t: &[u16], tb: &[u32], hi: usize) -> Result<Weighed, Refusal>
 // Stays, here and in `processes`: p, n and left are usize with their bounds as clauses, since p and n make places in the tables, and left is how many words
 // are left, which are counted as usize.
 #[tactic(auto, using(crate::proofs::ProcessCases::entered_is))]
-fn enter_process(tb: &mut [u32; 500], t: &[u16], p: usize, w: Weight, left: usize)
+fn enter_process(tb: &mut [u32; TABLES], t: &[u16], p: usize, w: Weight, left: usize)
     requires { (p < 32) × (get_or t.now 0 0 ≤ 4) × (get_or t.now 0 0 + 1 ≤ length t.now) × (left < 65536) }
     ensures { tb.new ≡ entered_process tb.old p (take (get_or t.now 0 0 + 1) t.now) w.size w.reach w.breadth left }
 {
@@ -72,7 +72,7 @@ fn enter_process(tb: &mut [u32; 500], t: &[u16], p: usize, w: Weight, left: usiz
 // n processes; the last is main, whose measures are returned.
 // Stays, here and below: that the tables are `Bounded` is a fact of what the sections before have put into them, and each of these functions writes into
 // them.
-fn processes(t: &[u16], tb: &mut [u32; 500], n: usize) -> Result<Weighed, Refusal>
+fn processes(t: &[u16], tb: &mut [u32; TABLES], n: usize) -> Result<Weighed, Refusal>
     requires { (1 ≤ n) × (n ≤ 32) × (length t.now ≤ 65535) × (get_or tb.old 211 0 ≡ 0) × Bounded tb.old }
     ensures { ProcessesRead t.now tb.old n result tb.new }
 {
@@ -96,7 +96,7 @@ fn processes(t: &[u16], tb: &mut [u32; 500], n: usize) -> Result<Weighed, Refusa
 // Stays: three of them take the words, the tables and the directory. The words are others at each call, and most of what they call takes
 // one of the two arrays: a struct of both would be taken apart at each of these calls.
 
-fn process_section(t: &[u16], tb: &mut [u32; 500]) -> Result<Weighed, Refusal>
+fn process_section(t: &[u16], tb: &mut [u32; TABLES]) -> Result<Weighed, Refusal>
     requires { (length t.now ≤ 65535) × Bounded tb.old }
     ensures { ProcessSectionRead t.now tb.old result tb.new }
 {
@@ -106,7 +106,7 @@ fn process_section(t: &[u16], tb: &mut [u32; 500]) -> Result<Weighed, Refusal>
     processes(last(t, m), tb, n)
 }
 
-fn function_section(t: &[u16], tb: &mut [u32; 500], dir: &mut [u32]) -> Result<Rules, Refusal>
+fn function_section(t: &[u16], tb: &mut [u32; TABLES], dir: &mut [u32]) -> Result<Rules, Refusal>
     requires { (length t.now ≤ 65535) × Bounded tb.old }
     ensures { FunctionSectionRead t.now tb.old dir.old result tb.new dir.new }
 {
@@ -124,7 +124,7 @@ fn function_section(t: &[u16], tb: &mut [u32; 500], dir: &mut [u32]) -> Result<R
     })
 }
 
-fn label_section(t: &[u16], tb: &mut [u32; 500], dir: &mut [u32]) -> Result<Rules, Refusal>
+fn label_section(t: &[u16], tb: &mut [u32; TABLES], dir: &mut [u32]) -> Result<Rules, Refusal>
     requires { (length t.now ≤ 65535) × (get_or tb.old 0 0 ≤ 16) }
     ensures { LabelSectionRead t.now tb.old dir.old result tb.new dir.new }
 {
@@ -139,7 +139,7 @@ fn label_section(t: &[u16], tb: &mut [u32; 500], dir: &mut [u32]) -> Result<Rule
 
 // A rule set after its edition and its number of blocks: how many words are left after it, and main's measures.
 // What the tables and the directory held before makes no difference; a directory too short is filled as far as it goes.
-pub fn read(t: &[u16], tb: &mut [u32; 500], dir: &mut [u32]) -> Result<Rules, Refusal>
+pub fn read(t: &[u16], tb: &mut [u32; TABLES], dir: &mut [u32]) -> Result<Rules, Refusal>
     requires { length t.now ≤ 65535 }
     ensures { RulesRead t.now tb.old dir.old result tb.new dir.new }
 {

@@ -4,7 +4,7 @@ use mathlib.Core.Path.{◌≡◌, refl, sym, ap, ◌∙◌, subst}
 use mathlib.Core.List.{List}
 use mathlib.Core.Option.{Option as Maybe, none, some}
 use Rattle.std.specs.Prelude.{Option, None, Some}
-use Prim.Native.Nat.{ℕ, ◌+◌, ◌/◌, ◌%◌, ◌≤◌, ◌<◌}
+use Prim.Native.Nat.{ℕ, ◌+◌, ◌≤◌, ◌<◌}
 use native.Mathlib.Omega.{arith}
 use lib.ListN.{length, take, get_or, get_elem?, length-take}
 use Rattle.eb3.specs.Terms.{Action}
@@ -21,7 +21,9 @@ use Rattle.listing.specs.Listing.{holding}
 use Rattle.derivation.specs.Derived.{passed}
 use Rattle.steps.specs.Storing.{Ruled, StoreRenewed}
 use Rattle.sharing.specs.Shared.{term_of, shared_words}
+use Rattle.sharing.specs.Changing.{told}
 use Rattle.sharing.specs.Stepping.{StepTaken, Stepped}
+use Rattle.sharing.specs.declared.moved.Moved.{Moved}
 use Rattle.runs.specs.Running.{Situated, done_as, Once, counted, RunsBy}
 use Rattle.runs.specs.Sharing.{SharedOver, RoomyOver, StepsShared, RunsShared}
 use Rattle.runs.specs.declared.Done.{Done}
@@ -45,52 +47,51 @@ module _ (t D : List ℕ) (w functions c : ℕ) (u : List ℕ) (n k : ℕ) (d M 
   meant : get_elem? (moves (holding M) (term_of at.held.shared)) k ≡ offered
   meant = ap (λ E. get_elem? (moves (holding M) E) k) at.held.is_term
 
-  module _ (d' : List ℕ) (r : ℕ) (stepped : Stepped u d n M k paths numbers middle d' r) where
-    step_some : (x : Move) → offered ≡ some x → StepTaken u P x d' r
+  module _ (d' : List ℕ) (r : Option Moved) (stepped : Stepped u d n M k paths numbers middle d' (told r)) where
+    step_some : (x : Move) → offered ≡ some x → StepTaken u P x d' (told r)
     step_some x e =
         let fits = move_size 1 (holding M) s.term k x e in
         stepped.taken P at.held.shared (held_within at.held) at.held.words_are at.held.stands room.path_room room.numbers_room x (meant ∙ e)
         (omega (arith, fits, room.words_room)) (omega (arith, fits, room.middle_room))
 
-    step_none : offered ≡ none → (passed ≤ r) × (d' ≡ d)
+    step_none : offered ≡ none → (passed ≤ told r) × (d' ≡ d)
     step_none e = stepped.not_offered P at.held.shared (held_within at.held) at.held.words_are at.held.stands room.path_room room.numbers_room (meant ∙ e)
 
-    none_so : (o : Maybe Move) → offered ≡ o → passed ≤ r → Once (SharedOver u) R s n k d' M None
+    none_so : (o : Maybe Move) → offered ≡ o → r ≡ None → Once (SharedOver u) R s n k d' M None
     none_so none e h = subst (λ v. Once (SharedOver u) R s n k v M None) (sym (step_none e).1) (refused_once t D w functions c n k d M R T ruled s at e)
-    none_so (some x) e h = absurd (let z : ⊥ = omega (arith, (step_some x e).low) in z)
+    none_so (some x) e h = absurd (let z : ⊥ = omega (arith, (step_some x e).low, ap told h) in z)
 
-    -- A move made, told by its action's number and how many words hold its successor.
-    made_so : (o : Maybe Move) → offered ≡ o → r < passed → length d ≤ 65535 → (a : ℕ) → a ≡ r / 65536 % 4294967296 → (M' : List ℕ) → StoreRenewed t D M M' w functions c a → (as_told : Option Done)
-        → ((ρ : Action) → a ≡ action_code ρ → as_told ≡ done_as (taken ρ) (r % 65536)) → Once (SharedOver u) R s n k d' M' as_told
-    made_so none e low few a number M' renewed as_told told = absurd (let z : ⊥ = omega (arith, (step_none e).0) in z)
-    made_so (some x) e low few a number M' renewed as_told told =
-        let y = step_some x e in
+  -- A move made, told by its action's number and how many words hold its successor.
+  module _ (d' : List ℕ) (r : Moved) (stepped : Stepped u d n M k paths numbers middle d' (told (Some r))) where
+    made_so : (o : Maybe Move) → offered ≡ o → length d ≤ 65535 → (M' : List ℕ) → StoreRenewed t D M M' w functions c r.action → (as_told : Option Done)
+        → ((ρ : Action) → r.action ≡ action_code ρ → as_told ≡ done_as (taken ρ) r.words) → Once (SharedOver u) R s n k d' M' as_told
+    made_so none e few M' renewed as_told told_so = absurd (let z : ⊥ = omega (arith, (step_none d' (Some r) stepped e).0, r.few, r.small) in z)
+    made_so (some x) e few M' renewed as_told told_so =
+        let y = step_some d' (Some r) stepped x e in
         let l : ℕ = length (shared_words y.shared) in
         let within : l ≤ length d' = omega (arith, ap length y.held, length-take l d') in
-        let size_is : r % 65536 ≡ l = omega (arith, y.answered, stepped.same_length) in
-        let whole : r / 65536 ≡ action_code x.action = omega (arith, y.answered, stepped.same_length) in
-        let small : action_code x.action < 4294967296 = omega (arith, y.answered) in
-        let code : a ≡ action_code x.action = number ∙ ap (λ j. j % 4294967296) whole ∙ (let z : action_code x.action % 4294967296 ≡ action_code x.action = omega arith in z) in
+        let size_is : r.words ≡ l = omega (arith, y.answered, stepped.same_length, r.few) in
+        let code : r.action ≡ action_code x.action = omega (arith, y.answered, size_is) in
         made_once t D w functions c n k d M R T ruled s at x e code renewed
         (record { shared = y.shared; stands = y.stands; is_term = y.is_successor; size_is = size_is; words_are = ap (λ j. take j d') size_is ∙ y.held })
-        (told x.action code)
+        (told_so x.action code)
 
 -- ── the three returns ──
 
-module _ {t D : List ℕ} {w functions c : ℕ} {u : List ℕ} {n k : ℕ} {d M : List ℕ} {paths numbers middle : ℕ} {d' : List ℕ} {r : ℕ} where
-  pub shared_internal : Stepped u d n M k paths numbers middle d' r → length d ≤ 65535 → r < passed → {a : ℕ} {M' : List ℕ} → a ≡ r / 65536 % 4294967296 → StoreRenewed t D M M' w functions c a → a ≤ 0
-      → StepsShared t D w functions c u n k d M paths numbers middle d' M' (Some (Internal (r % 65536)))
-  shared_internal stepped few low {a} {M'} number renewed z bound room R T ruled s at reaches =
-      (made_so t D w functions c u n k d M paths numbers middle bound room R T ruled s at reaches d' r stepped _ refl low few a number M' renewed _ (λ ρ e. done_internal ρ a (r % 65536) e z), tt)
+module _ {t D : List ℕ} {w functions c : ℕ} {u : List ℕ} {n k : ℕ} {d M : List ℕ} {paths numbers middle : ℕ} {d' : List ℕ} where
+  module _ (r : Moved) (stepped : Stepped u d n M k paths numbers middle d' (told (Some r))) (few : length d ≤ 65535) {M' : List ℕ} (renewed : StoreRenewed t D M M' w functions c r.action) where
+    pub shared_internal : r.action ≤ 0 → StepsShared t D w functions c u n k d M paths numbers middle d' M' (Some (Internal r.words))
+    shared_internal z bound room R T ruled s at reaches =
+        (made_so t D w functions c u n k d M paths numbers middle bound room R T ruled s at reaches d' r stepped _ refl few M' renewed _ (λ ρ e. done_internal ρ r.action r.words e z), tt)
 
-  pub shared_visible : Stepped u d n M k paths numbers middle d' r → length d ≤ 65535 → r < passed → {a : ℕ} {M' : List ℕ} → a ≡ r / 65536 % 4294967296 → StoreRenewed t D M M' w functions c a → 0 < a
-      → StepsShared t D w functions c u n k d M paths numbers middle d' M' (Some (Visible (r % 65536)))
-  shared_visible stepped few low {a} {M'} number renewed z bound room R T ruled s at reaches =
-      (made_so t D w functions c u n k d M paths numbers middle bound room R T ruled s at reaches d' r stepped _ refl low few a number M' renewed _ (λ ρ e. done_visible ρ a (r % 65536) e z), tt)
+    pub shared_visible : 0 < r.action → StepsShared t D w functions c u n k d M paths numbers middle d' M' (Some (Visible r.words))
+    shared_visible z bound room R T ruled s at reaches =
+        (made_so t D w functions c u n k d M paths numbers middle bound room R T ruled s at reaches d' r stepped _ refl few M' renewed _ (λ ρ e. done_visible ρ r.action r.words e z), tt)
 
-  pub shared_refused : Stepped u d n M k paths numbers middle d' r → passed ≤ r → StepsShared t D w functions c u n k d M paths numbers middle d' M None
-  shared_refused stepped high bound room R T ruled s at reaches =
-      (none_so t D w functions c u n k d M paths numbers middle bound room R T ruled s at reaches d' r stepped _ refl high, tt)
+  pub shared_refused : {o : Option Done} → Stepped u d n M k paths numbers middle d' (told None) → o ≡ None → StepsShared t D w functions c u n k d M paths numbers middle d' M o
+  shared_refused stepped answer =
+      subst (λ v. StepsShared t D w functions c u n k d M paths numbers middle d' M v) (sym answer) (λ bound room R T ruled s at reaches.
+      (none_so t D w functions c u n k d M paths numbers middle bound room R T ruled s at reaches d' None stepped _ refl refl, tt))
 
 -- ── the loop: after i numbers of the list ──
 

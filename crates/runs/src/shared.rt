@@ -7,16 +7,14 @@ ghost use Rattle.runs.specs.Sharing.{StepsShared, RunsShared};
 
 use super::{Done, Tally, counted};
 use cells::Functions;
-use derivation::{PASSED, Scratch};
+use derivation::Scratch;
 use scan::word_at;
 use sharing::step;
 use steps::renewing::renew;
 
 // Move k of the shared term in the first n words of d; the cells are renewed.
-// Stays: the answer of `step` is one number, measured (docs/DESIGN-PASS.md, "Answers packed in one number"), which is taken apart here; and n beside d, as
-// in lib.rt.
-// Stays, here and below: d, m and scratch are lent apart and keep their lengths, as ws, m and scratch in lib.rt; k is a usize with its bound as a clause, as
-// in sharing; and u has at most 65,503 words, as sharing asks.
+// Stays, here and below: n is beside d, and d, m and scratch are lent apart and keep their lengths, as n, ws, m and scratch in lib.rt; k is a usize with its
+// bound as a clause, since it is the number of a move, as in steps; and u has at most 65,503 words, as sharing asks.
 fn step_shared(
     functions: &Functions,
     u: &[u16],
@@ -32,16 +30,12 @@ fn step_shared(
     ensures arrays { SameArrays scratch.old scratch.new }
     ensures stepped { StepsShared functions.now.words.now functions.now.directory.now functions.now.width functions.now.count functions.now.cells u.now n k d.old m.old (length scratch.old.path.now) (length scratch.old.acts.now) (length scratch.old.mid.now) d.new m.new result }
 {
-    let r = step(u, d, n, m, k, scratch);
-    if PASSED <= r {
-        return None;
+    let moved = step(u, d, n, m, k, scratch)?;
+    renew(functions, m, moved.action);
+    if 0 < moved.action {
+        return Some(Done::Visible(moved.words));
     }
-    let action = (r / 65536 % 4294967296) as u32;
-    renew(functions, m, action);
-    if 0 < action {
-        return Some(Done::Visible(r % 65536));
-    }
-    Some(Done::Internal(r % 65536))
+    Some(Done::Internal(moved.words))
 }
 
 // From the shared term in the first n words of d and the cells in the store, by all numbers of the list; an odd last byte is ignored.

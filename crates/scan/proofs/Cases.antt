@@ -1,9 +1,10 @@
 -- A case for each way that these functions return; the premises have the form of what the code says there.
 -- Document 01, "Operations": 4, 5 and 6 by the first offending word of the stream.
-use Rattle.std.specs.Prelude.{◌≡◌, refl, ℕ, ◌-◌, ◌≤◌, ◌<◌, List, [], ◌∷◌, length, get_or, Ok, Err}
+use Rattle.std.specs.Prelude.{◌≡◌, refl, ℕ, ◌-◌, ◌≤◌, ◌<◌, Bool, true, false, leb, List, [], ◌∷◌, length, get_or, Ok, Err}
 use Rattle.std.proofs.Common.{ap, arith}
-use borrow.Author.Tests.{lt-ltb, le-ltb, le-leb, lt-leb}
-use Rattle.eb3.specs.Reading.{count_of}
+use Rattle.std.proofs.lemmas.Bool.{leb-true}
+use borrow.Author.Tests.{lt-ltb, le-ltb, le-leb}
+use Rattle.eb3.specs.Reading.{refused, taken, pick, count_of}
 use Rattle.scan.specs.Checking.{checked, number_or}
 use Rattle.refusals.specs.declared.Refusal.TheVariants.{Form}
 use Rattle.refusals.specs.Numbers.{refusal}
@@ -35,14 +36,14 @@ module _ (lo hi : ℕ) where
   count_some [] n h l u e = absurd (omega arith)
   count_some (w ∷ t) n h l u e = simp (le-leb lo w l, le-leb w hi u) (ap Ok (omega arith))
 
-  pub count_low : (t : List ℕ) → 1 ≤ length t → get_or t 0 0 < lo → Err Form ≡ checked (count_of lo hi t)
+  pub count_out : (t : List ℕ) → (lo ≤ get_or t 0 0 → get_or t 0 0 ≤ hi → ⊥) → Err Form ≡ checked (count_of lo hi t)
   unfolding count_of checked refusal
-  count_low [] h l = absurd (omega arith)
-  count_low (w ∷ t) h l = simp (lt-leb lo w l)
+  count_out [] h = refl
+  count_out (w ∷ t) h = go (leb lo w) (leb w hi) refl refl
+    where
+      go : (a b : Bool) → leb lo w ≡ a → leb w hi ≡ b → Err Form ≡ checked (pick a (pick b (taken w t) (refused 4)) (refused 4))
+      go false b e f = refl
+      go true false e f = refl
+      go true true e f = absurd (h (leb-true lo w e) (leb-true w hi f))
 
-  pub count_high : (t : List ℕ) → 1 ≤ length t → lo ≤ get_or t 0 0 → hi < get_or t 0 0 → Err Form ≡ checked (count_of lo hi t)
-  unfolding count_of checked refusal
-  count_high [] h l u = absurd (omega arith)
-  count_high (w ∷ t) h l u = simp (le-leb lo w l, lt-leb w hi u)
-
-pub ruleset cases = (number_none, number_some, number_over, count_none, count_some, count_low, count_high)
+pub ruleset cases = (number_none, number_some, number_over, count_none, count_some)

@@ -92,7 +92,7 @@ pub fn count(t: &[u16], lo: usize, hi: usize) -> Result<usize, Refusal>
     ensures { result ≡ checked (count_of lo hi t.now) }
 {
     match t {
-        [w, rest @ ..] if lo <= *w as usize && *w as usize <= hi => Ok(rest.len()),
+        [w, rest @ ..] if (lo..=hi).contains(&(*w as usize)) => Ok(rest.len()),
         _ => Err(Refusal::Form),
     }
 }

@@ -4,7 +4,7 @@ use mathlib.Core.Bool.{true}
 use mathlib.Core.List.{List, [], ◌∷◌, ◌++◌}
 use Prim.Native.Nat.{ℕ, ◌+◌, ◌-◌, ◌*◌, ◌/◌, ◌%◌, ◌≤◌, ◌<◌}
 use native.Mathlib.Omega.{arith}
-use Rattle.std.specs.Prelude.{Option, None, Some, unwrap_or}
+use Rattle.std.specs.Prelude.{Option, None, Some}
 use lib.ListN.{length, take, drop, set, length-append, length-set}
 use lib.Seq.{slice, length-slice, length-take-le, take-append_seam, take-suc-set}
 use Rattle.eb3.specs.Scopes.{Scope}
@@ -55,7 +55,7 @@ done_put : (mid : List ℕ) → (length mid ≡ 0 → ⊥) → take 1 (set mid 0
 done_put mid h = take-suc-set mid 0 30 (omega arith)
 
 module _ {d : List ℕ} {n i : ℕ} {mid d' mid' : List ℕ} {r : ℕ} (within : n ≤ length d) (short : length d ≤ 65535) where
-  join_put : (length mid ≡ 0 → ⊥) → Spliced d (set mid 0 30) n i (i + 3) 1 d' mid' (Some r) → Joined d n i mid d' mid' r
+  pub join_put : (length mid ≡ 0 → ⊥) → Spliced d (set mid 0 30) n i (i + 3) 1 d' mid' (Some r) → Joined d n i mid d' mid' (r + 65536 * 0)
   unfolding shared_words term_of action_code
   join_put some s = record {
     same_length = s.same_length;
@@ -75,15 +75,14 @@ module _ {d : List ℕ} {n i : ℕ} {mid d' mid' : List ℕ} {r : ℕ} (within :
         };
   }
 
-module _ {d : List ℕ} {n i : ℕ} {mid d' mid' : List ℕ} (within : n ≤ length d) (short : length d ≤ 65535) (enough : i + 3 ≤ n) where
-  pub join_made : (z : ℕ) (r : Option ℕ) → (length mid ≡ 0 → ⊥) → Spliced d (set mid 0 30) n i (i + 3) 1 d' mid' r → Joined d n i mid d' mid' (unwrap_or r z)
-  unfolding shared_words term_of
-  join_made z (Some r) some s = join_put within short some s
-  join_made z None some s = record {
-    same_length = s.same_length;
-    mid_same_length = s.mid_same_length ∙ length-set mid 0 30;
-    right = λ u P h room. absurd (s.made (omega arith) h within (room.whole Ended refl) (omega (arith, room.moved Ended refl, length-set mid 0 30)));
-  }
+-- There is always room.
+pub join_unplaced : {d : List ℕ} {n i : ℕ} {mid d' mid' : List ℕ} {z : ℕ} → n ≤ length d → i + 3 ≤ n → (length mid ≡ 0 → ⊥) → Spliced d (set mid 0 30) n i (i + 3) 1 d' mid' None → Joined d n i mid d' mid' z
+unfolding shared_words term_of
+join_unplaced {mid = mid} within enough some s = record {
+  same_length = s.same_length;
+  mid_same_length = s.mid_same_length ∙ length-set mid 0 30;
+  right = λ u P h room. absurd (s.made (omega arith) h within (room.whole Ended refl) (omega (arith, room.moved Ended refl, length-set mid 0 30)));
+}
 
 -- The words end before, or there is no room.
 pub join_short : {d : List ℕ} {n i : ℕ} {mid : List ℕ} {r : ℕ} → n < i + 3 → Joined d n i mid d mid r
@@ -178,17 +177,9 @@ module _ (d : List ℕ) {u : List ℕ} {n i e w : ℕ} {p mid mid1 s : List ℕ}
     part_made : PartChanged u d n i e w p mid d' mid2 (k + 65536 * (r / 4294967296))
     part_made = record { same_length = c.same_length; mid_same_length = c.mid_same_length ∙ b.same_length; right = λ P l E ρ T g a f m room. part_right P l E ρ T g a f m room c }
 
-    -- There are never more words than 65,535.
-    part_long : {z : ℕ} → 65535 < k → PartChanged u d n i e w p mid d' mid2 z
-    part_long h = record {
-      same_length = c.same_length;
-      mid_same_length = c.mid_same_length ∙ b.same_length;
-      right = λ P l E ρ T g a f m room. absurd (omega (arith, answer_low P l E ρ T g a f m room c));
-    }
-
   -- Nothing was begun.
-  pub part_lost : {z : ℕ} → r ≡ 0 → PartChanged u d n i e w p mid d mid1 z
-  part_lost z = record { same_length = refl; mid_same_length = b.same_length; right = λ P l E ρ T g a f m room. absurd (something P l E ρ T g a f m room z) }
+  pub part_lost : {z : ℕ} {mid2 : List ℕ} → r ≡ 0 → mid2 ≡ mid1 → PartChanged u d n i e w p mid d mid2 z
+  part_lost z same = record { same_length = refl; mid_same_length = ap length same ∙ b.same_length; right = λ P l E ρ T g a f m room. absurd (something P l E ρ T g a f m room z) }
 
 cut : (at left a : ℕ) {d mid1 : List ℕ} {n i e : ℕ} {d' mid2 : List ℕ} {o : Option ℕ} → at ≤ 65535 → Spliced d mid1 n i e at d' mid2 o → Spliced d mid1 n i e (began at left a % 65536) d' mid2 o
 cut at left a {d} {mid1} {n} {i} {e} {d'} {mid2} {o} place c = subst (λ j. Spliced d mid1 n i e j d' mid2 o) (sym (began_at (began at left a) at left a refl place)) c
@@ -200,9 +191,6 @@ module _ (at left a : ℕ) {u d : List ℕ} {n i e w : ℕ} {p mid mid1 s d' mid
   part_written {k} c =
       let q : began at left a / 4294967296 ≡ a = began_action (began at left a) at left a refl place few in
       subst (λ j. PartChanged u d n i e w p mid d' mid2 (k + 65536 * j)) q (part_made d within ie en short_u short_d short_p short_mid is b (cut at left a place c))
-
-  pub part_beyond : {k z : ℕ} → Spliced d mid1 n i e at d' mid2 (Some k) → 65535 < k → PartChanged u d n i e w p mid d' mid2 z
-  part_beyond c h = part_long d within ie en short_u short_d short_p short_mid is b (cut at left a place c) h
 
   pub part_unplaced : {z : ℕ} → Spliced d mid1 n i e at d' mid2 None → PartChanged u d n i e w p mid d' mid2 z
   part_unplaced c = part_roomless d within ie en short_u short_d short_p short_mid is b (cut at left a place c)

@@ -49,7 +49,7 @@ back_length d mid mid' n e k g h j l = ap length g ∙ put_length k (take (n - e
 module _ (d mid : List ℕ) (n i e k : ℕ) where
   -- A test failed that all together are what is asked for.
   pub splice_none : ((i ≤ e → e ≤ n → n ≤ length d → i + (k + (n - e)) ≤ length d → k + (n - e) ≤ length mid → ⊥)) → Spliced d mid n i e k d mid None
-  splice_none never = record { same_length = refl; mid_same_length = refl; made = λ a b c f g. absurd (never a b c f g) }
+  splice_none never = record { same_length = refl; mid_same_length = refl; bounded = tt; made = λ a b c f g. absurd (never a b c f g) }
 
   module _ (ie : i ≤ e) (en : e ≤ n) (nd : n ≤ length d) (room : i + (k + (n - e)) ≤ length d) (fit : k + (n - e) ≤ length mid) where
     -- As many words as were there: nothing moves.
@@ -61,6 +61,7 @@ module _ (d mid : List ℕ) (n i e k : ℕ) where
         record {
           same_length = ap length h ∙ put_length i w d (omega (arith, l));
           mid_same_length = refl;
+          bounded = nd;
           made = λ _ _ _ _ _. (
             omega (arith, l),
             ap (take n) h ∙ ap (λ j. take j (put_at i w d)) q ∙ put_front i (n - e) w d (omega (arith, l))
@@ -80,6 +81,7 @@ module _ (d mid : List ℕ) (n i e k : ℕ) where
         record {
           same_length = ap length j ∙ put_length i w d (omega (arith, o));
           mid_same_length = ap length g ∙ put_length k b mid (omega (arith, l));
+          bounded = room;
           made = λ _ _ _ _ _. (
             refl,
             ap (take (i + (k + (n - e)))) j ∙ ap (λ m. take (i + m) (put_at i w d)) (sym o) ∙ put_whole i w d (omega (arith, o))

@@ -1,6 +1,6 @@
 -- One place of a shared term changed: what stands there gives way to its successor, between the words in front of it and those behind it (document 01, "Moves, in
--- order"). The answer is the number of words that there are then, and 65,536 times the action's number.
-use Rattle.std.specs.Prelude.{◌≡◌, true, List, [], ◌++◌, ℕ, ◌+◌, ◌-◌, ◌*◌, ◌≤◌, ◌<◌, length, take}
+-- order"). The answer is the number of words that there are then, and the action's number: r has both in one number.
+use Rattle.std.specs.Prelude.{◌≡◌, true, List, [], ◌++◌, ℕ, ◌+◌, ◌-◌, ◌*◌, ◌≤◌, ◌<◌, length, take, Option, None, Some}
 use Rattle.std.proofs.Math.Seq.{slice}
 use Rattle.eb3.specs.Scopes.{Scope}
 use Rattle.eb3.specs.Terms.{Term, Done, Action, internal}
@@ -9,6 +9,12 @@ use Rattle.actions.specs.Codes.{action_code}
 use Rattle.paths.specs.Paths.{follow, followed, marked}
 use Rattle.derivation.specs.Derived.{passed}
 use Rattle.sharing.specs.Shared.{Shared, Ended, Part, Then, Beside, term_of, part_word, shared_words, PartAt, Stands}
+use Rattle.sharing.specs.declared.moved.Moved.{Moved}
+
+-- The number of words and the action's number in one number, or above every one of these where nothing moved.
+abbrev pub told : Option Moved → ℕ
+told None = passed
+told (Some x) = x.words + 65536 * x.action
 
 -- What stands at the place performs ρ along the path p, which ends there, and is T then: a part of the unfolding, alone or behind done; or done and done in parallel.
 pub data Changes (u : List ℕ) (P : Scope) (p : List ℕ) (here : Shared) (ρ : Action) (T : Term) : Type 0 where

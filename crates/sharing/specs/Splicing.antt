@@ -1,5 +1,5 @@
 -- Words put in the place of others, and a shared term spelled out (document 01, "Operations": Run writes the last term).
-use Rattle.std.specs.Prelude.{◌≡◌, List, [], ◌∷◌, ◌++◌, ℕ, ◌+◌, ◌-◌, ◌≤◌, length, take, Option, MatchOption}
+use Rattle.std.specs.Prelude.{◌≡◌, List, [], ◌∷◌, ◌++◌, ℕ, ◌+◌, ◌-◌, ◌≤◌, length, take, Option, MatchOption, IfSome}
 use Rattle.std.proofs.Math.Seq.{slice}
 use Rattle.eb3.specs.Scopes.{Scope}
 use Rattle.eb3.specs.Terms.{Term}
@@ -12,6 +12,7 @@ use Rattle.sharing.specs.Beginning.{put_at}
 pub record Spliced (d mid : List ℕ) (n i e k : ℕ) (d' mid' : List ℕ) (r : Option ℕ) : Type 0 where
   pub same_length : length d' ≡ length d
   pub mid_same_length : length mid' ≡ length mid
+  pub bounded : IfSome r (λ m. m ≤ length d)
   pub made : i ≤ e → e ≤ n → n ≤ length d → i + (k + (n - e)) ≤ length d → k + (n - e) ≤ length mid
       → MatchOption r ⊥ (λ m. (m ≡ i + (k + (n - e))) × (take m d' ≡ take i d ++ (take k mid ++ slice e n d)))
 

@@ -40,7 +40,9 @@ fn action_number(t: &[u16]) -> usize
 }
 
 // Stays: that s begins with a code is a fact of its own for each function of a code: a type for it would be one for each code.
-// Stays: s and path are two parameters, since every call is handed another s, and most another path.
+// Stays: s and path are two parameters: a call for an operand is handed another s, with the same path or another, so a struct of both would be made anew there.
+// Stays: that the array stays the same (`Kept`), and what decision a path does not begin with, which the test before the call tells, are facts that no field
+// of a struct holds.
 // Stays: that s has at most 65,503 words is a clause, here and in the other files of this crate: 32 and a number of words must make a word (part_word). A
 // struct for it would cost what one for words costs (docs/DESIGN-PASS.md, "A struct for words").
 impl Writer<'_> {

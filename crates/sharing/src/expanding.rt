@@ -29,6 +29,7 @@ pub fn expand(u: &[u16], s: &[u16], out: &mut [u16], at: usize) -> Option<Extent
     Some(Extent { left, end })
 }
 
+// Stays: that the array stays the same (`Kept`) is a fact of what it was and what it is then, which no field of a struct holds.
 impl Expansion<'_> {
     // The part with this word, from its place in the unfolding; `left` words are left after it, which is the answer.
     fn expand_part(&mut self, w: usize, left: usize) -> Option<usize>

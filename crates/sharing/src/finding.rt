@@ -21,7 +21,8 @@ struct Place {
 }
 
 // In the part with this word, which moves in this place.
-// Stays, here and below: u and the words are parameters, with their bounds as clauses: every call is handed other words.
+// Stays, here and below: the words are a parameter, with their bound as a clause: most calls are handed other words. u is the same in all of them: beside
+// `Arrays` it is one parameter more, where a struct of both would be named in every clause.
 // Stays: that the arrays stay the same (`Kept`) is a fact of what they were and what they are then, which no field of a struct holds.
 fn find_part(u: &[u16], w: usize, place: Place, arrays: &mut Arrays) -> Walked
     requires { (length u.now ≤ 65503) × (place.here ≤ 65535) × (place.behind ≤ place.here) }

@@ -6,7 +6,7 @@
 
 ghost use Rattle.std.specs.Prelude.{◌≤◌, ◌<◌, length};
 ghost use Rattle.derivation.specs.Arrays.{SameArrays};
-ghost use Rattle.sharing.specs.Changing.{Changed, Joined, PartChanged};
+ghost use Rattle.sharing.specs.Changing.{Changed, Joined, PartChanged, told};
 ghost use Rattle.sharing.specs.Stepping.{Stepped};
 
 pub mod beginning;
@@ -14,33 +14,42 @@ pub mod expanding;
 pub mod expansion;
 pub mod finding;
 pub mod masks;
+pub mod moved;
 pub mod seeking;
 pub mod splicing;
 pub mod writer;
 
 use code_numbers::{DONE, PARALLEL, SEQUENCE};
-use derivation::{Arrays, PASSED, Scratch, Walked};
+use derivation::{Arrays, Scratch, Walked};
 use finding::find;
+use moved::Moved;
 use scan::{front, last};
 use splicing::splice;
 use std::ops::Range;
 use writer::Writer;
 
-// Stays: the answers are one number, measured (docs/DESIGN-PASS.md, "Answers packed in one number"). The term is the first n words of d: it grows and shrinks
-// within one array of a fixed size, since there is no heap. A struct of both would be lent, and each contract would have to say too that its array stays the
-// same (`ghost_name`); and that n words are there, and word i is one of them, are facts of two values.
+// Stays: the term is the first n words of d, and n is a number beside it: it grows and shrinks within one array of a fixed size, since there is no heap. A
+// struct of both would be lent, and each contract would have to say too that its array stays the same (`ghost_name`); and that n words are there, and word i
+// is one of them, are facts of two values.
 
 // The place that begins in word i of the first n gives way to the successor: of a part, of a part after done, or done where two that are done
 // stood in parallel.
-fn change(u: &[u16], d: &mut [u16], n: usize, i: usize, path: &[u16], mid: &mut [u16]) -> usize
+fn change(
+    u: &[u16],
+    d: &mut [u16],
+    n: usize,
+    i: usize,
+    path: &[u16],
+    mid: &mut [u16],
+) -> Option<Moved>
     requires { (n ≤ length d.old) × (i < n) × (length u.now ≤ 65503) × (length d.old ≤ 65535) × (length path.now ≤ 65535) × (length mid.old ≤ 65535) }
-    ensures { Changed u.now d.old n i path.now mid.old d.new mid.new result }
+    ensures { Changed u.now d.old n i path.now mid.old d.new mid.new (told result) }
 {
     let w = d[i];
     match w as usize {
         SEQUENCE => {
             if n < i + 3 {
-                return PASSED;
+                return None;
             }
             let follows = d[i + 1];
             change_part(u, d, n, i..i + 3, follows, path, mid)
@@ -51,16 +60,17 @@ fn change(u: &[u16], d: &mut [u16], n: usize, i: usize, path: &[u16], mid: &mut 
 }
 
 // Done in the place of a parallel of done and done.
-fn join(d: &mut [u16], n: usize, i: usize, mid: &mut [u16]) -> usize
+fn join(d: &mut [u16], n: usize, i: usize, mid: &mut [u16]) -> Option<Moved>
     requires { (n ≤ length d.old) × (i < n) × (length d.old ≤ 65535) × (length mid.old ≤ 65535) }
-    ensures { Joined d.old n i mid.old d.new mid.new result }
+    ensures { Joined d.old n i mid.old d.new mid.new (told result) }
 {
     if n < i + 3 || mid.is_empty() {
-        return PASSED;
+        return None;
     }
     mid[0] = DONE as u16;
     // never None: d has more words, and mid has room for one and for what comes after
-    splice(d, n, i, i + 3, mid, 1).unwrap_or(PASSED)
+    let words = splice(d, n, i, i + 3, mid, 1)?;
+    Some(Moved { words, action: 0 })
 }
 
 // The successor, along a path, of the part with this word, in the place of these words.
@@ -72,42 +82,41 @@ fn change_part(
     w: u16,
     path: &[u16],
     mid: &mut [u16],
-) -> usize
+) -> Option<Moved>
     requires { (n ≤ length d.old) × (place.start ≤ place.end) × (place.end ≤ n) × (length u.now ≤ 65503) × (length d.old ≤ 65535) × (length path.now ≤ 65535) × (length mid.old ≤ 65535) }
-    ensures { PartChanged u.now d.old n place.start place.end w path.now mid.old d.new mid.new result }
+    ensures { PartChanged u.now d.old n place.start place.end w path.now mid.old d.new mid.new (told result) }
 {
     if w < 32 {
-        return PASSED;
+        return None;
     }
     let mut writer = Writer {
         out: mid,
         at: 0,
         action: 0,
     };
-    let Some(_) = writer.begin(last(u, w as usize - 32), path) else {
-        return PASSED;
-    };
+    writer.begin(last(u, w as usize - 32), path)?;
     let at = writer.at;
-    let action = writer.action;
-    let Some(k) = splice(d, n, place.start, place.end, mid, at) else {
-        return PASSED;
-    };
-    // never: d has no more words
-    if 65535 < k {
-        return PASSED;
-    }
-    k + 65536 * action
+    let action = writer.action as u32;
+    let words = splice(d, n, place.start, place.end, mid, at)?;
+    Some(Moved { words, action })
 }
 
-// Move k of the shared term in the first n words of d: how many words it has then, and 65,536 times the action's number; or PASSED where there is no such move.
+// Move k of the shared term in the first n words of d, or None where there is no such move.
 // Stays: that the arrays stay the same and keep their lengths is a fact of what they were and what they are then, which no field of a struct holds.
-pub fn step(u: &[u16], d: &mut [u16], n: usize, m: &[u16], k: usize, scratch: &mut Scratch) -> usize
+pub fn step(
+    u: &[u16],
+    d: &mut [u16],
+    n: usize,
+    m: &[u16],
+    k: usize,
+    scratch: &mut Scratch,
+) -> Option<Moved>
     requires { (k < 65536) × (length u.now ≤ 65503) × (length d.old ≤ 65535) }
     ensures arrays { SameArrays scratch.old scratch.new }
-    ensures stepped { Stepped u.now d.old n m.now k (length scratch.old.path.now) (length scratch.old.acts.now) (length scratch.old.mid.now) d.new result }
+    ensures stepped { Stepped u.now d.old n m.now k (length scratch.old.path.now) (length scratch.old.acts.now) (length scratch.old.mid.now) d.new (told result) }
 {
     if d.len() < n {
-        return PASSED;
+        return None;
     }
     // a name for the path: of a field that is lent into another struct the check would know no more afterwards than its length
     let path = &mut *scratch.path;
@@ -124,10 +133,10 @@ pub fn step(u: &[u16], d: &mut [u16], n: usize, m: &[u16], k: usize, scratch: &m
     let q = arrays.at;
     match r {
         Walked::Found => (),
-        _ => return PASSED,
+        _ => return None,
     }
     if n < left || left == 0 || path.len() < q {
-        return PASSED;
+        return None;
     }
     change(u, d, n, n - left, &path[q..], scratch.mid)
 }

@@ -20,7 +20,8 @@ use scan::{behind, first, last};
 // one of the same cycle at another instance, which the check does not cover.
 
 // One move, whose path is empty: it begins at the end.
-// Stays beside derivation's `single`, which is told the words left too.
+// Stays beside derivation's `single`, whose contract says what is left of k and the words left as one number: each call here would need a lemma that takes
+// them apart.
 fn only(arrays: &mut Arrays) -> Walked
     ensures kept { Kept arrays.old arrays.new }
     ensures path { arrays.new.path.now ≡ arrays.old.path.now }

@@ -31,8 +31,8 @@ pub struct Taken {
 
 // Move k's path sought with room for N numbers.
 // Stays a function that only makes an array and asks: not put into its caller, so that a call with few numbers does not pay for a frame with many.
-// Stays, here and in find_path: the words, the store, k, the path and the numbers are parameters, with their bounds as clauses, as `derivation::derive` takes
-// them. The bound of N is of a const parameter, which each call gives as a number.
+// Stays, here and in find_path: the words, the store, k, the path and the numbers are parameters, with their bounds as clauses: they go to `derivation::derive`
+// at once, which is public and takes them so. The bound of N is of a const parameter, which each call gives as a number.
 #[inline(never)]
 fn path_in<const N: usize>(s: &[u16], m: &[u16], k: usize, path: &mut [u16]) -> Derivation
     requires { (length s.now ≤ 65535) × (k < 65536) × (length path.old ≤ 65535) × (N ≤ 131072) }

@@ -117,9 +117,9 @@ fn close(t: &[u16], x: Built, e: usize, out: &mut [u8]) -> Built
 
 // ── the beginning of the successor ──
 
-// Stays: that s begins with a code is a fact of its own for each function of a code: a type for it would be one for each code.
-// Stays: s, path and out are three parameters. Every call is handed another s, most another path, and those that follow words written another out, so that
-// a struct of them would be made anew at every level; and n, how many words of s stay, is one word where a second slice would be two.
+// Stays: that s begins with a code is a fact of its own for each function of a code: a type for it would be one for each code. So it is with a path's decision.
+// Stays: s, path and out are three parameters. A call for an operand is handed another s, most another path, and those that follow words written another out,
+// so that a struct of them would be made anew there, at every level; and n, how many words of s stay, is one word where a second slice would be two.
 
 // After the words that x wrote.
 #[cycle(building)]

@@ -2,6 +2,7 @@
 -- Document 01, "Unfolding, size and breadth"; refusal 10.
 pub mod Given
 pub mod Answers
+pub mod Lending
 pub mod Laws
 pub mod AnswerLaws
 pub mod Alike

@@ -1,14 +1,10 @@
 // The check of a given running term, with its reach and breadth in the same pass (document 01, "Unfolding, size and breadth";
-// refusal 10). An answer on a term is one number, so that no level of nested terms stores one in memory.
-// Stays: measured, an Option of a struct takes 1.07 to 1.29 times the instructions (1,000 guards, 1,000 parallels), and the frame
-// of a level grows from 112 bytes to 192 (check_running), and from 80 to 128 (two_terms). So it is with `WRONG` and each test for
-// it, with `left`, `reach`, `breadth`, `weigh` and `pack`, and with each function here that answers such a number. So they stay beside the functions for
-// the same codes of rule_terms, which answer a refusal or a struct, in a Result.
-// Stays: six functions ask that they are given at most 8,192 words, by which an answer fits into one number. Each is given another
-// part of the words, and as a struct with this fact every part would be made one anew, with the same proof at the same places.
+// refusal 10).
+// Stays: that the words are at most 8,192 is a clause of six functions here. Each is given another part of the words, and as a struct with this fact every part
+// would be made one anew, with the same proof at the same places. That the tables stay the same (`Kept`) is a fact of before and after, which no field holds.
 #![tactic(auto)]
 
-ghost use Rattle.std.specs.Prelude.{◌≡◌, ◌/◌, ◌%◌, ◌≤◌, length, get_or};
+ghost use Rattle.std.specs.Prelude.{◌≡◌, ◌≤◌, length};
 ghost use Rattle.eb3.specs.Terms.{Star};
 ghost use Rattle.eb3.specs.RuleSets.{sizes_of};
 ghost use Rattle.eb3.specs.Reading.{giving, both};
@@ -16,7 +12,8 @@ ghost use Rattle.eb3.specs.TermReading.{elements_of, TermKind, action_of, term_b
 ghost use Rattle.weights.specs.Weighing.{measure};
 ghost use Rattle.arguments.specs.Tables.{declared};
 ghost use Rattle.terms.specs.Given.{weighed_running, given};
-ghost use Rattle.terms.specs.Answers.{left_after, packed, unpacked, Answer, Packs, Operands, Operand, joined_of, weighed_pair, guarded_of, starred_of};
+ghost use Rattle.terms.specs.Answers.{left_after, packed, Packs, weighed_pair};
+ghost use Rattle.terms.specs.Lending.{Kept, said};
 
 use arguments::layout::{LABEL_ROWS, LABEL_WORDS};
 use arguments::{MASK_WORDS, check_mask, functions, labels, mask_zero, row_at, size_of};
@@ -26,9 +23,6 @@ use scan::repeats::leading;
 use scan::{behind, last};
 use weights::{Joint, Limits, Weight, empty, guard, single, stars};
 
-// Above every answer that says what was read.
-const WRONG: usize = 1152921504606846976;
-
 // The reach and the breadth of a given term.
 #[derive(Clone, Copy)]
 pub struct Given {
@@ -36,73 +30,12 @@ pub struct Given {
     pub breadth: u32,
 }
 
-// ── answers ──
-
-// How many words are left.
-fn left(p: usize) -> usize
-    ensures { result ≡ p % 65536 }
-{
-    p % 65536
-}
-
-fn reach(p: usize) -> u32
-    ensures { result ≡ p / 65536 % 131072 }
-{
-    (p / 65536 % 131072) as u32
-}
-
-fn breadth(p: usize) -> u32
-    ensures { result ≡ p / 8589934592 }
-{
-    (p / 8589934592) as u32
-}
-
-// What an answer says of a term of n words.
-#[tactic(auto, using(crate::proofs::Numbers::weigh_in))]
-fn weigh(n: usize, p: usize) -> Weight
-    requires { n ≤ 8192 }
-    ensures { measure result ≡ unpacked n p }
-{
-    Weight {
-        size: n as u32,
-        reach: reach(p),
-        breadth: breadth(p),
-    }
-}
-
-fn pack(n: usize, w: Weight) -> usize
-    requires { Packs n (measure w) }
-    ensures { result ≡ packed n (measure w) }
-{
-    n + 65536 * (w.reach as usize + 131072 * (w.breadth as usize))
-}
-
-// The answer of two operands from that of the first, which had n words before it, and of the second.
-fn joined(joint: Joint, n: usize, p: usize, q: usize) -> usize
-    requires { Operands n p q }
-    ensures { result ≡ joined_of joint n p q }
-{
-    let m = left(p);
-    let k = left(q);
-    pack(k, weights::joined(joint, weigh(n - m, p), weigh(m - k, q)))
-}
-
-// The answer of a guard of n words, m of them after its condition, from that of its operand.
-fn under_guard(n: usize, m: usize, p: usize) -> usize
-    requires { Operand n m p }
-    ensures { result ≡ guarded_of n m p }
-{
-    let k = left(p);
-    pack(k, guard((n - m) as u64, weigh(m - k, p)))
-}
-
-// The answer of n words under k stars, from that of the words.
-fn under_stars(k: usize, n: usize, p: usize) -> usize
-    requires { Answer n p }
-    ensures { result ≡ starred_of k n p }
-{
-    let m = left(p);
-    pack(m, stars(k, weigh(n - m, p)))
+// What checks a running term: the tables of the rule set, and the reach and breadth of the term that was read last. Its size is the words that it took.
+#[derive(Drop)]
+struct Weigher<'a> {
+    tables: &'a [u32],
+    reach: u32,
+    breadth: u32,
 }
 
 // ── terms ──
@@ -126,117 +59,136 @@ fn elements(t: &[u16], tb: &[u32], ds: &[u32]) -> Option<usize>
     Some(t.len() - 2 * ds.len())
 }
 
-// A label and its arguments.
-#[tactic(auto, using(crate::proofs::Leaves::actions))]
-fn action(t: &[u16], tb: &[u32]) -> usize
-    requires { length t.now ≤ 8192 }
-    ensures { result ≡ weighed_running (action_of (declared tb.now) t.now) }
-{
-    if t.len() == 0 {
-        return WRONG;
+// Each of these answers how many words are left, or None where there is no such term.
+impl Weigher<'_> {
+    // A term that was read, with what it measures.
+    fn leaf(&mut self, left: usize, w: Weight) -> Option<usize>
+        requires { Packs left (measure w) }
+        ensures kept { Kept self.old self.new result }
+        ensures read { said self.new result ≡ packed left (measure w) }
+    {
+        self.reach = w.reach;
+        self.breadth = w.breadth;
+        Some(left)
     }
-    let l = t[0] as usize;
-    if labels(tb) <= l {
-        return WRONG;
-    }
-    let ds = row_at(tb, LABEL_ROWS + LABEL_WORDS * l);
-    let Some(m) = elements(behind(t), tb, ds) else {
-        return WRONG;
-    };
-    pack(m, single(2 + 2 * ds.len() as u64))
-}
 
-// A term under a star, of the words after that star's code: the other stars before it are counted and not descended into.
-#[cycle(running)]
-#[tactic(auto, using(crate::proofs::Nested::starred_terms))]
-fn starred(t: &[u16], tb: &[u32]) -> usize
-    requires { length t.now ≤ 8192 }
-    ensures { result ≡ weighed_running (giving Star (read_term (declared tb.now) t.now)) }
-{
-    let k = leading(t, STAR);
-    let n = t.len() - k;
-    let p = check_running(last(t, n), tb);
-    if p == WRONG {
-        return WRONG;
+    // The weight of the term that was read last, of n words.
+    fn weight(&self, n: usize) -> Weight
+        requires { n ≤ 8192 }
+        ensures { measure result ≡ record { size = n; reach = self.now.reach; breadth = self.now.breadth } }
+    {
+        Weight {
+            size: n as u32,
+            reach: self.reach,
+            breadth: self.breadth,
+        }
     }
-    under_stars(k + 1, n, p)
-}
 
-// Two terms in a row.
-#[cycle(running)]
-#[tactic(auto, using(crate::proofs::Parts::pairs))]
-fn two_terms(t: &[u16], tb: &[u32], joint: Joint) -> usize
-    requires { length t.now ≤ 8192 }
-    ensures { result ≡ weighed_pair joint (both (read_term (declared tb.now)) (read_term (declared tb.now)) t.now) }
-{
-    let p = check_running(t, tb);
-    if p == WRONG {
-        return WRONG;
+    // A label and its arguments.
+    #[tactic(auto, using(crate::proofs::Leaves::actions))]
+    fn action(&mut self, t: &[u16]) -> Option<usize>
+        requires { length t.now ≤ 8192 }
+        ensures kept { Kept self.old self.new result }
+        ensures read { said self.new result ≡ weighed_running (action_of (declared self.old.tables.now) t.now) }
+    {
+        if t.len() == 0 {
+            return None;
+        }
+        let l = t[0] as usize;
+        if labels(self.tables) <= l {
+            return None;
+        }
+        let ds = row_at(self.tables, LABEL_ROWS + LABEL_WORDS * l);
+        let m = elements(behind(t), self.tables, ds)?;
+        self.leaf(m, single(2 + 2 * ds.len() as u64))
     }
-    let n = left(p);
-    let q = check_running(last(t, n), tb);
-    if q == WRONG {
-        return WRONG;
-    }
-    joined(joint, t.len(), p, q)
-}
 
-// A mask and two terms.
-#[cycle(running)]
-#[tactic(auto, using(crate::proofs::Parts::parallels))]
-fn in_parallel(t: &[u16], tb: &[u32]) -> usize
-    requires { length t.now ≤ 8192 }
-    ensures { result ≡ weighed_running (term_by (declared tb.now) (read_term (declared tb.now)) TermKind.parallel t.now) }
-{
-    let Ok(n) = check_mask(t, MASK_WORDS, labels(tb)) else {
-        return WRONG;
-    };
-    two_terms(last(t, n), tb, Joint::Parallel(mask_zero(t)))
-}
-
-// A condition, whose size is the words that it took, and a term.
-#[cycle(running)]
-#[tactic(auto, using(crate::proofs::Parts::guards))]
-fn guarded(t: &[u16], tb: &[u32]) -> usize
-    requires { length t.now ≤ 8192 }
-    ensures { result ≡ weighed_running (term_by (declared tb.now) (read_term (declared tb.now)) TermKind.guard t.now) }
-{
-    let c = Scope {
-        variables: 0,
-        now: functions(tb),
-        before: 0,
-    };
-    let Ok(n) = check_cond(t, c) else {
-        return WRONG;
-    };
-    let p = check_running(last(t, n), tb);
-    if p == WRONG {
-        return WRONG;
+    // A term under a star, of the words after that star's code: the other stars before it are counted and not descended into.
+    #[cycle(running)]
+    #[tactic(auto, using(crate::proofs::Nested::starred_terms))]
+    fn starred(&mut self, t: &[u16]) -> Option<usize>
+        requires { length t.now ≤ 8192 }
+        ensures kept { Kept self.old self.new result }
+        ensures read { said self.new result ≡ weighed_running (giving Star (read_term (declared self.old.tables.now) t.now)) }
+    {
+        let k = leading(t, STAR);
+        let n = t.len() - k;
+        let left = self.check(last(t, n))?;
+        self.leaf(left, stars(k + 1, self.weight(n - left)))
     }
-    under_guard(t.len(), n, p)
-}
 
-// The running term at the front.
-#[cycle(running)]
-#[tactic(auto, using(crate::proofs::Codes::codes))]
-fn check_running(s: &[u16], tb: &[u32]) -> usize
-    requires { length s.now ≤ 8192 }
-    ensures { result ≡ weighed_running (read_term (declared tb.now) s.now) }
-{
-    if s.len() == 0 {
-        return WRONG;
+    // Two terms in a row. Inlined, since its frame would come on top of that of `check` at each level.
+    #[cycle(running)]
+    #[inline(always)]
+    #[tactic(auto, using(crate::proofs::Parts::pairs))]
+    fn two_terms(&mut self, t: &[u16], joint: Joint) -> Option<usize>
+        requires { length t.now ≤ 8192 }
+        ensures kept { Kept self.old self.new result }
+        ensures read { said self.new result ≡ weighed_pair joint (both (read_term (declared self.old.tables.now)) (read_term (declared self.old.tables.now)) t.now) }
+    {
+        let n = self.check(t)?;
+        let w = self.weight(t.len() - n);
+        let left = self.check(last(t, n))?;
+        self.leaf(left, weights::joined(joint, w, self.weight(n - left)))
     }
-    let t = behind(s);
-    match s[0] as usize {
-        INTERNAL => pack(t.len(), single(1)),
-        ACTION => action(t, tb),
-        SEQUENCE => two_terms(t, tb, Joint::Sequence),
-        CHOICE => two_terms(t, tb, Joint::Choice),
-        STAR => starred(t, tb),
-        PARALLEL => in_parallel(t, tb),
-        GUARD => guarded(t, tb),
-        DONE => pack(t.len(), empty()),
-        _ => WRONG,
+
+    // A mask and two terms.
+    #[cycle(running)]
+    #[tactic(auto, using(crate::proofs::Parts::parallels))]
+    fn in_parallel(&mut self, t: &[u16]) -> Option<usize>
+        requires { length t.now ≤ 8192 }
+        ensures kept { Kept self.old self.new result }
+        ensures read { said self.new result ≡ weighed_running (term_by (declared self.old.tables.now) (read_term (declared self.old.tables.now)) TermKind.parallel t.now) }
+    {
+        let Ok(n) = check_mask(t, MASK_WORDS, labels(self.tables)) else {
+            return None;
+        };
+        self.two_terms(last(t, n), Joint::Parallel(mask_zero(t)))
+    }
+
+    // A condition, whose size is the words that it took, and a term.
+    #[cycle(running)]
+    #[tactic(auto, using(crate::proofs::Parts::guards))]
+    fn guarded(&mut self, t: &[u16]) -> Option<usize>
+        requires { length t.now ≤ 8192 }
+        ensures kept { Kept self.old self.new result }
+        ensures read { said self.new result ≡ weighed_running (term_by (declared self.old.tables.now) (read_term (declared self.old.tables.now)) TermKind.guard t.now) }
+    {
+        let c = Scope {
+            variables: 0,
+            now: functions(self.tables),
+            before: 0,
+        };
+        let Ok(n) = check_cond(t, c) else {
+            return None;
+        };
+        let left = self.check(last(t, n))?;
+        self.leaf(left, guard((t.len() - n) as u64, self.weight(n - left)))
+    }
+
+    // The running term at the front.
+    #[cycle(running)]
+    #[tactic(auto, using(crate::proofs::Codes::codes))]
+    fn check(&mut self, s: &[u16]) -> Option<usize>
+        requires { length s.now ≤ 8192 }
+        ensures kept { Kept self.old self.new result }
+        ensures read { said self.new result ≡ weighed_running (read_term (declared self.old.tables.now) s.now) }
+    {
+        if s.len() == 0 {
+            return None;
+        }
+        let t = behind(s);
+        match s[0] as usize {
+            INTERNAL => self.leaf(t.len(), single(1)),
+            ACTION => self.action(t),
+            SEQUENCE => self.two_terms(t, Joint::Sequence),
+            CHOICE => self.two_terms(t, Joint::Choice),
+            STAR => self.starred(t),
+            PARALLEL => self.in_parallel(t),
+            GUARD => self.guarded(t),
+            DONE => self.leaf(t.len(), empty()),
+            _ => None,
+        }
     }
 }
 
@@ -248,23 +200,24 @@ pub fn given_term(s: &[u16], tb: &[u32]) -> Option<Given>
     if s.len() > Limits::REACH as usize {
         return None;
     }
-    let p = check_running(s, tb);
-    if p == WRONG {
+    let mut weigher = Weigher {
+        tables: tb,
+        reach: 0,
+        breadth: 0,
+    };
+    let left = weigher.check(s)?;
+    if left != 0 {
         return None;
     }
-    if left(p) != 0 {
+    let w = weigher;
+    if Limits::REACH < w.reach {
         return None;
     }
-    let g = reach(p);
-    let b = breadth(p);
-    if Limits::REACH < g {
-        return None;
-    }
-    if Limits::BREADTH < b {
+    if Limits::BREADTH < w.breadth {
         return None;
     }
     Some(Given {
-        reach: g,
-        breadth: b,
+        reach: w.reach,
+        breadth: w.breadth,
     })
 }

@@ -141,6 +141,8 @@ fn ways(zero: bool, l: u32, r: u32) -> u32
     cut(apart as u64 + joint as u64)
 }
 
+// Inlined, since a call stores both weights and loads them: in the check of a given term 1.14 of the instructions for parallels (docs/DESIGN-PASS.md).
+#[inline(always)]
 pub fn parallel(zero: bool, a: Weight, b: Weight) -> Weight
     ensures { measure result ≡ parallel_by zero (measure a) (measure b) }
 {
@@ -152,6 +154,8 @@ pub fn parallel(zero: bool, a: Weight, b: Weight) -> Weight
 }
 
 // What two terms measure together.
+// Inlined, for the same reason.
+#[inline(always)]
 #[tactic(auto, unfolding(crate::specs::Weighing::joint_of))]
 pub fn joined(joint: Joint, a: Weight, b: Weight) -> Weight
     ensures { measure result ≡ joint_of joint (measure a) (measure b) }

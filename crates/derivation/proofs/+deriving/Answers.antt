@@ -1,6 +1,6 @@
-use Rattle.derivation.proofs.Sides.{both_none_right, both_none_left, both_made, sides_none_left, sides_left_made, sides_none_right, sides_right_made, sides_together}
+use Rattle.derivation.proofs.Sides.{both_none_right, both_none_left, both_made, sides_none_left, sides_left_made, sides_none_right, sides_right_made, sides_pair, at_place}
 use Rattle.std.proofs.Common.{rules}
-use lib.ListN.{drop}
+use lib.ListN.{drop, length}
 use lib.Seq.{length-take-le}
 use mathlib.Core.Path.{refl, sym, ap, ◌∙◌}
 use lib.Dec.{lit<}
@@ -9,7 +9,7 @@ use Rattle.derivation.specs.AnswerLaws.{sized}
 use Rattle.derivation.proofs.Answers.{at_store}
 use Rattle.derivation.proofs.Walking.{at_low, walk_found, found_low, full_high, other_high, passed_high, passed_few, last_is, rest_is, walk_on, whole_back, placed_at, told_at, told_other, derived_path, operands_path, decided_path}
 use Rattle.derivation.proofs.Arms.{internal_derived, perform_derived, two_left, two_right, choice_derived, sequence_right, sequence_lost, sequence_found, sequence_passed, star_end, star_round, guard_shut, guard_open, at_front, other_derived}
-use Rattle.derivation.proofs.Listed.{whole_length, listed_lost_second, listed_none, listed_sides}
+use Rattle.derivation.proofs.Listed.{whole_length, listed_lost_second, listed_none, listed_sides, told_left}
 use Rattle.derivation.proofs.Idle.{right_derived, left_found, left_passed, masked_right, masked_left, masked_listed}
 use Rattle.derivation.proofs.Parallels.{parallel_done, parallel_covered, parallel_masked}
 use native.Mathlib.Omega.{arith}
@@ -63,14 +63,26 @@ arrays::Arrays::derive_listed-returns-in_default-list-clause-derived t c = liste
 pub arrays::Arrays::derive_listed-passing-requires : goal.arrays::Arrays::derive_listed-passing-requires
 arrays::Arrays::derive_listed-passing-requires t c = omega (arith, last_len _ _ _ c.last-v.ensures, last_len _ _ _ c.last-u.ensures)
 
-pub arrays::Arrays::derive_listed-returns-then-z-ge-PASSED-clause-derived : goal.arrays::Arrays::derive_listed-returns-then-z-ge-PASSED-clause-derived
-arrays::Arrays::derive_listed-returns-then-z-ge-PASSED-clause-derived t c = operands_path c.passing.ensures.path (listed_none _ _ _ _ _ c.in-Some.ensures c.requires _ _ _ c.last-u.ensures c.in-Some-list.ensures _ refl _ _ c.split_at.ensures.front c.split_at.ensures.back _ _ _ _ _ c.locate-z.ensures c.args.self.now.due c.if-z-ge-PASSED.true _ _ c.last-v.ensures c.passing.ensures.passed.0)
+pub arrays::Arrays::derive_listed-returns-in-Passed-clause-derived : goal.arrays::Arrays::derive_listed-returns-in-Passed-clause-derived
+arrays::Arrays::derive_listed-returns-in-Passed-clause-derived t c = operands_path c.passing.ensures.path (listed_none _ _ _ _ _ c.in-Some.ensures c.requires _ _ _ c.last-u.ensures c.in-Some-list.ensures _ refl _ _ c.split_at.ensures.front c.split_at.ensures.back _ _ _ _ _ c.in-Passed.ensures.located c.args.self.now.due (omega arith) _ _ c.last-v.ensures (told_left _ (length c.last-v.result.now) c.in-Passed.k c.passing.ensures.passed.0))
 
-pub arrays::Arrays::derive_listed-derive_sides-requires : goal.arrays::Arrays::derive_listed-derive_sides-requires
-arrays::Arrays::derive_listed-derive_sides-requires t c = (omega arith, (omega arith, last_len _ _ _ c.last-u.ensures, c.locate-z.ensures.low c.if-z-ge-PASSED.false))
+pub arrays::Arrays::derive_listed-derive_left_alone-requires : goal.arrays::Arrays::derive_listed-derive_left_alone-requires
+arrays::Arrays::derive_listed-derive_left_alone-requires t c = (omega arith, (omega arith, last_len _ _ _ c.last-u.ensures, c.in-Left.ensures.within))
 
-pub arrays::Arrays::derive_listed-returns-clause-derived : goal.arrays::Arrays::derive_listed-returns-clause-derived
-arrays::Arrays::derive_listed-returns-clause-derived t c = listed_sides _ _ _ _ _ c.in-Some.ensures c.requires _ _ _ c.last-u.ensures c.in-Some-list.ensures _ refl _ _ c.split_at.ensures.front c.split_at.ensures.back _ _ _ _ _ c.locate-z.ensures c.args.self.now.due c.if-z-ge-PASSED.false c.args.self.now.few.0 _ _ _ (omega (arith, whole_length _ _ _ _ _ c.in-Some.ensures c.requires _ _ _ c.last-u.ensures c.in-Some-list.ensures)) c.derive_sides.ensures.derived
+pub arrays::Arrays::derive_listed-derive_right_alone-requires : goal.arrays::Arrays::derive_listed-derive_right_alone-requires
+arrays::Arrays::derive_listed-derive_right_alone-requires t c = (omega arith, (omega arith, last_len _ _ _ c.last-u.ensures, c.in-Right.ensures.within))
+
+pub arrays::Arrays::derive_listed-derive_both-requires : goal.arrays::Arrays::derive_listed-derive_both-requires
+arrays::Arrays::derive_listed-derive_both-requires t c = (omega arith, (omega arith, last_len _ _ _ c.last-u.ensures, c.in-Both.ensures.within.0, c.in-Both.ensures.within.1))
+
+pub arrays::Arrays::derive_listed-returns-in-Left-clause-derived : goal.arrays::Arrays::derive_listed-returns-in-Left-clause-derived
+arrays::Arrays::derive_listed-returns-in-Left-clause-derived t c = listed_sides _ _ _ _ _ c.in-Some.ensures c.requires _ _ _ c.last-u.ensures c.in-Some-list.ensures _ refl _ _ c.split_at.ensures.front c.split_at.ensures.back _ _ _ _ _ c.in-Left.ensures.located c.args.self.now.due (omega (arith, c.in-Left.ensures.within)) c.args.self.now.few.0 _ _ _ (omega (arith, whole_length _ _ _ _ _ c.in-Some.ensures c.requires _ _ _ c.last-u.ensures c.in-Some-list.ensures)) c.derive_left_alone.ensures.derived
+
+pub arrays::Arrays::derive_listed-returns-in-Right-clause-derived : goal.arrays::Arrays::derive_listed-returns-in-Right-clause-derived
+arrays::Arrays::derive_listed-returns-in-Right-clause-derived t c = listed_sides _ _ _ _ _ c.in-Some.ensures c.requires _ _ _ c.last-u.ensures c.in-Some-list.ensures _ refl _ _ c.split_at.ensures.front c.split_at.ensures.back _ _ _ _ _ c.in-Right.ensures.located c.args.self.now.due (omega (arith, c.in-Right.ensures.within)) c.args.self.now.few.0 _ _ _ (omega (arith, whole_length _ _ _ _ _ c.in-Some.ensures c.requires _ _ _ c.last-u.ensures c.in-Some-list.ensures)) c.derive_right_alone.ensures.derived
+
+pub arrays::Arrays::derive_listed-returns-in-Both-clause-derived : goal.arrays::Arrays::derive_listed-returns-in-Both-clause-derived
+arrays::Arrays::derive_listed-returns-in-Both-clause-derived t c = listed_sides _ _ _ _ _ c.in-Some.ensures c.requires _ _ _ c.last-u.ensures c.in-Some-list.ensures _ refl _ _ c.split_at.ensures.front c.split_at.ensures.back _ _ _ _ _ c.in-Both.ensures.located c.args.self.now.due (omega (arith, c.in-Both.ensures.within)) c.args.self.now.few.0 _ _ _ (omega (arith, whole_length _ _ _ _ _ c.in-Some.ensures c.requires _ _ _ c.last-u.ensures c.in-Some-list.ensures)) (sides_pair _ _ _ _ _ _ _ _ _ c.in-Both.ensures.within.1 c.derive_both.ensures.derived)
 
 pub arrays::Arrays::derive_masked-returns-then-idle-clause-derived : goal.arrays::Arrays::derive_masked-returns-then-idle-clause-derived
 arrays::Arrays::derive_masked-returns-then-idle-clause-derived t c = masked_right _ _ _ _ _ _ _ _ _ _ c.idle.ensures c.if-idle.true _ c.join.ensures c.derive_right.ensures.derived
@@ -120,20 +132,17 @@ arrays::Arrays::derive_sequence-returns-in-Full-clause-derived t c = sequence_lo
 pub arrays::Arrays::derive_sequence-returns-in-Passed-clause-derived : goal.arrays::Arrays::derive_sequence-returns-in-Passed-clause-derived
 arrays::Arrays::derive_sequence-returns-in-Passed-clause-derived t c = derived_path c.passing.ensures.path (sequence_passed _ _ _ _ _ _ _ _ c.walk-l.ensures.derived (λ e. c.if-first-eq-DONE.false (c.first.ensures.0 ∙ e)) _ _ _ (passed_high c.walk-l.new.self _ c.in-Passed.is) (passed_few c.walk-l.new.self _ c.in-Passed.is) c.requires c.args.self.now.due (last_is c.walk-l.new.self _ c.in-Passed.is _ c.last.ensures) c.skip.ensures.0 c.skip.ensures.1 (rest_is c.walk-l.new.self _ c.in-Passed.is _ c.passing.ensures.passed.0))
 
-pub arrays::Arrays::derive_sides-returns-in-Found-clause-derived : goal.arrays::Arrays::derive_sides-returns-in-Found-clause-derived
-arrays::Arrays::derive_sides-returns-in-Found-clause-derived t c = sides_left_made _ _ _ _ _ _ _ _ c.walk-l.ensures.kept.path_length c.walk-l.ensures.derived c.if-z-lt-RIGHT.true (found_low c.walk-l.new.self _ c.in-Found.is) _ _ c.decide.ensures.decided
+pub arrays::Arrays::derive_left_alone-returns-in-Found-clause-derived : goal.arrays::Arrays::derive_left_alone-returns-in-Found-clause-derived
+arrays::Arrays::derive_left_alone-returns-in-Found-clause-derived t c = sides_left_made _ _ _ _ _ _ _ _ c.walk-l.ensures.kept.path_length c.walk-l.ensures.derived (omega (arith, c.requires)) (found_low c.walk-l.new.self _ c.in-Found.is) _ _ c.decide.ensures.decided
 
-pub arrays::Arrays::derive_sides-returns-in_default : goal.arrays::Arrays::derive_sides-returns-in_default
-arrays::Arrays::derive_sides-returns-in_default t c = let k = c.walk-l.ensures.kept in record { kept = record { store = k.store; path = k.path; acts = k.acts; path_length = k.path_length; acts_length = k.acts_length }; derived = sides_none_left _ _ _ _ _ _ _ _ c.walk-l.ensures.kept.path_length c.walk-l.ensures.derived c.if-z-lt-RIGHT.true (other_high c.walk-l.new.self _ (search rules)) }
+pub arrays::Arrays::derive_left_alone-returns-in_default : goal.arrays::Arrays::derive_left_alone-returns-in_default
+arrays::Arrays::derive_left_alone-returns-in_default t c = let k = c.walk-l.ensures.kept in record { kept = record { store = k.store; path = k.path; acts = k.acts; path_length = k.path_length; acts_length = k.acts_length }; derived = sides_none_left _ _ _ _ _ _ _ _ c.walk-l.ensures.kept.path_length c.walk-l.ensures.derived (omega (arith, c.requires)) (other_high c.walk-l.new.self _ (search rules)) }
 
-pub arrays::Arrays::derive_sides-returns-in-Found-r-clause-derived : goal.arrays::Arrays::derive_sides-returns-in-Found-r-clause-derived
-arrays::Arrays::derive_sides-returns-in-Found-r-clause-derived t c = sides_right_made _ _ _ _ _ _ _ _ c.walk-r.ensures.kept.path_length c.walk-r.ensures.derived c.if-z-lt-RIGHT.false c.if-z-lt-BOTH.true (found_low c.walk-r.new.self _ c.in-Found-r.is) _ _ (sized c.size_before.ensures c.decide_right.ensures.decided)
+pub arrays::Arrays::derive_right_alone-returns-in-Found-clause-derived : goal.arrays::Arrays::derive_right_alone-returns-in-Found-clause-derived
+arrays::Arrays::derive_right_alone-returns-in-Found-clause-derived t c = sides_right_made _ _ _ _ _ _ _ _ c.walk-r.ensures.kept.path_length (at_place c.walk-r.ensures.derived) (omega arith) (omega (arith, c.requires)) (found_low c.walk-r.new.self _ c.in-Found.is) _ _ (sized c.size_before.ensures c.decide_right.ensures.decided)
 
-pub arrays::Arrays::derive_sides-returns-in_default-r : goal.arrays::Arrays::derive_sides-returns-in_default-r
-arrays::Arrays::derive_sides-returns-in_default-r t c = let k = c.walk-r.ensures.kept in record { kept = record { store = k.store; path = k.path; acts = k.acts; path_length = k.path_length; acts_length = k.acts_length }; derived = sides_none_right _ _ _ _ _ _ _ _ c.walk-r.ensures.kept.path_length c.walk-r.ensures.derived c.if-z-lt-RIGHT.false c.if-z-lt-BOTH.true (other_high c.walk-r.new.self _ (search rules)) }
-
-pub arrays::Arrays::derive_sides-returns-clause-derived : goal.arrays::Arrays::derive_sides-returns-clause-derived
-arrays::Arrays::derive_sides-returns-clause-derived t c = sides_together _ _ _ _ _ _ _ _ c.if-z-lt-BOTH.false c.derive_both.ensures.derived
+pub arrays::Arrays::derive_right_alone-returns-in_default : goal.arrays::Arrays::derive_right_alone-returns-in_default
+arrays::Arrays::derive_right_alone-returns-in_default t c = let k = c.walk-r.ensures.kept in record { kept = record { store = k.store; path = k.path; acts = k.acts; path_length = k.path_length; acts_length = k.acts_length }; derived = sides_none_right _ _ _ _ _ _ _ _ c.walk-r.ensures.kept.path_length (at_place c.walk-r.ensures.derived) (omega arith) (omega (arith, c.requires)) (other_high c.walk-r.new.self _ (search rules)) }
 
 pub arrays::Arrays::derive_star-returns-then-self-eq0-clause-derived : goal.arrays::Arrays::derive_star-returns-then-self-eq0-clause-derived
 arrays::Arrays::derive_star-returns-then-self-eq0-clause-derived t c = star_end _ _ _ _ _ _ _ _ c.requires c.args.self.now.few.0 c.if-self-eq0.true c.decide.ensures.decided

@@ -30,8 +30,11 @@ decreases-arrays::Arrays::derive_right l = 8 * length l.t.now + 1
 abbrev pub decreases-arrays::Arrays::derive_sequence : goal.decreases-arrays::Arrays::derive_sequence
 decreases-arrays::Arrays::derive_sequence l = 8 * length l.t.now + 1
 
-abbrev pub decreases-arrays::Arrays::derive_sides : goal.decreases-arrays::Arrays::derive_sides
-decreases-arrays::Arrays::derive_sides l = 8 * length l.t.now + 3
+abbrev pub decreases-arrays::Arrays::derive_left_alone : goal.decreases-arrays::Arrays::derive_left_alone
+decreases-arrays::Arrays::derive_left_alone l = 8 * length l.t.now + 3
+
+abbrev pub decreases-arrays::Arrays::derive_right_alone : goal.decreases-arrays::Arrays::derive_right_alone
+decreases-arrays::Arrays::derive_right_alone l = 8 * length l.t.now + 3
 
 abbrev pub decreases-arrays::Arrays::derive_star : goal.decreases-arrays::Arrays::derive_star
 decreases-arrays::Arrays::derive_star l = 8 * length l.t.now + 1

@@ -1,5 +1,5 @@
 use Rattle.std.proofs.Common.{rules, arith}
-use Rattle.sharing.proofs.ChangingParts.{join_made, join_short, join_roomless}
+use Rattle.sharing.proofs.ChangingParts.{join_put, join_unplaced, join_short, join_roomless}
 use Rattle.sharing.proofs.join.Goals as goal
 use Rattle.sharing.proofs.join.Goals.{then-n-i-via-then-n-i, then-n-i-via-else-n-i+then-is_empty}
 
@@ -9,5 +9,8 @@ returns-then-n-i c = elim c.then-n-i.branch [
   | then-n-i-via-else-n-i+then-is_empty w ↦ join_roomless (search rules)
 ]
 
+pub returns-in_err-words : goal.returns-in_err-words
+returns-in_err-words c = join_unplaced c.requires.0 (omega arith) (search rules) c.in_err-words.ensures
+
 pub returns : goal.returns
-returns c = rw c.unwrap_or.ensures (join_made c.requires.0 c.requires.2 (omega arith) _ _ (search rules) c.splice.ensures)
+returns c = join_put c.requires.0 c.requires.2 (search rules) c.in_ok-words.ensures

@@ -4,8 +4,8 @@ use Rattle.derivation.proofs.Searches.{search_end, search_skip, search_here, sea
 use Rattle.derivation.proofs.searching.seek.Goals as goal
 use Rattle.derivation.proofs.searching.seek.Goals.{then-test+else-due-eq0, else-test}
 
-pub returns-then-due-eq0 : goal.returns-then-due-eq0
-returns-then-due-eq0 g c = λ q f. sym (c.loop-i.invariant.1 q f ∙ search_here c.loop-i.i c.args.acts.now c.loop-i-test.true q c.loop-i.due (f _ _ (omega (arith, c.type_inv.acts c.loop-i.i)) c.if-test.ensures) c.if-due-eq0.true)
+pub returns-then-due-eq0-clause-told : goal.returns-then-due-eq0-clause-told
+returns-then-due-eq0-clause-told g c = λ q f. sym (c.loop-i.invariant.1 q f ∙ search_here c.loop-i.i c.args.acts.now c.loop-i-test.true q c.loop-i.due (f _ _ (omega (arith, c.type_inv.acts c.loop-i.i)) c.if-test.ensures) c.if-due-eq0.true)
 
 pub loop-i-preserved : goal.loop-i-preserved
 loop-i-preserved g c = elim c.if-test.branch [
@@ -13,5 +13,5 @@ loop-i-preserved g c = elim c.if-test.branch [
   | else-test w ↦ (omega arith, λ q f. c.loop-i.invariant.1 q f ∙ search_skip c.loop-i.i c.args.acts.now c.loop-i-test.true q c.loop-i.due (f _ _ (omega (arith, c.type_inv.acts c.loop-i.i)) w.if-test.ensures) ∙ ap (nth_place q (c.loop-i.i + 1) (drop (c.loop-i.i + 1) c.args.acts.now)) (sym w.due-is))
 ]
 
-pub returns : goal.returns
-returns g c = λ q f. sym (c.loop-i.invariant.1 q f ∙ search_end q c.loop-i.i c.loop-i.due c.args.acts.now c.loop-i-test.false)
+pub returns-clause-told : goal.returns-clause-told
+returns-clause-told g c = λ q f. sym (c.loop-i.invariant.1 q f ∙ search_end q c.loop-i.i c.loop-i.due c.args.acts.now c.loop-i-test.false)

@@ -1,13 +1,12 @@
 -- A case for each return: no such move, a visible one, or an internal one.
-use mathlib.Core.Path.{refl}
 use Rattle.runs.proofs.SharedCases.{shared_internal, shared_visible, shared_refused}
 use Rattle.runs.proofs.shared.step_shared.Goals as goal
 
-pub returns-then-r-ge-PASSED-clause-stepped : goal.returns-then-r-ge-PASSED-clause-stepped
-returns-then-r-ge-PASSED-clause-stepped c = shared_refused c.step-r.ensures.stepped c.if-r-ge-PASSED.true
+pub returns-in_err-moved-clause-stepped : goal.returns-in_err-moved-clause-stepped
+returns-in_err-moved-clause-stepped c = shared_refused c.in_err-moved.ensures.stepped c.from_residual.ensures
 
-pub returns-then-action-gt0-clause-stepped : goal.returns-then-action-gt0-clause-stepped
-returns-then-action-gt0-clause-stepped c = shared_visible c.step-r.ensures.stepped c.requires.1 c.if-r-ge-PASSED.false refl c.renew.ensures.1 c.if-action-gt0.true
+pub returns-then-moved-gt0-clause-stepped : goal.returns-then-moved-gt0-clause-stepped
+returns-then-moved-gt0-clause-stepped c = shared_visible c.in_ok-moved.moved c.in_ok-moved.ensures.stepped c.requires.1 c.renew.ensures.1 c.if-moved-gt0.true
 
 pub returns-clause-stepped : goal.returns-clause-stepped
-returns-clause-stepped c = shared_internal c.step-r.ensures.stepped c.requires.1 c.if-r-ge-PASSED.false refl c.renew.ensures.1 c.if-action-gt0.false
+returns-clause-stepped c = shared_internal c.in_ok-moved.moved c.in_ok-moved.ensures.stepped c.requires.1 c.renew.ensures.1 c.if-moved-gt0.false

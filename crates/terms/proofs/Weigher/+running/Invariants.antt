@@ -1,9 +1,9 @@
 use Prim.Native.Nat.{◌+◌, ◌*◌}
 use lib.ListN.{length}
-use Rattle.terms.proofs.+running.Given as goal
+use Rattle.terms.proofs.Weigher.+running.Given as goal
 
-abbrev pub decreases-check_running : goal.decreases-check_running
-decreases-check_running l = 3 * length l.s.now
+abbrev pub decreases-check : goal.decreases-check
+decreases-check l = 3 * length l.s.now
 
 abbrev pub decreases-guarded : goal.decreases-guarded
 decreases-guarded l = 3 * length l.t.now + 1

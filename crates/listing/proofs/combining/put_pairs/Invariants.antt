@@ -1,8 +1,0 @@
-use lib.ListN.{drop}
-use Rattle.actions.specs.Sets.{in_set}
-use Rattle.listing.specs.Combining.{pairs}
-use Rattle.listing.proofs.Writing.{Writing}
-use Rattle.listing.proofs.combining.put_pairs.Given as goal
-
-abbrev pub invariant-loop-x : goal.invariant-loop-x
-invariant-loop-x l = Writing (pairs (in_set l.mask) l.left l.right) l.e l.initial.out l.out l.at (pairs (in_set l.mask) (drop l.x-index l.left) l.right)
