@@ -4,74 +4,73 @@ use native.Mathlib.Nat.{le_refl}
 use native.Mathlib.Numerals.{add-one}
 use native.Mathlib.Omega.{arith}
 use mathlib.Core.Path.{◌≡◌, refl, sym, ap, ◌∙◌}
-use mathlib.Core.List.{List, ◌∷◌}
-use lib.ListN.{length, drop, get_or, drop_of_length-le}
+use mathlib.Core.List.{List, [], ◌∷◌}
+use lib.ListN.{length, drop, get_or, length-drop, drop_of_length-le}
 use lib.Seq.{drop-cons}
+use borrow.Author.Tests.{lt-ltb, le-ltb}
 use Rattle.scan.specs.Checking.{checked, last_of, Checked}
-use Rattle.scan.specs.Laws.{Fine, last_all, tail_short, checked_giving, both_in, both_out, last_length, last_last, number_ends}
-use Rattle.eb3.specs.Reading.{Read, refused, taken, both, number_of}
+use Rattle.scan.specs.Laws.{Fine, last_all, tail_short, checked_giving, both_in, both_out, last_length, last_last}
+use Rattle.eb3.specs.Reading.{Read, refused, taken, pick, giving, then, both, number_of}
 use Rattle.eb3.specs.TermReading.{mask_of}
 use Rattle.eb3.specs.RuleReading.{argument_of, arguments_of}
 use Rattle.arguments.specs.Tables.{declared}
 use Rattle.arguments.specs.TableLaws.{argument_ends}
 use Rattle.std.specs.Prelude.{Ok, Err}
 use Rattle.refusals.specs.declared.Refusal.{Refusal}
-
--- How many words are left is not more than there were.
-left_short : {A : Type 0} (u : List ℕ) (m : ℕ) (r : Read A) → Fine u r → Ok m ≡ checked r → m ≤ length u
-unfolding checked
-left_short u m (refused k) f e = absurd (let z : ◌≡◌ {A = ℕ} 0 1 = cc in omega arith)
-left_short u m (taken a v) f e =
-    let k : m ≡ length v = cc in
-    omega (arith, k, tail_short v u f)
+use Rattle.refusals.specs.declared.Refusal.TheVariants.{Form, Reference}
+use Rattle.refusals.specs.Numbers.{refusal}
 
 -- ── masks ──
 
--- Of the k words of a mask of n labels i are below their limits, l labels are left for the others, and m words after them.
-pub record Masked (k n : ℕ) (t : List ℕ) (i l m : ℕ) : Type 0 where
+-- Of the k words of a mask of n labels i are below their limits, and l labels are left for the others.
+pub record Masked (k n : ℕ) (t : List ℕ) (i l : ℕ) : Type 0 where
   pub within : i ≤ k
-  pub short : m ≤ length t
-  pub same : checked (mask_of k n t) ≡ checked (mask_of (k - i) l (last_of m t))
+  pub some : i ≤ length t
+  pub same : checked (mask_of k n t) ≡ checked (mask_of (k - i) l (drop i t))
 
-pub mask_start : (k n : ℕ) (t : List ℕ) → Masked k n t 0 n (length t)
-mask_start k n t =
-    let z : k ≡ k - 0 = omega arith in
-    record {
-      within = omega arith;
-      short = omega arith;
-      same = λ j. checked (mask_of (z j) n (sym (last_all (length t) t (le_refl (length t))) j));
-    }
+word_below : (k n w : ℕ) (v : List ℕ) → w < 2 ^ min n 16 → checked (mask_of (suc k) n (w ∷ v)) ≡ checked (mask_of k (n - 16) v)
+unfolding mask_of both then number_of
+word_below k n w v h = checked_giving _ _
+    ∙ ap (λ b. checked {A = ℕ × List ℕ} (then (pick b (taken w v) (refused 5)) (λ a u. giving (λ m. (a, m)) (mask_of k (n - 16) u)))) (lt-ltb w (2 ^ min n 16) h) ∙ checked_giving _ _
 
-module _ (k n : ℕ) (t : List ℕ) (i l m : ℕ) (c : Masked k n t i l m) where
-  pub mask_end : k ≤ i → Ok m ≡ checked (mask_of k n t)
+word_over : (k n w : ℕ) (v : List ℕ) → 2 ^ min n 16 ≤ w → checked (mask_of (suc k) n (w ∷ v)) ≡ Err Reference
+unfolding mask_of both then number_of checked refusal
+word_over k n w v h = checked_giving _ _
+    ∙ ap (λ b. checked {A = ℕ × List ℕ} (then (pick b (taken w v) (refused 5)) (λ a u. giving (λ m. (a, m)) (mask_of k (n - 16) u)))) (le-ltb w (2 ^ min n 16) h)
+
+word_none : (k n : ℕ) → checked (mask_of (suc k) n []) ≡ Err Form
+unfolding mask_of both then number_of giving checked refusal
+word_none k n = refl
+
+module _ (k n : ℕ) (t : List ℕ) (i l : ℕ) (c : Masked k n t i l) where
+  pub mask_end : k ≤ i → Ok (length t - k) ≡ checked (mask_of k n t)
   unfolding mask_of checked
   mask_end h =
       let e : k - i ≡ 0 = omega arith in
-      ap Ok (sym (last_length m t c.short)) ∙ sym (c.same ∙ ap (λ j. checked (mask_of j l (last_of m t))) e)
+      let d : length t - k ≡ length (drop i t) = omega (arith, length-drop i t) in
+      ap Ok d ∙ sym (c.same ∙ ap (λ j. checked (mask_of j l (drop i t))) e)
 
-  -- x is the limit, u the words left
-  module _ (x : ℕ) (u : List ℕ) (p : Checked) (h : i < k) (d : x ≡ 2 ^ min l 16) (f : u ≡ last_of m t) (e : p ≡ checked (number_of 5 x u)) where
-    word_first : checked (mask_of k n t) ≡ checked (both (number_of 5 x) (mask_of (k - (i + 1)) (l - 16)) u)
-    unfolding mask_of
-    word_first =
-        let o : k - i ≡ suc (k - (i + 1)) = omega arith in
-        c.same ∙ (λ j. checked (mask_of (o j) l (sym f j))) ∙ checked_giving _ _ ∙ ap (λ y. checked (both (number_of 5 y) (mask_of (k - (i + 1)) (l - 16)) u)) (sym d)
+  module _ (h : i < k) where
+    another : k - i ≡ suc (k - (i + 1))
+    another = omega arith
 
-    pub mask_refused : (r : Refusal) → p ≡ Err r → Err r ≡ checked (mask_of k n t)
-    mask_refused r g = both_out (number_of 5 x) (mask_of (k - (i + 1)) (l - 16)) u p r e g ∙ sym word_first
+    pub mask_short : length t ≤ i → Err Form ≡ checked (mask_of k n t)
+    mask_short s = sym (c.same ∙ ap (λ j. checked (mask_of j l (drop i t))) another ∙ ap (λ u. checked (mask_of (suc (k - (i + 1))) l u)) (drop_of_length-le t {i = i} s) ∙ word_none (k - (i + 1)) l)
 
-    pub mask_passed : (o q : ℕ) → p ≡ Ok q → o ≡ l - 16 → Masked k n t (i + 1) o q
-    mask_passed o q g z =
-        let b : q ≤ length u = left_short u q (number_of 5 x u) (number_ends 5 x u) (sym g ∙ e) in
-        let y : length u ≡ m = ap length f ∙ last_length m t c.short in
-        let w : q ≤ m = omega arith in
-        let s : m ≤ length t = c.short in
-        record {
-          within = omega arith;
-          short = omega arith;
-          same = word_first ∙ sym (both_in (number_of 5 x) (mask_of (k - (i + 1)) (l - 16)) u (last_of q u) p _ q (number_ends 5 x) e g refl refl)
-              ∙ (λ j. checked (mask_of (k - (i + 1)) (sym z j) ((ap (last_of q) f ∙ last_last q m t s w) j)));
-        }
+    -- m is the limit, w the word
+    module _ (m w : ℕ) (d : m ≡ 2 ^ min l 16) (e : w ≡ get_or t i 0) (s : i < length t) where
+      here : checked (mask_of k n t) ≡ checked (mask_of (suc (k - (i + 1))) l (w ∷ drop (suc i) t))
+      here = c.same ∙ ap (λ j. checked (mask_of j l (drop i t))) another ∙ ap (λ u. checked (mask_of (suc (k - (i + 1))) l u)) (drop-cons t i 0 s ∙ ap (λ x. x ∷ drop (suc i) t) (sym e))
+
+      pub mask_over : m ≤ w → Err Reference ≡ checked (mask_of k n t)
+      mask_over o = sym (here ∙ word_over (k - (i + 1)) l w (drop (suc i) t) (rw (← d) o))
+
+      pub mask_on : (o : ℕ) → w < m → o ≡ l - 16 → Masked k n t (i + 1) o
+      mask_on o b f = record {
+        within = omega arith;
+        some = omega arith;
+        same = here ∙ word_below (k - (i + 1)) l w (drop (suc i) t) (rw (← d) b) ∙ (λ j. checked (mask_of (k - (i + 1)) (sym f j) (drop (sym (add-one i) j) t)));
+      }
 
 -- ── arguments ──
 
@@ -80,6 +79,13 @@ pub record Passed (T Γ ds t : List ℕ) (i n : ℕ) : Type 0 where
   pub within : i ≤ length ds
   pub short : n ≤ length t
   pub same : checked (arguments_of (declared T) Γ ds t) ≡ checked (arguments_of (declared T) Γ (drop i ds) (last_of n t))
+
+left_short : {A : Type 0} (u : List ℕ) (m : ℕ) (r : Read A) → Fine u r → Ok m ≡ checked r → m ≤ length u
+unfolding checked
+left_short u m (refused k) f e = absurd (let z : ◌≡◌ {A = ℕ} 0 1 = cc in omega arith)
+left_short u m (taken a v) f e =
+    let k : m ≡ length v = cc in
+    omega (arith, k, tail_short v u f)
 
 pub arguments_start : (T Γ ds t : List ℕ) → Passed T Γ ds t 0 (length t)
 arguments_start T Γ ds t = record {
@@ -115,6 +121,6 @@ module _ (T Γ ds t : List ℕ) (i n : ℕ) (c : Passed T Γ ds t i n) where
               ∙ (λ j. checked (arguments_of (declared T) Γ (drop (sym (add-one i) j) ds) ((ap (last_of m) l ∙ last_last m n t s o) j)));
         }
 
-pub ruleset a_mask = (mask_start, mask_end)
+pub ruleset a_mask = (mask_short, mask_over, mask_end)
 
 pub ruleset all_arguments = (arguments_start, arguments_all)

@@ -110,6 +110,7 @@ fn ready_word(functions: &Functions, i: usize) -> u16
 }
 
 // A store for the functions' cells. Nothing is done where there is no room for the words below the cells.
+// Stays by place: the words below the cells are a part of the store, and of a part that was lent the contract would have to make the whole again.
 pub fn lay(functions: &Functions, m: &mut [u16])
     ensures { (length m.new ≡ length m.old) × (36 ≤ length m.old → Prepared functions.now.directory.now m.old m.new functions.now.width functions.now.count functions.now.cells) }
 {

@@ -43,13 +43,6 @@ module _ (q : ℕ → Bool) where
   placed i (x ∷ xs) k =
       placed_step (q x) (eqb k 0) x i k (nth_place q (i + 1) xs (k - 1)) (nth_place q (i + 1) xs k) xs (seek q xs (k - 1)) (seek q xs k) refl (placed (i + 1) xs (k - 1)) (placed (i + 1) xs k)
 
-  within : {i size count k r : ℕ} {s : Sought} → Placed i size count k r s → i + size ≤ passed → r ≤ passed + k
-  within (here j e l f g) h = omega arith
-  within (past j e f g) h = omega arith
-
-  pub place_limit : (i : ℕ) (xs : List ℕ) (k : ℕ) → i + length xs ≤ passed → nth_place q i xs k ≤ passed + k
-  place_limit i xs k h = within (placed i xs k) h
-
 -- ── pairs ──
 
 length_either : (b : Bool) (x y : ℕ) (o u : List ℕ) → length o ≡ length u → length (cond b (x ∷ o) o) ≡ length (cond b (y ∷ u) u)

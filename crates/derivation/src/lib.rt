@@ -2,7 +2,7 @@
 // Stays: that words are at most 65,535 is a clause of each function here, for the reason in successors (docs/DESIGN-PASS.md, "A struct for words").
 #![tactic(auto)]
 
-ghost use Rattle.std.specs.Prelude.{◌≡◌, ◌+◌, ◌-◌, ◌≤◌, ◌<◌, [], ◌∷◌, length};
+ghost use Rattle.std.specs.Prelude.{◌≡◌, List, ℕ, ◌+◌, ◌-◌, ◌≤◌, ◌<◌, [], ◌∷◌, length};
 ghost use Rattle.expressions.specs.Answering.{answer};
 ghost use Rattle.derivation.specs.Derived.{passed, full, Derived, DerivedShown};
 ghost use Rattle.derivation.specs.Lending.{Kept, Over, Placed, answered, told};
@@ -315,23 +315,23 @@ impl Arrays<'_> {
         let (left, rest) = self.acts.split_at(n);
         let j = r.count;
         match locate(x, mask, left, &rest[..j], self.k) {
-            Located::Left(i) => self.derive_left_alone(t, u, i),
+            Located::Left(i) => self.derive_left_alone(t, i),
             Located::Right(j) => self.derive_right_alone(t, u, j),
             Located::Both(i, j) => self.derive_both(t, u, i, j),
-            Located::Passed(k) => {
+            Located::Passed(due) => {
                 let v = last(u, r.left);
-                self.k = k;
+                self.k = due;
                 self.passing(v.len())
             }
         }
     }
 
-    // The path of move i of all the left side's, which it makes alone.
+    // The path of move i of all the left side's, which it makes alone, whatever words u are behind it.
     #[cycle(deriving)]
-    fn derive_left_alone(&mut self, t: &[u16], u: &[u16], i: usize) -> Walked
-        requires { (length t.now ≤ 65535) × (length u.now ≤ length t.now) × (i < 131072) }
+    fn derive_left_alone(&mut self, t: &[u16], i: usize) -> Walked
+        requires { (length t.now ≤ 65535) × (i < 131072) }
         ensures kept { Kept self.old self.new }
-        ensures derived { Over (SidesDerived t.now u.now) i self.old self.new (answered self.new result) }
+        ensures derived { (u : List ℕ) → Over (SidesDerived t.now u) i self.old self.new (answered self.new result) }
     {
         self.k = i;
         let l = self.walk(t, 0);

@@ -2,12 +2,12 @@
 
 #[derive(Clone, Copy)]
 pub enum Located {
-    // The left side alone: its move's place.
+    /// The left side alone makes its move of this number.
     Left(usize),
-    // The right side alone: its move's place.
+    /// The right side alone.
     Right(usize),
-    // Both together: each side's move's place.
+    /// Both together: the left's move, the right's.
     Both(usize, usize),
-    // There is no such move: what is left of its number.
+    /// There is no move k: what is left of k.
     Passed(usize),
 }

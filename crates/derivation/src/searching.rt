@@ -8,8 +8,8 @@ use crate::located::Located;
 use actions::{in_set, join};
 
 // The place of the k-th number that passes a test, or what is left of k.
-// Stays, here and below: that a list has at most 131,072 numbers, and that k is less than that, are clauses. The lists
-// are parts of one lent array, and a struct of both sides would be made for one call of each function.
+// Stays, here and below: that a list has at most 131,072 numbers, and that k is less than that, are clauses. The lists are parts of one lent array, and a
+// struct of both sides would be made for one call of each function.
 // Stays a loop, as the next: where fewer than k numbers pass, the answer is what is left of k, which no method of an iterator answers.
 // Stays: that the closure may always be called is what every call of one asks, and no type says it.
 fn seek<F: Fn(u32) -> bool>(acts: &[u32], k: usize, test: F) -> Result<usize, usize>
@@ -37,7 +37,8 @@ fn together(x: u64, mask: u64, a: u32) -> bool
     in_set(mask, a) && !in_set(x, a)
 }
 
-// The k-th pair of a number on the left with an equal one on the right, of those that both sides make together: both places.
+// The k-th pair of a number on the left with an equal one on the right, of those that both sides make together: both places, or what is
+// left of k.
 // Stays beside listing's put_pairs, which writes each pair: one function for both would be lent a closure that may write and may stop, and its contract would
 // say of any closure what it did at each pair before.
 fn seek_pair(
@@ -63,7 +64,8 @@ fn seek_pair(
     Err(due)
 }
 
-// The sides of move k, of those that show below masks with the labels of x, of a parallel with these numbers of moves on either side.
+// The sides of move k, of those that show below masks with the labels of x, of a parallel with these numbers of moves on either
+// side; or what is left of k.
 pub fn locate(x: u64, mask: u64, left: &[u32], right: &[u32], k: usize) -> Located
     requires { (length left.now ≤ 131072) × (length right.now ≤ 131072) × (k < 131072) }
     ensures located { LocatedBy x mask left.now right.now k (sides_told result) }

@@ -90,6 +90,7 @@ fn counted(tally: Tally, done: Option<Done>) -> Tally
 }
 
 // From the term in the first n words of ws and the cells in the store, by all numbers of the list; an odd last byte is ignored.
+// Stays by number, here and in shared.rt: the contract has the list as words (`words_in`), and pairs of bytes would have to be made into those.
 // Stays: the term is the first n words of ws, here and in shared.rt: it grows and shrinks within one array of a fixed size, since there is no heap. A struct
 // of both would be lent, and each contract would have to say too that its array stays the same (`ghost_name`), as `SameArrays` does of a `Scratch`.
 pub fn run_moves(

@@ -47,6 +47,7 @@ fn action_number(t: &[u16]) -> usize
 // struct for it would cost what one for words costs (docs/DESIGN-PASS.md, "A struct for words").
 impl Writer<'_> {
     // Done, with an action's number; the words left of the path are the answer.
+    // Stays written out, here and below: where two words are put, one test says that there is room for both; a function for one word would test at each.
     fn put_done(&mut self, left: usize, action: usize) -> Option<usize>
         requires { (left ≤ 65535) × (action < 1048576) }
         ensures kept { Kept self.old self.new result }

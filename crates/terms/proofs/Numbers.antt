@@ -1,7 +1,7 @@
 -- Answers made of answers: what the functions on numbers return, and that what they pack fits. The premises have the form of what the code has
 -- there, so that `search` finds them.
 -- Document 01, "Unfolding, size and breadth"; refusal 10.
-use Prim.Native.Nat.{ℕ, zero, suc, ◌-◌, ◌/◌, ◌%◌, ◌≤◌}
+use Prim.Native.Nat.{ℕ, zero, suc, ◌-◌, ◌%◌, ◌≤◌}
 use native.Mathlib.Omega.{arith}
 use mathlib.Core.Path.{◌≡◌, ap, ◌∙◌}
 use mathlib.Core.Bool.{Bool, true, false}
@@ -11,9 +11,6 @@ use Rattle.weights.specs.Weighing.{cap, measure, parallel_by, joint_of, stars_of
 use Rattle.weights.specs.declared.Joint.{Joint}
 use Rattle.weights.specs.declared.Joint.TheVariants.{Sequence, Choice, Parallel}
 use Rattle.terms.specs.Answers.{packed, unpacked, Answer, Packs, Operands, Operand, joined_of, guarded_of, starred_of}
-
-pub weigh_in : (n p g b : ℕ) → g ≡ p / 65536 % 131072 → b ≡ p / 8589934592 → ◌≡◌ {A = Measure} (record { size = n; reach = g; breadth = b }) (unpacked n p)
-weigh_in n p g b e f = λ j. record { size = n; reach = e j; breadth = f j }
 
 -- ── two operands ──
 

@@ -1,9 +1,6 @@
-use Rattle.scan.specs.ReadingLaws.{handed_err}
-use Rattle.arguments.proofs.Rounds.{mask_refused, mask_passed}
+use mathlib.Core.Path.{refl}
+use Rattle.arguments.proofs.Rounds.{mask_on}
 use Rattle.arguments.proofs.check_mask.Goals as goal
 
-pub loop-preserved : goal.loop-preserved
-loop-preserved c = mask_passed _ _ _ _ _ _ c.loop.invariant _ _ _ c.loop-test.true c.mask_limit.ensures c.last.ensures c.number.ensures _ _ c.in_ok-left.was c.saturating_sub-labels.ensures
-
-pub returns-in_err-left : goal.returns-in_err-left
-returns-in_err-left c = rw (handed_err _ _ c.from_residual.ensures) (mask_refused _ _ _ _ _ _ c.loop.invariant _ _ _ c.loop-test.true c.mask_limit.ensures c.last.ensures c.number.ensures _ c.in_err-left.was)
+pub loop-i-preserved : goal.loop-i-preserved
+loop-i-preserved c = mask_on _ _ _ _ _ c.loop-i.invariant c.loop-i-test.true _ _ c.mask_limit.ensures refl c.if-t-i.false _ c.if-mask_limit-t.false c.saturating_sub-left.ensures

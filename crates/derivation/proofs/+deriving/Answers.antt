@@ -54,6 +54,12 @@ arrays::Arrays::derive_left-returns-in-Found-clause-derived t c = left_found _ _
 pub arrays::Arrays::derive_left-returns-in-Passed-clause-derived : goal.arrays::Arrays::derive_left-returns-in-Passed-clause-derived
 arrays::Arrays::derive_left-returns-in-Passed-clause-derived t c = operands_path c.passing.ensures.path (left_passed _ _ _ _ _ _ _ _ c.walk-l.ensures.derived _ _ _ (passed_high c.walk-l.new.self _ c.in-Passed.is) (passed_few c.walk-l.new.self _ c.in-Passed.is) c.requires c.args.self.now.due (last_is c.walk-l.new.self _ c.in-Passed.is _ c.last.ensures) c.skip.ensures (rest_is c.walk-l.new.self _ c.in-Passed.is _ c.passing.ensures.passed.0))
 
+pub arrays::Arrays::derive_left_alone-returns-in-Found-clause-derived : goal.arrays::Arrays::derive_left_alone-returns-in-Found-clause-derived
+arrays::Arrays::derive_left_alone-returns-in-Found-clause-derived t c = λ u. sides_left_made _ _ _ _ _ _ _ _ c.walk-l.ensures.kept.path_length c.walk-l.ensures.derived (omega (arith, c.requires)) (found_low c.walk-l.new.self _ c.in-Found.is) _ _ c.decide.ensures.decided
+
+pub arrays::Arrays::derive_left_alone-returns-in_default : goal.arrays::Arrays::derive_left_alone-returns-in_default
+arrays::Arrays::derive_left_alone-returns-in_default t c = let k = c.walk-l.ensures.kept in record { kept = record { store = k.store; path = k.path; acts = k.acts; path_length = k.path_length; acts_length = k.acts_length }; derived = λ u. sides_none_left _ _ _ _ _ _ _ _ c.walk-l.ensures.kept.path_length c.walk-l.ensures.derived (omega (arith, c.requires)) (other_high c.walk-l.new.self _ (search rules)) }
+
 pub arrays::Arrays::derive_listed-list-requires-2 : goal.arrays::Arrays::derive_listed-list-requires-2
 arrays::Arrays::derive_listed-list-requires-2 t c = omega (arith, last_len _ _ _ c.last-u.ensures)
 
@@ -64,10 +70,10 @@ pub arrays::Arrays::derive_listed-passing-requires : goal.arrays::Arrays::derive
 arrays::Arrays::derive_listed-passing-requires t c = omega (arith, last_len _ _ _ c.last-v.ensures, last_len _ _ _ c.last-u.ensures)
 
 pub arrays::Arrays::derive_listed-returns-in-Passed-clause-derived : goal.arrays::Arrays::derive_listed-returns-in-Passed-clause-derived
-arrays::Arrays::derive_listed-returns-in-Passed-clause-derived t c = operands_path c.passing.ensures.path (listed_none _ _ _ _ _ c.in-Some.ensures c.requires _ _ _ c.last-u.ensures c.in-Some-list.ensures _ refl _ _ c.split_at.ensures.front c.split_at.ensures.back _ _ _ _ _ c.in-Passed.ensures.located c.args.self.now.due (omega arith) _ _ c.last-v.ensures (told_left _ (length c.last-v.result.now) c.in-Passed.k c.passing.ensures.passed.0))
+arrays::Arrays::derive_listed-returns-in-Passed-clause-derived t c = operands_path c.passing.ensures.path (listed_none _ _ _ _ _ c.in-Some.ensures c.requires _ _ _ c.last-u.ensures c.in-Some-list.ensures _ refl _ _ c.split_at.ensures.front c.split_at.ensures.back _ _ _ _ _ c.in-Passed.ensures.located c.args.self.now.due (omega arith) _ _ c.last-v.ensures (told_left _ (length c.last-v.result.now) c.in-Passed.due c.passing.ensures.passed.0))
 
 pub arrays::Arrays::derive_listed-derive_left_alone-requires : goal.arrays::Arrays::derive_listed-derive_left_alone-requires
-arrays::Arrays::derive_listed-derive_left_alone-requires t c = (omega arith, (omega arith, last_len _ _ _ c.last-u.ensures, c.in-Left.ensures.within))
+arrays::Arrays::derive_listed-derive_left_alone-requires t c = (omega arith, (omega arith, c.in-Left.ensures.within))
 
 pub arrays::Arrays::derive_listed-derive_right_alone-requires : goal.arrays::Arrays::derive_listed-derive_right_alone-requires
 arrays::Arrays::derive_listed-derive_right_alone-requires t c = (omega arith, (omega arith, last_len _ _ _ c.last-u.ensures, c.in-Right.ensures.within))
@@ -76,7 +82,7 @@ pub arrays::Arrays::derive_listed-derive_both-requires : goal.arrays::Arrays::de
 arrays::Arrays::derive_listed-derive_both-requires t c = (omega arith, (omega arith, last_len _ _ _ c.last-u.ensures, c.in-Both.ensures.within.0, c.in-Both.ensures.within.1))
 
 pub arrays::Arrays::derive_listed-returns-in-Left-clause-derived : goal.arrays::Arrays::derive_listed-returns-in-Left-clause-derived
-arrays::Arrays::derive_listed-returns-in-Left-clause-derived t c = listed_sides _ _ _ _ _ c.in-Some.ensures c.requires _ _ _ c.last-u.ensures c.in-Some-list.ensures _ refl _ _ c.split_at.ensures.front c.split_at.ensures.back _ _ _ _ _ c.in-Left.ensures.located c.args.self.now.due (omega (arith, c.in-Left.ensures.within)) c.args.self.now.few.0 _ _ _ (omega (arith, whole_length _ _ _ _ _ c.in-Some.ensures c.requires _ _ _ c.last-u.ensures c.in-Some-list.ensures)) c.derive_left_alone.ensures.derived
+arrays::Arrays::derive_listed-returns-in-Left-clause-derived t c = listed_sides _ _ _ _ _ c.in-Some.ensures c.requires _ _ _ c.last-u.ensures c.in-Some-list.ensures _ refl _ _ c.split_at.ensures.front c.split_at.ensures.back _ _ _ _ _ c.in-Left.ensures.located c.args.self.now.due (omega (arith, c.in-Left.ensures.within)) c.args.self.now.few.0 _ _ _ (omega (arith, whole_length _ _ _ _ _ c.in-Some.ensures c.requires _ _ _ c.last-u.ensures c.in-Some-list.ensures)) (c.derive_left_alone.ensures.derived _)
 
 pub arrays::Arrays::derive_listed-returns-in-Right-clause-derived : goal.arrays::Arrays::derive_listed-returns-in-Right-clause-derived
 arrays::Arrays::derive_listed-returns-in-Right-clause-derived t c = listed_sides _ _ _ _ _ c.in-Some.ensures c.requires _ _ _ c.last-u.ensures c.in-Some-list.ensures _ refl _ _ c.split_at.ensures.front c.split_at.ensures.back _ _ _ _ _ c.in-Right.ensures.located c.args.self.now.due (omega (arith, c.in-Right.ensures.within)) c.args.self.now.few.0 _ _ _ (omega (arith, whole_length _ _ _ _ _ c.in-Some.ensures c.requires _ _ _ c.last-u.ensures c.in-Some-list.ensures)) c.derive_right_alone.ensures.derived
@@ -114,6 +120,12 @@ arrays::Arrays::derive_right-size_before-requires t c = (c.requires, last_len _ 
 pub arrays::Arrays::derive_right-returns-clause-derived : goal.arrays::Arrays::derive_right-returns-clause-derived
 arrays::Arrays::derive_right-returns-clause-derived t c = right_derived _ _ _ _ _ _ _ _ _ _ _ _ c.skip.ensures c.last-u.ensures c.walk-r.ensures.derived c.walk-r.ensures.kept.path_length (sized c.size_before.ensures c.decide_right.ensures.decided)
 
+pub arrays::Arrays::derive_right_alone-returns-in-Found-clause-derived : goal.arrays::Arrays::derive_right_alone-returns-in-Found-clause-derived
+arrays::Arrays::derive_right_alone-returns-in-Found-clause-derived t c = sides_right_made _ _ _ _ _ _ _ _ c.walk-r.ensures.kept.path_length (at_place c.walk-r.ensures.derived) (omega arith) (omega (arith, c.requires)) (found_low c.walk-r.new.self _ c.in-Found.is) _ _ (sized c.size_before.ensures c.decide_right.ensures.decided)
+
+pub arrays::Arrays::derive_right_alone-returns-in_default : goal.arrays::Arrays::derive_right_alone-returns-in_default
+arrays::Arrays::derive_right_alone-returns-in_default t c = let k = c.walk-r.ensures.kept in record { kept = record { store = k.store; path = k.path; acts = k.acts; path_length = k.path_length; acts_length = k.acts_length }; derived = sides_none_right _ _ _ _ _ _ _ _ c.walk-r.ensures.kept.path_length (at_place c.walk-r.ensures.derived) (omega arith) (omega (arith, c.requires)) (other_high c.walk-r.new.self _ (search rules)) }
+
 pub arrays::Arrays::derive_sequence-returns-then-first-eq-DONE-clause-derived : goal.arrays::Arrays::derive_sequence-returns-then-first-eq-DONE-clause-derived
 arrays::Arrays::derive_sequence-returns-then-first-eq-DONE-clause-derived t c = sequence_right _ _ _ _ _ _ _ _ _ (sym c.first.ensures.0 ∙ c.if-first-eq-DONE.true) c.behind.ensures c.walk.ensures.derived
 
@@ -131,18 +143,6 @@ arrays::Arrays::derive_sequence-returns-in-Full-clause-derived t c = sequence_lo
 
 pub arrays::Arrays::derive_sequence-returns-in-Passed-clause-derived : goal.arrays::Arrays::derive_sequence-returns-in-Passed-clause-derived
 arrays::Arrays::derive_sequence-returns-in-Passed-clause-derived t c = derived_path c.passing.ensures.path (sequence_passed _ _ _ _ _ _ _ _ c.walk-l.ensures.derived (λ e. c.if-first-eq-DONE.false (c.first.ensures.0 ∙ e)) _ _ _ (passed_high c.walk-l.new.self _ c.in-Passed.is) (passed_few c.walk-l.new.self _ c.in-Passed.is) c.requires c.args.self.now.due (last_is c.walk-l.new.self _ c.in-Passed.is _ c.last.ensures) c.skip.ensures.0 c.skip.ensures.1 (rest_is c.walk-l.new.self _ c.in-Passed.is _ c.passing.ensures.passed.0))
-
-pub arrays::Arrays::derive_left_alone-returns-in-Found-clause-derived : goal.arrays::Arrays::derive_left_alone-returns-in-Found-clause-derived
-arrays::Arrays::derive_left_alone-returns-in-Found-clause-derived t c = sides_left_made _ _ _ _ _ _ _ _ c.walk-l.ensures.kept.path_length c.walk-l.ensures.derived (omega (arith, c.requires)) (found_low c.walk-l.new.self _ c.in-Found.is) _ _ c.decide.ensures.decided
-
-pub arrays::Arrays::derive_left_alone-returns-in_default : goal.arrays::Arrays::derive_left_alone-returns-in_default
-arrays::Arrays::derive_left_alone-returns-in_default t c = let k = c.walk-l.ensures.kept in record { kept = record { store = k.store; path = k.path; acts = k.acts; path_length = k.path_length; acts_length = k.acts_length }; derived = sides_none_left _ _ _ _ _ _ _ _ c.walk-l.ensures.kept.path_length c.walk-l.ensures.derived (omega (arith, c.requires)) (other_high c.walk-l.new.self _ (search rules)) }
-
-pub arrays::Arrays::derive_right_alone-returns-in-Found-clause-derived : goal.arrays::Arrays::derive_right_alone-returns-in-Found-clause-derived
-arrays::Arrays::derive_right_alone-returns-in-Found-clause-derived t c = sides_right_made _ _ _ _ _ _ _ _ c.walk-r.ensures.kept.path_length (at_place c.walk-r.ensures.derived) (omega arith) (omega (arith, c.requires)) (found_low c.walk-r.new.self _ c.in-Found.is) _ _ (sized c.size_before.ensures c.decide_right.ensures.decided)
-
-pub arrays::Arrays::derive_right_alone-returns-in_default : goal.arrays::Arrays::derive_right_alone-returns-in_default
-arrays::Arrays::derive_right_alone-returns-in_default t c = let k = c.walk-r.ensures.kept in record { kept = record { store = k.store; path = k.path; acts = k.acts; path_length = k.path_length; acts_length = k.acts_length }; derived = sides_none_right _ _ _ _ _ _ _ _ c.walk-r.ensures.kept.path_length (at_place c.walk-r.ensures.derived) (omega arith) (omega (arith, c.requires)) (other_high c.walk-r.new.self _ (search rules)) }
 
 pub arrays::Arrays::derive_star-returns-then-self-eq0-clause-derived : goal.arrays::Arrays::derive_star-returns-then-self-eq0-clause-derived
 arrays::Arrays::derive_star-returns-then-self-eq0-clause-derived t c = star_end _ _ _ _ _ _ _ _ c.requires c.args.self.now.few.0 c.if-self-eq0.true c.decide.ensures.decided

@@ -2,7 +2,6 @@
 -- The measures of the cycle: eight times the words of the term at hand, with a part above what it calls on the same words; and the contracts that each
 -- member reads.
 use lib.ListN.{length}
-use lib.ListN.{length}
 use Prim.Native.Nat.{◌+◌, ◌*◌}
 use Rattle.derivation.proofs.+deriving.Given as goal
 
@@ -14,6 +13,9 @@ decreases-arrays::Arrays::derive_guard l = 8 * length l.t.now + 1
 
 abbrev pub decreases-arrays::Arrays::derive_left : goal.decreases-arrays::Arrays::derive_left
 decreases-arrays::Arrays::derive_left l = 8 * length l.t.now + 1
+
+abbrev pub decreases-arrays::Arrays::derive_left_alone : goal.decreases-arrays::Arrays::derive_left_alone
+decreases-arrays::Arrays::derive_left_alone l = 8 * length l.t.now + 3
 
 abbrev pub decreases-arrays::Arrays::derive_listed : goal.decreases-arrays::Arrays::derive_listed
 decreases-arrays::Arrays::derive_listed l = 8 * length l.t.now + 4
@@ -27,14 +29,11 @@ decreases-arrays::Arrays::derive_parallel l = 8 * length l.d.now + 6
 abbrev pub decreases-arrays::Arrays::derive_right : goal.decreases-arrays::Arrays::derive_right
 decreases-arrays::Arrays::derive_right l = 8 * length l.t.now + 1
 
-abbrev pub decreases-arrays::Arrays::derive_sequence : goal.decreases-arrays::Arrays::derive_sequence
-decreases-arrays::Arrays::derive_sequence l = 8 * length l.t.now + 1
-
-abbrev pub decreases-arrays::Arrays::derive_left_alone : goal.decreases-arrays::Arrays::derive_left_alone
-decreases-arrays::Arrays::derive_left_alone l = 8 * length l.t.now + 3
-
 abbrev pub decreases-arrays::Arrays::derive_right_alone : goal.decreases-arrays::Arrays::derive_right_alone
 decreases-arrays::Arrays::derive_right_alone l = 8 * length l.t.now + 3
+
+abbrev pub decreases-arrays::Arrays::derive_sequence : goal.decreases-arrays::Arrays::derive_sequence
+decreases-arrays::Arrays::derive_sequence l = 8 * length l.t.now + 1
 
 abbrev pub decreases-arrays::Arrays::derive_star : goal.decreases-arrays::Arrays::derive_star
 decreases-arrays::Arrays::derive_star l = 8 * length l.t.now + 1
