@@ -10,7 +10,7 @@
  *     eb3_count      how many moves are there now?
  *     eb3_move       makes move number k: writes the next term and the next memory
  *     eb3_present    makes the first move that is a given event
- *     eb3_run        makes a whole list of moves from the start
+ *     eb3_run        makes a whole list of moves from the start, and counts them by card reader
  *
  * What the host owes
  *   Slices      A slice is a pointer and its length in bytes. All its bytes are there, and nobody
@@ -29,18 +29,19 @@
  *
  * What the host may count on
  *   State       No call keeps anything or trusts an earlier one: each reads the rule set anew. So
- *               threads may call at the same time, each with slices of its own to write to; and the
- *               rules, the term, its size and the memory are all that must outlive a power cut.
+ *               threads may call at the same time, each with slices of its own to write to, a table
+ *               of its own too; and the rules, the term, its size and the memory are all that must
+ *               outlive a power cut, and a table whose counts are to go on.
  *   Answers     `refusal` is EB3_DONE, or the number of a refusal: then the other fields are 0 and
- *               no slice was written, the spare ones of eb3_run included.
+ *               no slice was written, the table and the spare ones of eb3_run included.
  *   Room        Buffers of the sizes that eb3_admit reports are enough for every term and memory
  *               that moves lead to from the start: no move enlarges what a term needs. So a host
  *               that starts, and then moves in two pairs of such buffers by turns, meets no
  *               refusal but EB3_REFUSED_NOT_OFFERED, and comes to what eb3_run leaves (proved:
  *               docs/PROMISES.md).
- *   Bytes       Words and cells are 16 bits, the low byte first. Bytes behind what an operation
- *               writes keep their values. An odd last byte is ignored and kept; only a given term
- *               or event is refused for having one.
+ *   Bytes       Words and cells are 16 bits, counts in a table 32, the low byte first. Bytes after
+ *               what an operation writes keep their values. An odd last byte is ignored and kept;
+ *               only a given term or event is refused for having one.
  */
 #ifndef EB3_H
 #define EB3_H
@@ -79,23 +80,31 @@ extern "C" {
 #define EB3_EVENT_CONSTANT 1
 #define EB3_MAX_EVENT_BYTES 12
 
-/* Refusals. They are tested in the order 1 to 8, 10, 11, 9, 12, and the first that applies is
- * answered; of 4, 5 and 6 the one at the first wrong word of the rules, and at one word 4 before 5
- * before 6. Each operation says below which of them it can answer. */
+/* Card readers have the numbers 1 to EB3_READERS. A table for eb3_run has a record for each, 12
+ * bytes long, reader 1's first: how many of the reader's numbers made an event, made an internal
+ * move, and were refused. Three counts of 32 bits in this order: of reader r they begin
+ * at the bytes 12 * (r - 1), 12 * (r - 1) + 4 and 12 * (r - 1) + 8. */
+#define EB3_READERS 32
+#define EB3_TABLE_BYTES (12 * EB3_READERS)
+
+/* Refusals. They are tested in the order 1 to 8, 10, 11, 9, 12, in eb3_run 13 after 9, and the
+ * first that applies is answered; of 4, 5 and 6 the one at the first wrong word of the rules, and
+ * at one word 4 before 5 before 6. Each operation says below which of them it can answer. */
 enum eb3_refusal {
-    EB3_DONE = 0,                /* not refused */
-    EB3_REFUSED_LENGTH = 1,      /* the rules are not 1 to 64 whole blocks */
-    EB3_REFUSED_BLOCK = 2,       /* a block's number or sum is wrong */
-    EB3_REFUSED_EDITION = 3,     /* word 0 is not 1, or word 1 is not the number of blocks */
-    EB3_REFUSED_FORM = 4,        /* a count, size, code or constant out of range, or a wrong end */
-    EB3_REFUSED_REFERENCE = 5,   /* a number or mask bit not defined, or not allowed there */
-    EB3_REFUSED_KIND = 6,        /* an argument's domain or constant does not fit */
-    EB3_REFUSED_SIZE = 7,        /* the reach is above 8,192 words */
-    EB3_REFUSED_BREADTH = 8,     /* the breadth is above 65,535 moves */
-    EB3_REFUSED_SPACE = 9,       /* a buffer is too small */
-    EB3_REFUSED_TERM = 10,       /* not exactly one running term of the rules, within 7 and 8 */
-    EB3_REFUSED_STRANGER = 11,   /* not exactly one event of the rules */
-    EB3_REFUSED_NOT_OFFERED = 12 /* there is no such move now */
+    EB3_DONE = 0,                 /* not refused */
+    EB3_REFUSED_LENGTH = 1,       /* the rules are not 1 to 64 whole blocks */
+    EB3_REFUSED_BLOCK = 2,        /* a block's number or sum is wrong */
+    EB3_REFUSED_EDITION = 3,      /* word 0 is not 1, or word 1 is not the number of blocks */
+    EB3_REFUSED_FORM = 4,         /* a count, size, code or constant out of range, or a wrong end */
+    EB3_REFUSED_REFERENCE = 5,    /* a number or mask bit not defined, or not allowed there */
+    EB3_REFUSED_KIND = 6,         /* an argument's domain or constant does not fit */
+    EB3_REFUSED_SIZE = 7,         /* the reach is above 8,192 words */
+    EB3_REFUSED_BREADTH = 8,      /* the breadth is above 65,535 moves */
+    EB3_REFUSED_SPACE = 9,        /* a buffer is too small */
+    EB3_REFUSED_TERM = 10,        /* not exactly one running term of the rules, within 7 and 8 */
+    EB3_REFUSED_STRANGER = 11,    /* not exactly one event of the rules */
+    EB3_REFUSED_NOT_OFFERED = 12, /* there is no such move now */
+    EB3_REFUSED_READER = 13       /* a reader missing or not 1 to 32, or a table below 32 records */
 };
 
 typedef struct {
@@ -128,10 +137,10 @@ typedef struct {
 
 typedef struct {
     uint32_t refusal;
-    uint32_t size;     /* words of the last term */
+    uint64_t size;     /* words of the last term: at most 8,192, in 64 bits as the counts are */
     uint64_t visible;  /* how many numbers made an event, */
     uint64_t internal; /* made an internal move, */
-    uint64_t refused;  /* were those of no move: their sum is the length of the list */
+    uint64_t refused;  /* were refused: the sum of the three is how many numbers the list has */
 } eb3_ran;
 
 /* Admit. Reads the rules, writes nothing, answers their sizes. Refusals 1 to 8. */
@@ -173,14 +182,21 @@ eb3_moved eb3_present(const uint8_t *rules, size_t rules_len,
                       uint8_t *next_term, size_t next_term_len,
                       uint8_t *next_memory, size_t next_memory_len);
 
-/* Run. `numbers` is a list of move numbers, one word each and as many as you like; they are made
- * in order, from the start. A number that is not below the count changes nothing and is counted in
- * `refused`. Writes the last term to the front of `term`, with zeros from its size up to the
- * reported reach, and all cells to the front of `memory`. `spare_term` and `spare_memory` are
- * scratch: their words may be anything afterwards. All four have room for the reported reach and cells,
- * else refusal 9. Refusals 1 to 8, 9. */
+/* Run. `list` has two words for each move that is asked for, as many as you like: the move's
+ * number and its card reader. The moves are made in order, from the start. A number that is not
+ * below the count changes nothing and is counted in `refused`. Writes the last term to the front
+ * of `term`, with zeros from its size up to the reported reach, and all cells to the front of
+ * `memory`. Adds to each reader's record in `table`, which may hold anything before, what was
+ * counted at that reader's numbers; a count that passes 4,294,967,295 goes on from 0. Bytes after
+ * the records of all readers keep their values. `spare_term` and `spare_memory` are scratch: their
+ * words may be anything afterwards. The terms and memories, all four, have room for the reported
+ * reach and cells, else refusal 9. A number without a reader or with one that is not 1 to
+ * EB3_READERS, anywhere in the list, or a table below EB3_TABLE_BYTES is refusal 13, before any
+ * move is made. So a list of 4n bytes, or of 4n + 1, has n numbers, and one of 4n + 2 or 4n + 3
+ * bytes is refused. Refusals 1 to 8, 9, 13. */
 eb3_ran eb3_run(const uint8_t *rules, size_t rules_len,
-                const uint8_t *numbers, size_t numbers_len,
+                const uint8_t *list, size_t list_len,
+                uint8_t *table, size_t table_len,
                 uint8_t *term, size_t term_len,
                 uint8_t *memory, size_t memory_len,
                 uint8_t *spare_term, size_t spare_term_len,

@@ -4,12 +4,15 @@
  *
  * There are two terms and two memories. The engine reads the current pair and writes the other, and
  * a move that was made swaps the two by their index: nothing is copied, and a refused move leaves
- * the state as it was. The buffers and the functions under "the engine" are what a controller needs
- * of this; the rest reads commands and prints.
+ * the state as it was. What is asked for is noted, each move with its card reader; at the end the
+ * engine runs it all once more, for the table that says which reader collects the refusals. The
+ * buffers and the functions under "the engine" are what a controller needs of this; the rest, with
+ * input.c, reads commands and prints.
  */
 #define _POSIX_C_SOURCE 200112L
 
 #include "eb3.h"
+#include "input.h"
 
 #include <errno.h>
 #include <inttypes.h>
@@ -21,11 +24,6 @@
 /* The engine's stack, and some for the functions here and in the C library. */
 #define HOST_STACK_BYTES 131072
 #define STACK_BYTES (EB3_STACK_BYTES + HOST_STACK_BYTES)
-
-/* The longest command, `present` with a label and two arguments, has four words; a fifth shows one
- * too many. */
-#define LINE_BYTES 128
-#define LINE_WORDS 5
 
 /* What the program exits with. */
 enum status {
@@ -42,12 +40,20 @@ static uint8_t rules[EB3_MAX_RULES_BYTES + 1];
 static uint8_t terms[2][EB3_MAX_TERM_BYTES];
 static uint8_t memories[2][EB3_MAX_MEMORY_BYTES];
 
+/* What was asked for, as eb3_run takes it: two words each, a move's number and its reader. Where no
+ * more can be noted, the session ends. */
+#define MOST_ASKED 4096
+static uint8_t asked[MOST_ASKED * 2 * sizeof(uint16_t)];
+static uint8_t table[EB3_TABLE_BYTES];
+
 struct cabinet {
     const char *path;
     size_t rules_len;
     size_t term_len; /* of the current term, in bytes */
     uint32_t cells;
     unsigned current; /* 0 or 1: which term and memory are the state; the others are free */
+    unsigned reader;  /* at which moves are asked for now */
+    size_t asked_len; /* of what was asked for, in bytes */
     int status;
 };
 
@@ -90,6 +96,39 @@ static void settle(struct cabinet *cabinet, uint32_t size)
     cabinet->term_len = EB3_TERM_BYTES(size);
 }
 
+/* The whole session once more, from the start. It ends in the free pair and has the current one for
+ * scratch, so nothing can be moved afterwards. */
+static eb3_ran run(const struct cabinet *cabinet)
+{
+    unsigned now = cabinet->current, next = 1 - now;
+    return eb3_run(rules, cabinet->rules_len, asked, cabinet->asked_len, table, sizeof table,
+                   terms[next], sizeof terms[next], memories[next], sizeof memories[next],
+                   terms[now], sizeof terms[now], memories[now], sizeof memories[now]);
+}
+
+/* No term has a move 65535: it is noted for every larger number, and for a refused event. */
+static void note(struct cabinet *cabinet, uint64_t number)
+{
+    uint64_t word = number < UINT16_MAX ? number : UINT16_MAX;
+    cabinet->asked_len = put_word(asked, cabinet->asked_len, word);
+    cabinet->asked_len = put_word(asked, cabinet->asked_len, cabinet->reader);
+}
+
+/* The number of the move that eb3_present made, for the list of a run: the first with its action.
+ * That move is made last here, so the free pair holds what eb3_present left there. */
+static uint64_t number_of(const struct cabinet *cabinet, eb3_moved made)
+{
+    if (made.refusal != EB3_DONE)
+        return UINT16_MAX;
+    for (uint64_t number = 0;; number++) {
+        eb3_moved other = move(cabinet, number);
+        if (other.refusal != EB3_DONE
+            || (other.visible == made.visible && other.label == made.label
+                && other.first == made.first && other.second == made.second))
+            return number;
+    }
+}
+
 /* ---- printing ---- */
 
 static const char *refusal_in_words(uint32_t refusal)
@@ -107,7 +146,8 @@ static const char *refusal_in_words(uint32_t refusal)
         "space: a buffer is too small",
         "term: the term kept here is none of this rule set",
         "stranger: this rule set has no such event",
-        "not offered: there is no such move now"
+        "not offered: there is no such move now",
+        "reader: a reader is missing or not 1 to 32, or the table is too small"
     };
     return refusal < sizeof words / sizeof words[0] ? words[refusal] : "unknown";
 }
@@ -141,54 +181,12 @@ static void print_help(void)
            "take N                   make move N\n"
            "present LABEL [ARG..]    make the first move that is this event\n"
            "present i                make the first internal move\n"
+           "reader N                 ask at card reader N from now on, 1 to 32\n"
            "cells                    the memory, - where undefined\n"
            "quit                     end\n"
            "refusals\n");
-    for (uint32_t refusal = EB3_REFUSED_LENGTH; refusal <= EB3_REFUSED_NOT_OFFERED; refusal++)
+    for (uint32_t refusal = EB3_REFUSED_LENGTH; refusal <= EB3_REFUSED_READER; refusal++)
         printf("%8" PRIu32 "  %s\n", refusal, refusal_in_words(refusal));
-}
-
-/* ---- the words of a command ---- */
-
-/* Digits only, and no more than the limit, which is at least 9. */
-static bool read_number(const char *word, uint64_t limit, uint64_t *number)
-{
-    uint64_t sum = 0;
-    for (; *word != '\0'; word++) {
-        if (*word < '0' || *word > '9')
-            return false;
-        uint64_t digit = (uint64_t)(*word - '0');
-        if (sum > (limit - digit) / 10)
-            return false;
-        sum = sum * 10 + digit;
-    }
-    *number = sum;
-    return true;
-}
-
-/* Appends a word, the low byte first; answers the new length. */
-static size_t put_word(uint8_t *event, size_t length, uint64_t word)
-{
-    event[length] = (uint8_t)(word & 0xFF);
-    event[length + 1] = (uint8_t)(word >> 8 & 0xFF);
-    return length + 2;
-}
-
-/* The event that one to three words name: its length in bytes, or 0 where they are no numbers. */
-static size_t read_event(char *const words[], size_t used, uint8_t event[EB3_MAX_EVENT_BYTES])
-{
-    if (used == 1 && strcmp(words[0], "i") == 0)
-        return put_word(event, 0, EB3_EVENT_INTERNAL);
-    size_t length = put_word(event, 0, EB3_EVENT_ACTION);
-    for (size_t i = 0; i < used; i++) {
-        uint64_t number;
-        if (!read_number(words[i], UINT16_MAX, &number))
-            return 0;
-        if (i > 0)
-            length = put_word(event, length, EB3_EVENT_CONSTANT);
-        length = put_word(event, length, number);
-    }
-    return length;
 }
 
 /* ---- commands ---- */
@@ -221,8 +219,32 @@ static void print_cells(const struct cabinet *cabinet)
     printf("\n");
 }
 
-static void conclude(struct cabinet *cabinet, eb3_moved made)
+static uint32_t read_count(const uint8_t *bytes)
 {
+    return bytes[0] + 256u * bytes[1] + 65536u * bytes[2] + 16777216u * bytes[3];
+}
+
+/* The counts of each reader at which something was asked for. */
+static void print_readers(const struct cabinet *cabinet)
+{
+    eb3_ran ran = run(cabinet);
+    if (ran.refusal != EB3_DONE) {
+        print_refusal(stdout, ran.refusal);
+        return;
+    }
+    for (unsigned reader = 1; reader <= EB3_READERS; reader++) {
+        const uint8_t *record = table + EB3_TABLE_BYTES / EB3_READERS * (reader - 1);
+        uint32_t visible = read_count(record), internal = read_count(record + 4);
+        uint32_t refused = read_count(record + 8);
+        if (visible > 0 || internal > 0 || refused > 0)
+            printf("reader %u: %" PRIu32 " visible, %" PRIu32 " internal, %" PRIu32 " refused\n",
+                   reader, visible, internal, refused);
+    }
+}
+
+static void conclude(struct cabinet *cabinet, uint64_t number, eb3_moved made)
+{
+    note(cabinet, number);
     if (made.refusal == EB3_DONE) {
         settle(cabinet, made.size);
         printf("made ");
@@ -243,13 +265,20 @@ static bool obey(struct cabinet *cabinet, char *const words[], size_t used)
         uint64_t number;
         if (!read_number(words[1], UINT64_MAX, &number))
             return false;
-        conclude(cabinet, move(cabinet, number));
+        conclude(cabinet, number, move(cabinet, number));
     } else if (used >= 2 && used <= 4 && strcmp(words[0], "present") == 0) {
         uint8_t event[EB3_MAX_EVENT_BYTES];
         size_t length = read_event(words + 1, used - 1, event);
         if (length == 0)
             return false;
-        conclude(cabinet, present(cabinet, event, length));
+        eb3_moved made = present(cabinet, event, length);
+        conclude(cabinet, number_of(cabinet, made), made);
+    } else if (used == 2 && strcmp(words[0], "reader") == 0) {
+        uint64_t reader;
+        if (!read_number(words[1], EB3_READERS, &reader) || reader == 0)
+            return false;
+        cabinet->reader = (unsigned)reader;
+        printf("reader %u\n", cabinet->reader);
     } else {
         return false;
     }
@@ -258,45 +287,11 @@ static bool obey(struct cabinet *cabinet, char *const words[], size_t used)
 
 /* ---- the session ---- */
 
-/* One line without its end; false where the input has ended. Of a line that is too long nothing but
- * a mark is left, so that no part of it is taken for a command. */
-static bool read_line(char line[LINE_BYTES])
-{
-    size_t length = 0;
-    int c = getchar();
-    if (c == EOF)
-        return false;
-    for (; c != EOF && c != '\n'; c = getchar())
-        if (length < LINE_BYTES)
-            line[length++] = c == '\0' ? '?' : (char)c;
-    if (length == LINE_BYTES) {
-        line[0] = '?';
-        length = 1;
-    }
-    line[length] = '\0';
-    return true;
-}
-
-static size_t split(char *line, char *words[LINE_WORDS])
-{
-    static const char blanks[] = " \t\r";
-    size_t used = 0;
-    line += strspn(line, blanks);
-    while (*line != '\0' && used < LINE_WORDS) {
-        words[used++] = line;
-        line += strcspn(line, blanks);
-        if (*line != '\0')
-            *line++ = '\0';
-        line += strspn(line, blanks);
-    }
-    return used;
-}
-
 static void converse(struct cabinet *cabinet)
 {
     char line[LINE_BYTES];
     char *words[LINE_WORDS];
-    while (read_line(line)) {
+    while (cabinet->asked_len < sizeof asked && read_line(line)) {
         size_t used = split(line, words);
         if (used == 0)
             continue;
@@ -331,8 +326,10 @@ static void *serve(void *argument)
 {
     struct cabinet *cabinet = argument;
     cabinet->status = open_cabinet(cabinet);
-    if (cabinet->status == STATUS_DONE)
+    if (cabinet->status == STATUS_DONE) {
         converse(cabinet);
+        print_readers(cabinet);
+    }
     return NULL;
 }
 
@@ -376,7 +373,7 @@ static int read_rules(struct cabinet *cabinet)
 
 int main(int argc, char **argv)
 {
-    struct cabinet cabinet = {0};
+    struct cabinet cabinet = {.reader = 1};
     if (argc != 2) {
         fprintf(stderr, "usage: cabinet_host RULES.eb3\n");
         return STATUS_USAGE;

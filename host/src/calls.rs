@@ -3,7 +3,7 @@
 //! Document 01, "Operations". Whoever implements them can be asked the same; a test holds two replies and
 //! the lent buffers afterwards against each other.
 
-use crate::{plain, Counted, Moved, Ran, Started};
+use crate::{plain, Counted, LentToRun, Moved, Ran, Started, Tally};
 
 /// The operations besides Admit, by slices in the order of eb3.h.
 pub trait Operations {
@@ -27,15 +27,7 @@ pub trait Operations {
         next_term: &mut [u8],
         next_memory: &mut [u8],
     ) -> Moved;
-    fn run(
-        &self,
-        rules: &[u8],
-        numbers: &[u8],
-        term: &mut [u8],
-        memory: &mut [u8],
-        spare_term: &mut [u8],
-        spare_memory: &mut [u8],
-    ) -> Ran;
+    fn run(&self, rules: &[u8], list: &[u8], lent: LentToRun) -> Ran;
 }
 
 /// The plain interpreter.
@@ -74,16 +66,8 @@ impl Operations for Plain {
         plain::present(rules, term, memory, event, next_term, next_memory)
     }
 
-    fn run(
-        &self,
-        rules: &[u8],
-        numbers: &[u8],
-        term: &mut [u8],
-        memory: &mut [u8],
-        spare_term: &mut [u8],
-        spare_memory: &mut [u8],
-    ) -> Ran {
-        plain::run(rules, numbers, term, memory, spare_term, spare_memory)
+    fn run(&self, rules: &[u8], list: &[u8], lent: LentToRun) -> Ran {
+        plain::run(rules, list, lent)
     }
 }
 
@@ -98,7 +82,7 @@ pub enum Operation {
     Move(u64),
     /// Given rules, term, memory, event; lent term, memory.
     Present,
-    /// Given rules, numbers; lent term, memory, spare term, spare memory.
+    /// Given rules, a list of numbers with their readers; lent table, term, memory, spare term, spare memory.
     Run,
 }
 
@@ -146,11 +130,19 @@ pub struct Outcome {
 }
 
 impl Outcome {
+    /// The size and the counts of a run that was done.
+    pub fn tally(&self) -> Tally {
+        match self.reply {
+            Reply::Ran(Ok(tally)) => tally,
+            reply => panic!("{reply:?} is not a run that was done"),
+        }
+    }
+
     /// Whether another outcome of the same call is the same. What a run that was done left in its scratch
-    /// buffers, the third and the fourth, does not count.
+    /// buffers, the fourth and the fifth, does not count.
     pub fn same(&self, other: &Outcome) -> bool {
         let counting = match self.reply {
-            Reply::Ran(Ok(_)) => 2,
+            Reply::Ran(Ok(_)) => 3,
             _ => self.lent.len(),
         };
         self.reply == other.reply && self.lent[..counting] == other.lent[..counting]
@@ -168,8 +160,8 @@ pub fn ask(by: &dyn Operations, operation: Operation, given: &[&[u8]], lent: &mu
         (Operation::Present, [rules, term, memory, event], [next_term, next_memory]) => {
             Reply::Moved(by.present(rules, term, memory, event, next_term, next_memory))
         }
-        (Operation::Run, [rules, numbers], [term, memory, spare_term, spare_memory]) => {
-            Reply::Ran(by.run(rules, numbers, term, memory, spare_term, spare_memory))
+        (Operation::Run, [rules, list], [table, term, memory, spare_term, spare_memory]) => {
+            Reply::Ran(by.run(rules, list, [table, term, memory, spare_term, spare_memory]))
         }
         _ => panic!("{operation:?} with slices that are not its own"),
     }

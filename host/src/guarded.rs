@@ -89,8 +89,9 @@ pub struct Rooms {
 impl Rooms {
     /// Room for slices of so many bytes.
     pub fn new(bytes: usize) -> Rooms {
-        let rooms = || (0..4).map(|_| Room::new(bytes)).collect();
-        Rooms { given: rooms(), lent: rooms() }
+        let rooms = |count| (0..count).map(|_| Room::new(bytes)).collect();
+        // Present is given four slices, Run is lent five.
+        Rooms { given: rooms(4), lent: rooms(5) }
     }
 
     /// Does the call on slices that each lie at an end of a room.

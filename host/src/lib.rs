@@ -2,8 +2,8 @@
 //! written apart from the engine, a generator of right and faulty rule sets, and, where the static
 //! library is there, the engine itself.
 //!
-//! Document 01 is the scope (`01-scope.md`); `docs/DECISIONS.md` says how its sentences are read. Each
-//! module names the paragraph that it renders.
+//! Document 01 is the scope (`01-scope.md`), document 02 has the requests after it (`02-change-requests.md`);
+//! `docs/DECISIONS.md` says how their sentences are read. Each module names the paragraph that it renders.
 
 pub mod blocks;
 pub mod calls;
@@ -14,6 +14,7 @@ pub mod explore;
 pub mod generate;
 pub mod guarded;
 pub mod listing;
+pub mod machines;
 pub mod met;
 pub mod plain;
 pub mod plot;
@@ -81,16 +82,26 @@ pub type Moved = Result<Made, u8>;
 /// and refused.
 #[derive(Clone, Copy, Debug, Default, PartialEq, Eq)]
 pub struct Tally {
-    pub size: u32,
+    pub size: u64,
     pub visible: u64,
     pub internal: u64,
     pub refused: u64,
 }
 
+impl Tally {
+    /// The three counts, in the order of a record of Run's table.
+    pub fn counts(self) -> [u64; 3] {
+        [self.visible, self.internal, self.refused]
+    }
+}
+
 /// A run's size and counts, or the number of a refusal.
 pub type Ran = Result<Tally, u8>;
 
-/// The refusals, by the words of document 01's table.
+/// What Run is lent, in the order of eb3.h: the table, a term, a memory, and for scratch a term and a memory.
+pub type LentToRun<'a> = [&'a mut [u8]; 5];
+
+/// The refusals, by the words of document 01's table and of document 02's requests.
 pub mod refusal {
     pub const LENGTH: u8 = 1;
     pub const BLOCK: u8 = 2;
@@ -104,6 +115,7 @@ pub mod refusal {
     pub const TERM: u8 = 10;
     pub const STRANGER: u8 = 11;
     pub const NOT_OFFERED: u8 = 12;
+    pub const READER: u8 = 13;
 }
 
 /// Main's reach G may be so much, and no more.
@@ -111,6 +123,15 @@ pub const MOST_REACH: u32 = 8192;
 
 /// Main's breadth W may be so much, and no more.
 pub const MOST_BREADTH: u32 = 65535;
+
+/// Card readers are numbered from 1 to this (request K1).
+pub const READERS: u16 = 32;
+
+/// A record of Run's table: three counts of 32 bits.
+pub const RECORD_BYTES: usize = 12;
+
+/// The records of all readers; a table may be longer.
+pub const TABLE_BYTES: usize = RECORD_BYTES * READERS as usize;
 
 /// Words as bytes, little-endian.
 pub fn bytes_of(words: &[u16]) -> Vec<u8> {

@@ -1,20 +1,20 @@
 //! How often each operation was answered how: what a test of many calls has met.
 //!
-//! Document 01, the table of refusals. A test that never meets a refusal has not tested it, so it says
-//! what it met, and fails where one is missing.
+//! Document 01, the table of refusals, and 13 of document 02. A test that never meets a refusal has not
+//! tested it, so it says what it met, and fails where one is missing.
 
 use std::collections::BTreeMap;
 use std::io::Write;
 
 use crate::calls::{Call, Operation, Reply};
 
-/// The operations besides Admit by name, each with the refusals behind 1 to 8 that it has.
+/// The operations besides Admit by name, each with the refusals after 1 to 8 that it has.
 const TABLE: [(&str, &[u8]); 5] = [
     ("start", &[9]),
     ("count", &[10, 9]),
     ("move", &[10, 9, 12]),
     ("present", &[10, 11, 9, 12]),
-    ("run", &[9]),
+    ("run", &[9, 13]),
 ];
 
 fn name(operation: Operation) -> &'static str {

@@ -1,4 +1,4 @@
-//! Every kind of call, answered by the plain interpreter as document 01 asks where the generator knows it:
+//! Every kind of call, answered by the plain interpreter as the documents ask where the generator knows it:
 //! refusals by the table's order, nothing written on a refusal, everything kept that is to be kept. All
 //! between forbidden pages, so that the tests of the engine are tested too.
 //!
@@ -8,13 +8,13 @@ use host::calls::{Call, Outcome, Plain, Reply, EVERY_OPERATION};
 use host::generate::calls::every_call;
 use host::guarded::{Edge, Rooms};
 use host::met::Met;
-use host::{on_large_stack, plain};
+use host::{on_large_stack, plain, TABLE_BYTES};
 
 fn rounds() -> usize {
     std::env::var("ROUNDS").ok().and_then(|rounds| rounds.parse().ok()).unwrap_or(1)
 }
 
-/// Bytes behind so many words are as they were.
+/// The bytes after the first `words` words are as they were.
 fn kept(before: &[u8], after: &[u8], words: u32) -> bool {
     before.len() == after.len() && before[2 * words as usize..] == after[2 * words as usize..]
 }
@@ -31,17 +31,19 @@ fn check(call: &Call, outcome: &Outcome) {
         return;
     }
     let sizes = plain::admit(&call.given[0]).expect("a call that was not refused");
-    let (term, cells) = match reply {
-        Reply::Started(size) => (size.unwrap(), sizes.cells),
-        Reply::Moved(made) => (made.unwrap().size, sizes.cells),
-        Reply::Ran(_) => (sizes.reach, sizes.cells),
+    // The words of the term and the place of its buffer; the memory comes after it.
+    let (words, at) = match reply {
+        Reply::Started(size) => (size.unwrap(), 0),
+        Reply::Moved(made) => (made.unwrap().size, 0),
+        Reply::Ran(_) => (sizes.reach, 1),
         Reply::Counted(_) => return,
     };
-    assert!(kept(&call.lent[0], &lent[0], term), "{}: the term buffer", call.name);
-    assert!(kept(&call.lent[1], &lent[1], cells), "{}: the memory", call.name);
+    assert!(kept(&call.lent[at], &lent[at], words), "{}: the term buffer", call.name);
+    assert!(kept(&call.lent[at + 1], &lent[at + 1], sizes.cells), "{}: the memory", call.name);
     if let Reply::Ran(Ok(tally)) = reply {
-        let zeros = &lent[0][2 * tally.size as usize..2 * term as usize];
+        let zeros = &lent[1][2 * tally.size as usize..2 * words as usize];
         assert!(zeros.iter().all(|&byte| byte == 0), "{}: zeros up to G", call.name);
+        assert!(kept(&call.lent[0], &lent[0], TABLE_BYTES as u32 / 2), "{}: the table", call.name);
     }
 }
 

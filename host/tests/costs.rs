@@ -11,7 +11,7 @@ use std::time::{Duration, Instant};
 
 use host::calls::{Call, Operation, Operations, Plain};
 use host::engine::Cabinet;
-use host::generate::{deep, running};
+use host::generate::{deep, lent, readers, running};
 use host::{bytes_of, examples, on_large_stack, plain};
 
 /// The engine may take so many times as long as the plain interpreter, and so much more.
@@ -116,12 +116,13 @@ fn rounds_cost_no_square() {
 
 /// The keys are taken and brought, one after the other, so many times.
 fn long_run(rounds: usize) -> Call {
-    let lent = vec![vec![0; 2 * 77], vec![0; 4]];
+    let file = examples::key_cabinet(2).file();
+    let sizes = plain::admit(&file).expect("the key cabinet is admitted");
     Call {
         name: format!("{} numbers", 4 * rounds),
         operation: Operation::Run,
-        given: vec![examples::key_cabinet(2).file(), bytes_of(&[1, 0, 3, 2].repeat(rounds))],
-        lent: [lent.clone(), lent].concat(),
+        given: vec![file, readers::by_turns(&[1, 0, 3, 2].repeat(rounds))],
+        lent: lent::zeros_for_run(sizes).to_vec(),
         expected: Some(0),
     }
 }

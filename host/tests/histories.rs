@@ -4,13 +4,15 @@
 //! machine": what runs over cells must be what the machine does that keeps none. `ROUNDS=20` makes twenty
 //! times as many random cases.
 
-use host::generate::calls::{known_subjects, numbers, random_subjects, Subject};
-use host::generate::lent::{memory, Fit};
+use host::generate::calls::{known_subjects, random_subjects, Subject};
+use host::generate::lent::{for_run, memory, Fit};
 use host::generate::random::Random;
+use host::generate::readers;
 use host::generate::running::{self, State};
 use host::generate::well_formed::SHAPES;
+use host::machines::outcome;
 use host::plain::histories::{self, Machine};
-use host::{bytes_of, examples, on_large_stack, plain, words_of, Action, Made, Sizes, Tally};
+use host::{bytes_of, examples, on_large_stack, plain, words_of, Action, Made, Tally};
 
 fn rounds() -> usize {
     std::env::var("ROUNDS").ok().and_then(|rounds| rounds.parse().ok()).unwrap_or(1)
@@ -96,25 +98,22 @@ fn check_end(subject: &Subject, machine: &mut Machine, end: &State) {
 }
 
 /// Runs a list over cells and over the history: the same answer, the same bytes, the same moves next.
-fn check_run(subject: &Subject, numbers: &[u8], look_on: bool) -> Tally {
-    let Sizes { reach, cells, .. } = subject.sizes;
-    let buffers = || (vec![0xa5u8; 2 * reach as usize + 5], vec![0x5au8; 2 * cells as usize + 3]);
-    let ((mut term, mut memory), (mut spare_term, mut spare_memory)) = (buffers(), buffers());
-    let ((mut other_term, mut other_memory), file) = (buffers(), &subject.file);
-    let ran = plain::run(file, numbers, &mut term, &mut memory, &mut spare_term, &mut spare_memory);
-    let other =
-        histories::run(file, numbers, &mut other_term, &mut other_memory, &mut spare_term, &mut spare_memory);
-    assert_eq!(other, ran, "{}: histories (left) and cells (right), {numbers:?}", subject.name);
-    assert!(other_term == term && other_memory == memory, "{}: buffers differ, {numbers:?}", subject.name);
-    let tally = ran.expect("room enough");
-    assert_eq!(numbers.len() as u64 / 2, tally.visible + tally.internal + tally.refused);
+fn check_run(random: &mut Random, subject: &Subject, list: &[u8], look_on: bool) -> Tally {
+    let Subject { name, file, sizes, .. } = subject;
+    let lent = for_run(random, *sizes, [Fit::Longer; 5]);
+    let by_cells = outcome(plain::run, file, list, &lent);
+    let by_history = outcome(histories::run, file, list, &lent);
+    assert_eq!(by_history.reply, by_cells.reply, "{name}: histories (left) and cells (right), {list:?}");
+    assert!(by_history.same(&by_cells), "{name}: buffers differ, {list:?}");
+    let tally = by_cells.tally();
+    assert_eq!(list.len() as u64 / 4, tally.counts().iter().sum());
     if look_on {
         let (_, rules) = histories::rule_set(file).expect("an admitted set");
         assert_eq!(subject.rules, rules);
         let mut machine = Machine::new(&rules);
-        words_of(numbers).into_iter().for_each(|number| machine.feed(number));
-        term.truncate(2 * tally.size as usize);
-        memory.truncate(2 * cells as usize);
+        words_of(list).into_iter().step_by(2).for_each(|number| machine.feed(number));
+        let term = by_cells.lent[1][..2 * tally.size as usize].to_vec();
+        let memory = by_cells.lent[2][..2 * sizes.cells as usize].to_vec();
         check_end(subject, &mut machine, &State { term, memory });
     }
     tally
@@ -131,8 +130,8 @@ fn cells_and_histories_agree() {
         let (mut lists, mut whole) = (0, Tally::default());
         for subject in &subjects {
             for length in [0, 1, 2, 3, 5, 8, 13, 21, 34] {
-                let numbers = numbers(&mut random, length);
-                let tally = check_run(subject, &numbers, subject.sizes.breadth < 3000);
+                let list = readers::list(&mut random, length);
+                let tally = check_run(&mut random, subject, &list, subject.sizes.breadth < 3000);
                 lists += 1;
                 whole.visible += tally.visible;
                 whole.internal += tally.internal;
@@ -187,7 +186,8 @@ fn long_histories() {
                 list.push(number as u16);
                 state = listed[number].1.clone();
             }
-            let tally = check_run(&subject, &bytes_of(&list), true);
+            let list = readers::at_any(&mut random, &list);
+            let tally = check_run(&mut random, &subject, &list, true);
             assert!(tally.visible > 2000, "{tally:?}");
         }
     });

@@ -1,9 +1,10 @@
 //! The plain interpreter, tested: document 01's examples, and what is said there of cells and masks.
 
 use host::generate::calls::Subject;
+use host::generate::readers::by_turns;
 use host::generate::running::{self, State};
 use host::rules::{mask_of, Argument, Condition, Data, Function, Process, RuleSet, Term};
-use host::{bytes_of, examples, plain, words_of, Action, Sizes, Tally};
+use host::{bytes_of, examples, plain, words_of, Action, Sizes, Tally, TABLE_BYTES};
 
 fn subject(rules: RuleSet) -> Subject {
     Subject::new("example", rules).expect("the example is admitted")
@@ -99,16 +100,18 @@ fn key_cabinet_session() {
     let (_, next) = &listed[1];
     assert_eq!(vec![1, 0], words_of(&next.memory));
     assert_eq!([of(1, 0), Action::Internal, of(0, 1)], actions(&moves(&cabinet, next))[..]);
-    let (mut term, mut memory) = (vec![7; 160], vec![7; 6]);
-    let ran = |numbers: &[u16], term: &mut [u8], memory: &mut [u8]| {
-        plain::run(&cabinet.file, &bytes_of(numbers), term, memory, &mut [0; 154], &mut [0; 4])
-    };
-    let size = next.term.len() as u32 / 2;
+    let (mut table, mut term, mut memory) = (vec![7; TABLE_BYTES + 1], vec![7; 160], vec![7; 6]);
+    let lent = [&mut table[..], &mut term, &mut memory, &mut [0; 154], &mut [0; 4]];
+    let size = next.term.len() as u64 / 2;
     let tally = Tally { size, visible: 1, internal: 0, refused: 1 };
-    assert_eq!(Ok(tally), ran(&[1, 9], &mut term, &mut memory));
+    // 1 at reader 1, 9 at reader 2: a visible move, and a number that is no move.
+    assert_eq!(Ok(tally), plain::run(&cabinet.file, &by_turns(&[1, 9]), lent));
     let zeros = vec![0; 154 - next.term.len()];
     assert_eq!([&next.term[..], &zeros, &[7; 6]].concat(), term);
     assert_eq!(vec![1, 0, 0, 0, 7, 7], memory);
+    let mut expected = vec![7; TABLE_BYTES + 1];
+    (expected[0], expected[12 + 8]) = (8, 8);
+    assert_eq!(expected, table);
 }
 
 #[test]
@@ -200,7 +203,7 @@ fn each_condition_of_9_to_12() {
         |term: usize, memory: usize| plain::start(file, &mut vec![0; term], &mut vec![0; memory]).err();
     let run = |sizes: [usize; 4]| {
         let [mut a, mut b, mut c, mut d] = sizes.map(|size| vec![0; size]);
-        plain::run(file, &[], &mut a, &mut b, &mut c, &mut d).err()
+        plain::run(file, &[], [&mut [0; TABLE_BYTES], &mut a, &mut b, &mut c, &mut d]).err()
     };
     assert_eq!([None, Some(9), Some(9)], [start(154, 4), start(153, 4), start(154, 3)]);
     assert_eq!(None, run([154, 4, 154, 4]));

@@ -53,8 +53,9 @@ impl Kinds {
             self.last = Some((file.clone(), sizes, rules));
         }
         let (_, sizes, rules) = self.last.as_ref().expect("noted just now");
-        let cells = call.lent.iter().skip(1).step_by(2);
-        self.longer += cells.filter(|buffer| buffer.len() / 2 > sizes.cells as usize).count();
+        let first = if call.operation == Operation::Run { 2 } else { 1 };
+        let memories = call.lent.iter().skip(first).step_by(2);
+        self.longer += memories.filter(|buffer| buffer.len() / 2 > sizes.cells as usize).count();
         if matches!(call.operation, Operation::Count | Operation::Move(_) | Operation::Present) {
             let words = words_of(&call.given[1]);
             let (_, reach, _) = running::measures(rules, &words);

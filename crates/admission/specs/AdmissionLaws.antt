@@ -35,9 +35,9 @@ answered_from (answered R) l e = (R, refl, cc)
 
 module _ (rules : List ℕ) where
   -- An admission refuses by a number from 1 to 8.
-  within : (j : ℕ) → admission rules ≡ refused j → T (one_of Refusal.of_present j)
+  within : (j : ℕ) → admission rules ≡ refused j → T (one_of Refusal.of_any j)
   unfolding one_of all_of
-  within j e = one_of_more Refusal.of_present Refusal.of_admission tt j (refused_within Refusal.of_admission (admission rules) (admission_within rules) j e)
+  within j e = one_of_more Refusal.of_any Refusal.of_admission tt j (refused_within Refusal.of_admission (admission rules) (admission_within rules) j e)
 
   pub admission_refused : (k : Refusal) → Err k ≡ admitted (admit rules) → admission rules ≡ refused (number k)
   unfolding admit

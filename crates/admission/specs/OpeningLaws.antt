@@ -54,10 +54,10 @@ module _ (s : List ℕ) (p : Result ℕ Refusal) (e : p ≡ opening s (open_bloc
       ap Err u.named ∙ sym (ap admitted (admit_by_parts s ∙ ap (λ a. and_then a (λ o. whole_of (read_rules o.edition o.words))) u.is))
 
   -- A refused file is refused by Admit as well, so by a number from 1 to 8.
-  within : (j : ℕ) → open_blocks s ≡ refused j → T (one_of Why.of_present j)
+  within : (j : ℕ) → open_blocks s ≡ refused j → T (one_of Why.of_any j)
   unfolding admission and_then one_of all_of
   within j f =
-      one_of_more Why.of_present Why.of_admission tt j (refused_within Why.of_admission (admission s) (admission_within s) j
+      one_of_more Why.of_any Why.of_admission tt j (refused_within Why.of_admission (admission s) (admission_within s) j
       (ap (λ a. and_then (and_then a λ o. ended (read_rules o.edition o.words)) within_limits) f))
 
   pub open_refused : (k : Refusal) → p ≡ Err k → open_blocks s ≡ refused (number k)

@@ -9,7 +9,7 @@ use Rattle.eb3.proofs.Laws.DemandOne.{refusals}
 use Rattle.refusals.specs.declared.Refusal.{Refusal as Why}
 use Rattle.refusals.specs.Numbers.{number, number_refusal}
 use Rattle.eb3.specs.Terms.{Action, internal, visible}
-use Rattle.eb3.specs.Answers.{Answer, refused, answered, Sizes, Moved, Ran, Written}
+use Rattle.eb3.specs.Answers.{Answer, refused, answered, Sizes, Moved, Ran, Written, Tabled}
 use Rattle.weights.specs.declared.Limits.{Limits}
 use Rattle.admission.specs.Answering.{admitted}
 use Rattle.cabinet.specs.declared.Sizes.{Sizes as CSizes}
@@ -28,26 +28,34 @@ use Rattle.cabinet.specs.Exported.{sizes, started, counted, moved_by, moved, exp
 
 -- An answer refuses by numbers of refusals only.
 abbrev Numbered : {A : Type 0} → Answer A → Type 0
-Numbered a = (k : ℕ) → a ≡ refused k → T (one_of Refusal.of_present k)
+Numbered a = (k : ℕ) → a ≡ refused k → T (one_of Refusal.of_any k)
 
-numbered : {A : Type 0} (ks : List ℕ) → T (all_of Refusal.of_present ks) → (a : Answer A) → ((k : ℕ) → a ≡ refused k → T (one_of ks k)) → Numbered a
-numbered ks t a h k e = one_of_more Refusal.of_present ks t k (h k e)
+numbered : {A : Type 0} (ks : List ℕ) → T (all_of Refusal.of_any ks) → (a : Answer A) → ((k : ℕ) → a ≡ refused k → T (one_of ks k)) → Numbered a
+numbered ks t a h k e = one_of_more Refusal.of_any ks t k (h k e)
 
-admission_among : T (all_of Refusal.of_present Refusal.of_admission)
+admission_among : T (all_of Refusal.of_any Refusal.of_admission)
 unfolding one_of all_of
 admission_among = tt
 
-start_among : T (all_of Refusal.of_present Refusal.of_start)
+start_among : T (all_of Refusal.of_any Refusal.of_start)
 unfolding one_of all_of
 start_among = tt
 
-count_among : T (all_of Refusal.of_present Refusal.of_count)
+count_among : T (all_of Refusal.of_any Refusal.of_count)
 unfolding one_of all_of
 count_among = tt
 
-move_among : T (all_of Refusal.of_present Refusal.of_move)
+move_among : T (all_of Refusal.of_any Refusal.of_move)
 unfolding one_of all_of
 move_among = tt
+
+present_among : T (all_of Refusal.of_any Refusal.of_present)
+unfolding one_of all_of
+present_among = tt
+
+run_among : T (all_of Refusal.of_any Refusal.of_run)
+unfolding one_of all_of
+run_among = tt
 
 abbrev given : Limits → CSizes
 given l = record { refusal = 0; cells = l.cells; reach = l.reach; breadth = l.breadth; size = l.size }
@@ -66,7 +74,7 @@ same (answered S) n = refl
 
 module _ (rules : List ℕ) (p : Result Limits Why) (e : p ≡ admitted (admit rules)) where
   told_admit : exported (admitted (admit rules)) ≡ sizes (admit rules)
-  told_admit = same (admit rules) (numbered Refusal.of_admission admission_among (admit rules) (refusals rules [] [] [] [] [] [] [] [] 0).admit_refused)
+  told_admit = same (admit rules) (numbered Refusal.of_admission admission_among (admit rules) (refusals rules [] [] [] [] [] [] [] [] [] 0).admit_refused)
 
   pub admit_gives : (l : Limits) → p ≡ Ok l → given l ≡ sizes (admit rules)
   admit_gives l f = sym (ap exported f) ∙ (ap exported e ∙ told_admit)
@@ -93,7 +101,7 @@ same_start (answered m) n = refl
 
 module _ (rules term memory : List ℕ) (p : Result ℕ Why) (e : p ≡ started_as (start rules term memory).answer) where
   told_start : exported_start (started_as (start rules term memory).answer) ≡ started (start rules term memory).answer
-  told_start = same_start _ (numbered Refusal.of_start start_among _ (refusals rules [] term memory [] [] [] [] [] 0).start_refused.number)
+  told_start = same_start _ (numbered Refusal.of_start start_among _ (refusals rules [] [] term memory [] [] [] [] [] 0).start_refused.number)
 
   pub start_gives : (n : ℕ) → p ≡ Ok n → begun n ≡ started (start rules term memory).answer
   start_gives n f = sym (ap exported_start f) ∙ (ap exported_start e ∙ told_start)
@@ -120,7 +128,7 @@ same_count (answered m) n = refl
 
 module _ (rules term memory : List ℕ) (p : Result ℕ Why) (e : p ≡ counted_as (count rules term memory)) where
   told_count : exported_count (counted_as (count rules term memory)) ≡ counted (count rules term memory)
-  told_count = same_count _ (numbered Refusal.of_count count_among _ (refusals rules [] term memory [] [] [] [] [] 0).count_refused)
+  told_count = same_count _ (numbered Refusal.of_count count_among _ (refusals rules [] [] term memory [] [] [] [] [] 0).count_refused)
 
   pub count_gives : (n : ℕ) → p ≡ Ok n → listed n ≡ counted (count rules term memory)
   count_gives n f = sym (ap exported_count f) ∙ (ap exported_count e ∙ told_count)
@@ -146,11 +154,11 @@ step_told w n r term' memory' m d e = (e ∙ ap exported_step d.answer ∙ same_
 module _ (rules term memory next_term next_memory : List ℕ) (r : Result Step Why) (term' memory' : List ℕ) (m : CMoved) (e : m ≡ exported_step r) where
   pub move_told : (k : ℕ) → Done (move rules term memory k next_term next_memory) r term' memory' → (m ≡ moved (move rules term memory k next_term next_memory).answer)
       × (term' ≡ (move rules term memory k next_term next_memory).term) × (memory' ≡ (move rules term memory k next_term next_memory).memory)
-  move_told k d = step_told _ (numbered Refusal.of_move move_among _ (refusals rules [] term memory [] next_term next_memory [] [] k).move_refused.number) r term' memory' m d e
+  move_told k d = step_told _ (numbered Refusal.of_move move_among _ (refusals rules [] [] term memory [] next_term next_memory [] [] k).move_refused.number) r term' memory' m d e
 
   pub present_told : (event : List ℕ) → Done (present rules term memory event next_term next_memory) r term' memory' → (m ≡ moved (present rules term memory event next_term next_memory).answer)
       × (term' ≡ (present rules term memory event next_term next_memory).term) × (memory' ≡ (present rules term memory event next_term next_memory).memory)
-  present_told event d = step_told _ (refusals rules [] term memory event next_term next_memory [] [] 0).present_refused.number r term' memory' m d e
+  present_told event d = step_told _ (numbered Refusal.of_present present_among _ (refusals rules [] [] term memory event next_term next_memory [] [] 0).present_refused.number) r term' memory' m d e
 
 -- What an answer gives, by its case.
 pub step_gives : (r : Result Step Why) (s : Step) → r ≡ Ok s → exported_action s.size s.action ≡ exported_step r
@@ -178,18 +186,20 @@ unfolding ran_as ran
 same_run (refused k) n = ap unended (number_refusal k (n k refl))
 same_run (answered m) n = refl
 
-module _ (rules numbers term memory spare cells : List ℕ) (p : Result Totals Why) (term' memory' spare' : List ℕ) (d : RunDone rules numbers term memory spare cells p term' memory' spare') where
-  abbrev Told : CRan → Type 0
-  Told r =
-      (r ≡ ran (run rules numbers term memory spare cells).answer) × (term' ≡ (run rules numbers term memory spare cells).term)
-      × (memory' ≡ (run rules numbers term memory spare cells).memory) × ScratchAfter (run rules numbers term memory spare cells).answer spare spare'
+module _ (rules list table term memory spare cells : List ℕ) (p : Result Totals Why) (table' term' memory' spare' : List ℕ) (d : RunDone rules list table term memory spare cells p table' term' memory' spare') where
+  abbrev left : Tabled Ran
+  left = run rules list table term memory spare cells
 
-  told_run : exported_run (ran_as (run rules numbers term memory spare cells).answer) ≡ ran (run rules numbers term memory spare cells).answer
-  told_run = same_run _ (numbered Refusal.of_start start_among _ (refusals rules numbers term memory [] [] [] spare cells 0).run_refused.number)
+  abbrev Gives : CRan → Type 0
+  Gives r = (r ≡ ran left.written.answer) × (table' ≡ left.table) × (term' ≡ left.written.term) × (memory' ≡ left.written.memory) × ScratchAfter left.written.answer spare spare'
 
-  pub run_gives : (t : Totals) → p ≡ Ok t → Told (ended t)
-  run_gives t f = (sym (ap exported_run f) ∙ (ap exported_run d.answer ∙ told_run), d.term_after, d.memory_after, d.scratch_after)
+  told_run : exported_run (ran_as left.written.answer) ≡ ran left.written.answer
+  told_run = same_run _ (numbered Refusal.of_run run_among _ (refusals rules list table term memory [] [] [] spare cells 0).run_refused.number)
 
-  pub run_refuses : (k : Why) (j : ℕ) (z : CRan) → p ≡ Err k → j ≡ number k → (z.refusal ≡ 0) × ((z.size ≡ 0) × ((z.visible ≡ 0) × ((z.internal ≡ 0) × (z.refused ≡ 0)))) → Told (record { refusal = j; size = z.size; visible = z.visible; internal = z.internal; refused = z.refused })
+  pub run_gives : (t : Totals) (n : ℕ) → p ≡ Ok t → n ≡ t.size → Gives (record { refusal = 0; size = n; visible = t.visible; internal = t.internal; refused = t.refused })
+  run_gives t n f e =
+      ((λ i. record { refusal = 0; size = e i; visible = t.visible; internal = t.internal; refused = t.refused }) ∙ (sym (ap exported_run f) ∙ (ap exported_run d.answer ∙ told_run)), d.table_after, d.term_after, d.memory_after, d.scratch_after)
+
+  pub run_refuses : (k : Why) (j : ℕ) (z : CRan) → p ≡ Err k → j ≡ number k → (z.refusal ≡ 0) × ((z.size ≡ 0) × ((z.visible ≡ 0) × ((z.internal ≡ 0) × (z.refused ≡ 0)))) → Gives (record { refusal = j; size = z.size; visible = z.visible; internal = z.internal; refused = z.refused })
   run_refuses k j z f g h =
-      ((λ i. record { refusal = g i; size = (h.1.0) i; visible = (h.1.1.0) i; internal = (h.1.1.1.0) i; refused = (h.1.1.1.1) i }) ∙ (sym (ap exported_run f) ∙ (ap exported_run d.answer ∙ told_run)), d.term_after, d.memory_after, d.scratch_after)
+      ((λ i. record { refusal = g i; size = (h.1.0) i; visible = (h.1.1.0) i; internal = (h.1.1.1.0) i; refused = (h.1.1.1.1) i }) ∙ (sym (ap exported_run f) ∙ (ap exported_run d.answer ∙ told_run)), d.table_after, d.term_after, d.memory_after, d.scratch_after)

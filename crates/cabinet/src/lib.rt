@@ -58,7 +58,7 @@ pub struct Moved {
 #[derive(Clone, Copy, Default)]
 pub struct Ran {
     pub refusal: u32,
-    pub size: u32,
+    pub size: u64,
     pub visible: u64,
     pub internal: u64,
     pub refused: u64,
@@ -184,22 +184,27 @@ pub extern "C" fn eb3_present(
     Moved::from(present(rules, term, memory, event, next_term, next_memory))
 }
 
-// The spare cells are read by their length only. Of the spare buffer a refusal writes nothing, and a run only whole words.
+// Of the spare cells only the length is read. Of the spare buffer a refusal writes nothing, and a run only whole words.
 #[unsafe(no_mangle)]
 pub extern "C" fn eb3_run(
     rules: &[u8],
-    numbers: &[u8],
+    list: &[u8],
+    table: &mut [u8],
     term: &mut [u8],
     memory: &mut [u8],
     spare: &mut [u8],
     cells: &[u8],
 ) -> Ran
-    ensures { (result ≡ ran (run rules.now numbers.now term.old memory.old spare.old cells.now).answer) × (term.new ≡ (run rules.now numbers.now term.old memory.old spare.old cells.now).term) × (memory.new ≡ (run rules.now numbers.now term.old memory.old spare.old cells.now).memory) × ScratchAfter (run rules.now numbers.now term.old memory.old spare.old cells.now).answer spare.old spare.new }
+    ensures answer { result ≡ ran (run rules.now list.now table.old term.old memory.old spare.old cells.now).written.answer }
+    ensures table_after { table.new ≡ (run rules.now list.now table.old term.old memory.old spare.old cells.now).table }
+    ensures term_after { term.new ≡ (run rules.now list.now table.old term.old memory.old spare.old cells.now).written.term }
+    ensures memory_after { memory.new ≡ (run rules.now list.now table.old term.old memory.old spare.old cells.now).written.memory }
+    ensures scratch_after { ScratchAfter (run rules.now list.now table.old term.old memory.old spare.old cells.now).written.answer spare.old spare.new }
 {
-    match run(rules, numbers, term, memory, spare, cells) {
+    match run(rules, list, table, term, memory, spare, cells) {
         Ok(t) => Ran {
             refusal: DONE,
-            size: t.size,
+            size: u64::from(t.size),
             visible: t.visible,
             internal: t.internal,
             refused: t.refused,

@@ -1,12 +1,13 @@
--- A host that steps: Start, then Moves, in two pairs of buffers by turns (document 01, "Operations"); its steps are the run, and in buffers of the
--- reported sizes neither 9 nor 10 ever stops it. Proved in Laws/Stepping.
-use Rattle.std.specs.Prelude.{◌≡◌, List, [], ◌∷◌, ◌++◌, ℕ, suc, ◌*◌, ◌≤◌, eqb, take}
+-- A host that steps: Start, then Moves, in two pairs of buffers by turns (document 01, "Operations"); its steps are the run by the numbers of a list that
+-- 13 lets through (document 02, K1), and in buffers of the reported sizes neither 9 nor 10 ever stops it. Proved in Laws/Stepping.
+use Rattle.std.specs.Prelude.{◌≡◌, List, [], ◌∷◌, ◌++◌, ℕ, suc, ◌*◌, ◌≤◌, T, eqb, take}
 use Rattle.eb3.specs.Refusal
 use Rattle.eb3.specs.Terms.{Term, Action, internal, visible}
 use Rattle.eb3.specs.Sizes.{size, reach, breadth}
 use Rattle.eb3.specs.RuleSets.{RuleSet}
 use Rattle.eb3.specs.Reading.{pick}
 use Rattle.eb3.specs.Bytes.{words_in}
+use Rattle.eb3.specs.Readers.{numbers_in, reader?, lets_through}
 use Rattle.eb3.specs.Answers.{Answer, refused, answered, and_then, Sizes, Moved, Ran, Written}
 use Rattle.eb3.specs.Admission.{admission}
 use Rattle.eb3.specs.Operations.{term_in, admit, start, count, move, run}
@@ -100,11 +101,11 @@ pub record RoomyHost (S : Sizes) (g : Host) : Type 0 where
   pub current : Roomy S g.term g.memory
   pub other : Roomy S g.other_term g.other_memory
 
--- Run of a list with one number more is Run of the list, then Move with that number.
-pub record OneMore (rules term memory spare_term spare_memory : List ℕ) (S : Sizes) : Type 0 where
-  pub one_more : (numbers numbers' : List ℕ) (k : ℕ) → words_in numbers' ≡ words_in numbers ++ (k ∷ []) → (g : Host) → RoomyHost S g
-      → SameAsRun S g (run rules numbers term memory spare_term spare_memory)
-      → (g' : Host) × (host_step rules g k ≡ answered g') × RoomyHost S g' × SameAsRun S g' (run rules numbers' term memory spare_term spare_memory)
+-- Run of a list with one number more, at any reader, is Run of the list, then Move with that number.
+pub record OneMore (rules table term memory spare_term spare_memory : List ℕ) (S : Sizes) : Type 0 where
+  pub one_more : (list list' : List ℕ) (k r : ℕ) → T (lets_through list table) → T (reader? r) → words_in list' ≡ words_in list ++ (k ∷ r ∷ []) → (g : Host) → RoomyHost S g
+      → SameAsRun S g (run rules list table term memory spare_term spare_memory).written
+      → (g' : Host) × (host_step rules g k ≡ answered g') × RoomyHost S g' × SameAsRun S g' (run rules list' table term memory spare_term spare_memory).written
 
 -- In particular of the very buffers that Run left: on its last term, cut to its size, and its last memory.
 abbrev pub host_of : Written Ran → Ran → List ℕ → List ℕ → Host
@@ -119,18 +120,18 @@ host_of w r next_term next_memory = record {
   refused_count = r.refusals;
 }
 
-pub record RunThenMove (rules numbers numbers' term memory spare_term spare_memory next_term next_memory : List ℕ) (k : ℕ) (S : Sizes) : Type 0 where
+pub record RunThenMove (rules list list' table term memory spare_term spare_memory next_term next_memory : List ℕ) (k : ℕ) (S : Sizes) : Type 0 where
   pub ran : Ran
-  pub ran_is : (run rules numbers term memory spare_term spare_memory).answer ≡ answered ran
+  pub ran_is : (run rules list table term memory spare_term spare_memory).written.answer ≡ answered ran
   pub host : Host
-  pub moved_to : host_step rules (host_of (run rules numbers term memory spare_term spare_memory) ran next_term next_memory) k ≡ answered host
-  pub same_as_run : SameAsRun S host (run rules numbers' term memory spare_term spare_memory)
+  pub moved_to : host_step rules (host_of (run rules list table term memory spare_term spare_memory).written ran next_term next_memory) k ≡ answered host
+  pub same_as_run : SameAsRun S host (run rules list' table term memory spare_term spare_memory).written
 
 -- Start followed by Moves ends with what Run leaves; on the way neither 9 nor 10 occurs, and from there no Move is refused but by 12.
-pub record StepsAreTheRun (rules numbers term memory spare_term spare_memory : List ℕ) (first_term first_memory second_term second_memory : List ℕ) (S : Sizes) : Type 0 where
+pub record StepsAreTheRun (rules list table term memory spare_term spare_memory : List ℕ) (first_term first_memory second_term second_memory : List ℕ) (S : Sizes) : Type 0 where
   pub host : Host
-  pub stepped_to : and_then (host_start rules first_term first_memory second_term second_memory) (λ g. host_run rules g (words_in numbers)) ≡ answered host
-  pub same_as_run : SameAsRun S host (run rules numbers term memory spare_term spare_memory)
+  pub stepped_to : and_then (host_start rules first_term first_memory second_term second_memory) (λ g. host_run rules g (numbers_in list)) ≡ answered host
+  pub same_as_run : SameAsRun S host (run rules list table term memory spare_term spare_memory).written
   pub room_kept : RoomyHost S host
   pub count_answers : (n : ℕ) × (count rules (cut host.size host.term) host.memory ≡ answered n)
   pub only_12 : (k j : ℕ) → (host_move rules host k).answer ≡ refused j → j ≡ Refusal.not_offered
@@ -146,18 +147,18 @@ pub record AcceptedAgain (rules term memory next_term next_memory : List ℕ) (k
 -- ── what is proved, with all that it asks ──
 
 abbrev pub OneMoreHolds : Type 0
-OneMoreHolds = (rules term memory spare_term spare_memory : List ℕ) (S : Sizes) → admit rules ≡ answered S → Roomy S term memory → Roomy S spare_term spare_memory
-    → OneMore rules term memory spare_term spare_memory S
+OneMoreHolds = (rules table term memory spare_term spare_memory : List ℕ) (S : Sizes) → admit rules ≡ answered S → Roomy S term memory → Roomy S spare_term spare_memory
+    → OneMore rules table term memory spare_term spare_memory S
 
 abbrev pub RunThenMoveHolds : Type 0
-RunThenMoveHolds = (rules numbers numbers' term memory spare_term spare_memory next_term next_memory : List ℕ) (k : ℕ) (S : Sizes) → admit rules ≡ answered S
-    → words_in numbers' ≡ words_in numbers ++ (k ∷ []) → Roomy S term memory → Roomy S spare_term spare_memory → Roomy S next_term next_memory
-    → RunThenMove rules numbers numbers' term memory spare_term spare_memory next_term next_memory k S
+RunThenMoveHolds = (rules list list' table term memory spare_term spare_memory next_term next_memory : List ℕ) (k r : ℕ) (S : Sizes) → admit rules ≡ answered S
+    → T (lets_through list table) → T (reader? r) → words_in list' ≡ words_in list ++ (k ∷ r ∷ []) → Roomy S term memory → Roomy S spare_term spare_memory → Roomy S next_term next_memory
+    → RunThenMove rules list list' table term memory spare_term spare_memory next_term next_memory k S
 
 abbrev pub StepsAreTheRunHolds : Type 0
-StepsAreTheRunHolds = (rules numbers term memory spare_term spare_memory first_term first_memory second_term second_memory : List ℕ) (S : Sizes) → admit rules ≡ answered S
-    → Roomy S term memory → Roomy S spare_term spare_memory → Roomy S first_term first_memory → Roomy S second_term second_memory
-    → StepsAreTheRun rules numbers term memory spare_term spare_memory first_term first_memory second_term second_memory S
+StepsAreTheRunHolds = (rules list table term memory spare_term spare_memory first_term first_memory second_term second_memory : List ℕ) (S : Sizes) → admit rules ≡ answered S
+    → T (lets_through list table) → Roomy S term memory → Roomy S spare_term spare_memory → Roomy S first_term first_memory → Roomy S second_term second_memory
+    → StepsAreTheRun rules list table term memory spare_term spare_memory first_term first_memory second_term second_memory S
 
 abbrev pub AcceptedAgainHolds : Type 0
 AcceptedAgainHolds = (rules term memory next_term next_memory : List ℕ) (k : ℕ) (R : RuleSet) (E : Term) (m : Moved)

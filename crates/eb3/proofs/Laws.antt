@@ -63,4 +63,5 @@ pub mod DemandTwo
 pub mod Numbering
 pub mod DemandOne
 pub mod Order
+pub mod Readers
 pub mod Start

@@ -12,6 +12,16 @@ unfoldable pub bytes_of : List ℕ → List ℕ
 bytes_of [] = []
 bytes_of (w ∷ ws) = w % 256 ∷ w / 256 % 256 ∷ bytes_of ws
 
+-- Numbers of 32 bits, two words each, low word first; a last word without a second one is none.
+unfoldable pub doubles_in : List ℕ → List ℕ
+doubles_in [] = []
+doubles_in (a ∷ []) = []
+doubles_in (a ∷ b ∷ ws) = (a + 65536 * b) ∷ doubles_in ws
+
+unfoldable pub double_words : List ℕ → List ℕ
+double_words [] = []
+double_words (n ∷ ns) = n % 65536 ∷ n / 65536 ∷ double_words ns
+
 -- How many words a buffer has.
 abbrev pub word_count : List ℕ → ℕ
 word_count s = length s / 2

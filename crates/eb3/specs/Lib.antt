@@ -48,6 +48,9 @@ pub mod Bytes
 pub mod Memory
 pub mod Numbers
 pub mod Answers
+-- Run's list and table by card reader (document 02, K1).
+pub mod Readers
+-- Blocks, files, and from any bytes to a rule set or a refusal.
 pub mod Blocks
 pub mod Files
 pub mod Admission

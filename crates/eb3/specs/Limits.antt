@@ -35,3 +35,7 @@ process_parameters = 4
 
 abbrev pub variables : ℕ
 variables = 8
+
+-- Refusal 13: the card readers of Run's list, and the records of its table.
+abbrev pub readers : ℕ
+readers = 32

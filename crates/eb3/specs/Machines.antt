@@ -6,7 +6,7 @@ use Rattle.eb3.specs.Generic.Positions.{Enumeration}
 use Rattle.eb3.specs.Derivations.{DataState, Derivation, Earlier}
 use Rattle.eb3.specs.Attributes.{Attributes}
 use Rattle.eb3.specs.Cells.{initial_cells, all_values}
-use Rattle.eb3.specs.TransitionSystems.{refused, taken, Configuration, initial, count, run, outcomes, on_target}
+use Rattle.eb3.specs.TransitionSystems.{refused, taken, Configuration, initial, count, run, outcomes, on_target, Outcome}
 use Rattle.eb3.specs.Semantics.{concluded, Sem_T, Sem_M, Situation, situation, system}
 
 -- A machine fed numbers, told over derivations and without a loop: a number below the count of moves takes the derivation of that number,
@@ -35,6 +35,10 @@ history_start A E = initial (system (Sem_T A)) (situation E [])
 
 unfoldable pub history_run : (A : Attributes) → Term → List ℕ → Machine (Sem_T A)
 history_run A E ks = run (system (Sem_T A)) (history_start A E) ks
+
+-- What each number did, in order.
+unfoldable pub history_outcomes : (A : Attributes) → Term → List ℕ → List Outcome
+history_outcomes A E ks = outcomes (system (Sem_T A)) (situation E []) ks
 
 -- The memory machine holds cells in the list's place; this is what Run computes.
 abbrev pub memory_start : (A : Attributes) → Term → Machine (Sem_M A)

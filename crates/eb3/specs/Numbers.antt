@@ -20,6 +20,7 @@ pub record Numbers : Type 0 where
   pub term : Refusal.term ≡ 10
   pub stranger : Refusal.stranger ≡ 11
   pub not_offered : Refusal.not_offered ≡ 12
+  pub reader : Refusal.reader ≡ 13
   pub blocks_limit : Limits.blocks ≡ 64
   pub domains_limit : Limits.domains ≡ 16
   pub domain_size_limit : Limits.domain_size ≡ 64
@@ -29,6 +30,7 @@ pub record Numbers : Type 0 where
   pub processes_limit : Limits.processes ≡ 32
   pub process_parameters_limit : Limits.process_parameters ≡ 4
   pub variables_limit : Limits.variables ≡ 8
+  pub readers_limit : Limits.readers ≡ 32
   pub reach_limit : Limits.reach ≡ 8192
   pub breadth_limit : Limits.breadth ≡ 65535
   -- Word 0 is 1: values up to 65,534, constants of one word, functions of one parameter, which the stream does not say.

@@ -10,7 +10,7 @@ use Rattle.eb3.specs.Moves.{Move, moves, first_with}
 use Rattle.eb3.specs.Derivations.{state_after}
 use Rattle.eb3.specs.Cells.{total_cells, initial_cells, all_values}
 use Rattle.eb3.specs.Semantics.{Sem_M}
-use Rattle.eb3.specs.Machines.{history_run}
+use Rattle.eb3.specs.Machines.{history_run, history_outcomes}
 use Rattle.eb3.specs.Sizes.{size, reach, breadth}
 use Rattle.eb3.specs.RuleSets.{RuleSet, attributes}
 use Rattle.eb3.specs.Unfolding.{unfold_main}
@@ -19,7 +19,8 @@ use Rattle.eb3.specs.Reading.{pick}
 use Rattle.eb3.specs.TermReading.{given_term, given_event}
 use Rattle.eb3.specs.Bytes.{words_in, word_count, written}
 use Rattle.eb3.specs.Memory.{cell_room, memory_words, cells_in}
-use Rattle.eb3.specs.Answers.{Answer, refused, answered, or_refused, and_then, Sizes, Moved, Ran, Written, unwritten}
+use Rattle.eb3.specs.Answers.{Answer, refused, answered, or_refused, and_then, Sizes, Moved, Ran, Written, unwritten, Tabled, untabled}
+use Rattle.eb3.specs.Readers.{numbers_in, readers_in, lets_through, counts_by_reader, increased}
 use Rattle.eb3.specs.Admission.{admission}
 
 -- What an admitted rule set needs: C cells, and main's G words.
@@ -121,22 +122,39 @@ present rules term memory event next_term next_memory =
     writing next_term next_memory (event_in R event) λ ρ.
     chosen R E memory next_term next_memory (at_first ρ)
 
--- Run: what the history machine ends with. The last term, zeros up to main's G; every function's values over the whole list.
+-- Run, by a list of move numbers: what the history machine ends with. The last term, zeros up to main's G; every function's values over the whole list.
 abbrev pub ran : List ℕ → List ℕ → List ℕ → RuleSet → Written Ran
 ran numbers term memory R =
-    let h = history_run (attributes R) (unfold_main R) (words_in numbers) in
+    let h = history_run (attributes R) (unfold_main R) numbers in
     record {
       answer = answered (record { size = size R.edition.width h.state.term; visible = h.visible_count; internal = h.internal_count; refusals = h.refused_count });
       term = written (words R.edition.width h.state.term ++ replicate (main_reach R - size R.edition.width h.state.term) 0) term;
       memory = written (memory_words (all_values (attributes R) h.state.state)) memory;
     }
 
--- The scratch buffers count by their room only; what they hold afterwards is said by ScratchAfter.
-unfoldable pub run : List ℕ → List ℕ → List ℕ → List ℕ → List ℕ → List ℕ → Written Ran
-run rules numbers term memory spare_term spare_memory =
-    writing term memory (admission rules) λ R.
-    pick ((term_fits (main_reach R) term && memory_fits R memory) && (term_fits (main_reach R) spare_term && memory_fits R spare_memory))
-    (ran numbers term memory R) (unwritten term memory Refusal.space)
+-- Request K1's table: to each reader's record is added what the history machine counts at that reader's numbers.
+abbrev pub reader_counts : List ℕ → RuleSet → List ℕ
+reader_counts list R = counts_by_reader (readers_in list) (history_outcomes (attributes R) (unfold_main R) (numbers_in list))
+
+abbrev pub ran_with : List ℕ → List ℕ → List ℕ → List ℕ → RuleSet → Tabled Ran
+ran_with list table term memory R = record { written = ran (numbers_in list) term memory R; table = increased (reader_counts list R) table }
+
+-- With an answer the table and the buffers are written, without one nothing is.
+abbrev pub tabling : {X Y : Type 0} → List ℕ → List ℕ → List ℕ → Answer X → (X → Tabled Y) → Tabled Y
+tabling table term memory (refused k) f = untabled table term memory k
+tabling table term memory (answered x) f = f x
+
+abbrev pub run_fits : RuleSet → List ℕ → List ℕ → List ℕ → List ℕ → Bool
+run_fits R term memory spare_term spare_memory =
+    (term_fits (main_reach R) term && memory_fits R memory) && (term_fits (main_reach R) spare_term && memory_fits R spare_memory)
+
+-- Refusal 9, then 13. The scratch buffers count by their room only; what they hold afterwards is said by ScratchAfter.
+unfoldable pub run : List ℕ → List ℕ → List ℕ → List ℕ → List ℕ → List ℕ → List ℕ → Tabled Ran
+run rules list table term memory spare_term spare_memory =
+    tabling table term memory (admission rules) λ R.
+    pick (run_fits R term memory spare_term spare_memory)
+    (pick (lets_through list table) (ran_with list table term memory R) (untabled table term memory Refusal.reader))
+    (untabled table term memory Refusal.space)
 
 -- A scratch buffer afterwards: a refusal writes nothing; else its words may be anything, and an odd last byte is kept.
 abbrev pub ScratchAfter : {X : Type 0} → Answer X → List ℕ → List ℕ → Type 0

@@ -1,4 +1,5 @@
--- The refusals by their words (document 01, the table under "Operations"). They are tested in the table's order: 1 to 8, 10, 11, 9, 12.
+-- The refusals by their words (document 01, the table under "Operations"). They are tested in the table's order: 1 to 8, 10, 11, 9, 12;
+-- request K1's 13 (document 02) after 9.
 use Rattle.std.specs.Prelude.{List, [], ◌∷◌, ℕ}
 
 abbrev pub length : ℕ
@@ -37,12 +38,18 @@ stranger = 11
 abbrev pub not_offered : ℕ
 not_offered = 12
 
--- The refusals of each operation, by document 01's numbers: admission's, Start's and Run's, Count's, Move's, Present's.
+abbrev pub reader : ℕ
+reader = 13
+
+-- The refusals of each operation, by document 01's numbers: admission's, Start's, Run's, Count's, Move's, Present's.
 abbrev pub of_admission : List ℕ
 of_admission = 1 ∷ 2 ∷ 3 ∷ 4 ∷ 5 ∷ 6 ∷ 7 ∷ 8 ∷ []
 
 abbrev pub of_start : List ℕ
 of_start = 9 ∷ of_admission
+
+abbrev pub of_run : List ℕ
+of_run = 9 ∷ 13 ∷ of_admission
 
 abbrev pub of_count : List ℕ
 of_count = 10 ∷ 9 ∷ of_admission
@@ -53,3 +60,7 @@ of_move = 10 ∷ 9 ∷ 12 ∷ of_admission
 
 abbrev pub of_present : List ℕ
 of_present = 10 ∷ 11 ∷ 9 ∷ 12 ∷ of_admission
+
+-- Of any operation.
+abbrev pub of_any : List ℕ
+of_any = 10 ∷ 11 ∷ 9 ∷ 13 ∷ 12 ∷ of_admission

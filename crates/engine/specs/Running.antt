@@ -1,5 +1,5 @@
 -- What Run answers and leaves, by the specification's operation, which is the history machine's run (document 01, "Operations"; "Memory and the history
--- machine").
+-- machine"; document 02, K1).
 use Rattle.std.specs.Prelude.{◌≡◌, List, ℕ, Ok, Err, Result}
 use Rattle.eb3.specs.Answers.{Answer, refused, answered, Ran as Answer_ran}
 use Rattle.eb3.specs.Operations.{run, ScratchAfter}
@@ -15,9 +15,10 @@ unfoldable pub ran_as : Answer Answer_ran → Result Totals Refusal
 ran_as (refused k) = Err (refusal k)
 ran_as (answered m) = Ok (totals m)
 
--- With the lent buffers afterwards. Of the spare ones only the first is written, and of it, where the run is done, only whole words.
-pub record RunDone (rules numbers term memory spare_term spare_memory : List ℕ) (r : Result Totals Refusal) (term' memory' spare' : List ℕ) : Type 0 where
-  pub answer : r ≡ ran_as (run rules numbers term memory spare_term spare_memory).answer
-  pub term_after : term' ≡ (run rules numbers term memory spare_term spare_memory).term
-  pub memory_after : memory' ≡ (run rules numbers term memory spare_term spare_memory).memory
-  pub scratch_after : ScratchAfter (run rules numbers term memory spare_term spare_memory).answer spare_term spare'
+-- With the lent table and buffers afterwards. Of the spare ones only the first is written, and of it, where the run is done, only whole words.
+pub record RunDone (rules list table term memory spare_term spare_memory : List ℕ) (r : Result Totals Refusal) (table' term' memory' spare' : List ℕ) : Type 0 where
+  pub answer : r ≡ ran_as (run rules list table term memory spare_term spare_memory).written.answer
+  pub table_after : table' ≡ (run rules list table term memory spare_term spare_memory).table
+  pub term_after : term' ≡ (run rules list table term memory spare_term spare_memory).written.term
+  pub memory_after : memory' ≡ (run rules list table term memory spare_term spare_memory).written.memory
+  pub scratch_after : ScratchAfter (run rules list table term memory spare_term spare_memory).written.answer spare_term spare'

@@ -1,5 +1,5 @@
-// Run: from the start by a whole list of move numbers; numbers that are not offered are counted and skipped (document 01, "Operations"). The
-// rule set is admitted once.
+// Run: from the start by a whole list of move numbers; numbers that are not offered are counted and skipped (document 01, "Operations"), and
+// each is counted at its card reader (document 02, K1). The rule set is admitted once.
 ghost use Rattle.std.specs.Prelude.{◌≡◌, ◌*◌, ◌≤◌, length};
 ghost use Rattle.engine.specs.Running.{RunDone};
 
@@ -11,22 +11,25 @@ use blocks::{CONTENT_WORDS, open};
 use declarations::DIRECTORY;
 use mains::admitted::{Admitted, Course};
 use mains::{Totals, run_main};
+use readers::list::lets_through;
+use readers::{COUNTS, add_table};
 use refusals::Refusal;
 
-// An opened file, decoded into lent words.
-// Stays, here and below: the words, the term, the memory and the spare buffer are lent apart, as in mains (its `finish` says why). That the words have
-// room for the blocks is the clause of `blocks::join`, whose line says why.
+// An opened file, decoded into lent words. What was counted at each reader is added to the table at the end.
+// Stays, here and below: the words, the table, the term, the memory and the spare buffer are lent apart, as in mains (its `finish` says why). That the words
+// have room for the blocks is the clause of `blocks::join`, whose line says why.
 fn run_in(
     file: &Blocks,
     words: &mut [u16],
-    numbers: &[u8],
+    list: &[u8],
+    table: &mut [u8],
     term: &mut [u8],
     memory: &mut [u8],
     spare: &mut [u8],
     cells: &[u8],
 ) -> Result<Totals, Refusal>
     requires { 254 * file.now.count ≤ length words.old }
-    ensures { RunDone file.now.bytes.now numbers.now term.old memory.old spare.old cells.now result term.new memory.new spare.new }
+    ensures { RunDone file.now.bytes.now list.now table.old term.old memory.old spare.old cells.now result table.new term.new memory.new spare.new }
 {
     let mut tables = [0u32; TABLES];
     let mut dir = [0u32; DIRECTORY];
@@ -37,14 +40,15 @@ fn run_in(
     room(memory.len(), c)?;
     room(spare.len(), reach)?;
     room(cells.len(), c)?;
+    if !lets_through(list, table) {
+        return Err(Refusal::Reader);
+    }
     let end = CONTENT_WORDS * file.count;
     let rules = Admitted::of(&words[2..end], &tables, &dir, c);
-    let course = Course {
-        rules,
-        reach,
-        numbers,
-    };
-    let totals = run_main(&course, term, memory, spare);
+    let course = Course { rules, reach, list };
+    let mut by_reader = [0u32; COUNTS];
+    let totals = run_main(&course, term, memory, spare, &mut by_reader);
+    add_table(table, &by_reader);
     Ok(totals)
 }
 
@@ -53,35 +57,38 @@ fn run_in(
 // gives as numbers: the check finds it there, and no struct is needed for it.
 fn run_sized<const WORDS: usize>(
     file: &Blocks,
-    numbers: &[u8],
+    list: &[u8],
+    table: &mut [u8],
     term: &mut [u8],
     memory: &mut [u8],
     spare: &mut [u8],
     cells: &[u8],
 ) -> Result<Totals, Refusal>
     requires { (254 * file.now.count ≤ WORDS) × (WORDS ≤ 16256) }
-    ensures { RunDone file.now.bytes.now numbers.now term.old memory.old spare.old cells.now result term.new memory.new spare.new }
+    ensures { RunDone file.now.bytes.now list.now table.old term.old memory.old spare.old cells.now result table.new term.new memory.new spare.new }
 {
     let mut words = [0u16; WORDS];
-    let r = run_in(file, &mut words, numbers, term, memory, spare, cells);
+    let r = run_in(file, &mut words, list, table, term, memory, spare, cells);
     r
 }
 
-// Run: what the history machine ends with, in the lent term and memory; or the first refusal of 1 to 9, and nothing is written. Of the
-// two spare buffers, one for a term and one for cells, only the first is written, and only in whole words.
+// Run: what the history machine ends with, in the lent term and memory, and its counts by reader added to the lent table; or the first
+// refusal of 1 to 9 and then 13, and nothing is written. Of the two spare buffers, one for a term and one for cells, only the first is
+// written, and only in whole words.
 pub fn run(
     rules: &[u8],
-    numbers: &[u8],
+    list: &[u8],
+    table: &mut [u8],
     term: &mut [u8],
     memory: &mut [u8],
     spare: &mut [u8],
     cells: &[u8],
 ) -> Result<Totals, Refusal>
-    ensures { RunDone rules.now numbers.now term.old memory.old spare.old cells.now result term.new memory.new spare.new }
+    ensures { RunDone rules.now list.now table.old term.old memory.old spare.old cells.now result table.new term.new memory.new spare.new }
 {
     let file = open(rules)?;
     if file.count <= 1 {
-        return run_sized::<254>(&file, numbers, term, memory, spare, cells);
+        return run_sized::<254>(&file, list, table, term, memory, spare, cells);
     }
-    run_sized::<16256>(&file, numbers, term, memory, spare, cells)
+    run_sized::<16256>(&file, list, table, term, memory, spare, cells)
 }

@@ -79,18 +79,18 @@ refused_from (answered p) k e = absurd (let z : ◌≡◌ {A = ℕ} 0 1 = cc in 
 
 -- A rule set is refused by a number from 1 to 8, and a term by 10.
 module _ (rules term : List ℕ) where
-  more_within : (a : Answer RuleSet) → Within Why.of_admission a → Within Why.of_present a
+  more_within : (a : Answer RuleSet) → Within Why.of_admission a → Within Why.of_any a
   unfolding one_of all_of
-  more_within (refused j) h = one_of_more Why.of_present Why.of_admission tt j h
+  more_within (refused j) h = one_of_more Why.of_any Why.of_admission tt j h
   more_within (answered R) h = tt
 
-  term_within : (R : RuleSet) → Within Why.of_present (term_in R term)
+  term_within : (R : RuleSet) → Within Why.of_any (term_in R term)
   unfolding one_of
-  term_within R = picked (Within Why.of_present) (even term) _ _ (or_refused_within Why.of_present Why.term (given_term R (words_in term)) tt) tt
+  term_within R = picked (Within Why.of_any) (even term) _ _ (or_refused_within Why.of_any Why.term (given_term R (words_in term)) tt) tt
 
-  given_within : Within Why.of_present (given_in rules term)
-  given_within = and_then_within Why.of_present (admission rules) _ (more_within (admission rules) (admission_within rules)) (λ R.
-      and_then_within Why.of_present (term_in R term) _ (term_within R) (λ E. tt))
+  given_within : Within Why.of_any (given_in rules term)
+  given_within = and_then_within Why.of_any (admission rules) _ (more_within (admission rules) (admission_within rules)) (λ R.
+      and_then_within Why.of_any (term_in R term) _ (term_within R) (λ E. tt))
 
 -- The rule set and the term that an answer is about.
 pub record Found (a : Answer (RuleSet × Term)) (c g : ℕ) : Type 0 where
@@ -110,7 +110,7 @@ found_from (answered p) c g e =
 module _ (rules term words₀ : List ℕ) (n : ℕ) (r : Result Given Refusal) (words' T D ws : List ℕ) (d : GivenDone rules term words₀ n r words' T D ws) where
   pub told_refused : (k : Refusal) → r ≡ Err k → given_in rules term ≡ refused (number k)
   told_refused k e =
-      let within = refused_within Why.of_present (given_in rules term) (given_within rules term) in
+      let within = refused_within Why.of_any (given_in rules term) (given_within rules term) in
       refused_by k (given_in rules term) within (refused_from (given_in rules term) k (sym e ∙ d.answer))
 
   pub told_found : (c g : ℕ) → r ≡ found_term c g → Found (given_in rules term) c g

@@ -14,7 +14,9 @@ use Rattle.eb3.specs.RuleSets.{RuleSet, attributes}
 use Rattle.eb3.proofs.Laws.Sizes.{size_pos}
 use Rattle.eb3.specs.Unfolding.{unfold_main}
 use Rattle.eb3.specs.Spelling.{words}
-use Rattle.eb3.specs.Bytes.{words_in}
+use Rattle.eb3.specs.Readers.{numbers_in, readers_in}
+use Rattle.eb3.specs.Semantics.{Sem_M, system}
+use Rattle.eb3.specs.TransitionSystems.{outcomes}
 use Rattle.eb3.specs.Machines.{memory_run}
 use Rattle.eb3.specs.WellFormedness.{Running, Form}
 use Rattle.scan.specs.Laws.{last_all}
@@ -27,7 +29,7 @@ use Rattle.sharing.specs.Expanding.{told}
 use Rattle.sharing.specs.declared.expansion.Extent.{Extent}
 use Rattle.std.specs.Prelude.{Option, None, Some}
 use Rattle.runs.specs.ScratchLaws.{words_kept}
-use Rattle.runs.specs.Running.{Spelled, Ended}
+use Rattle.runs.specs.Running.{Spelled, Ended, CountedBy}
 use Rattle.runs.specs.Sharing.{SharedOver, RunsShared}
 use Rattle.mains.specs.Mains.{Finished}
 use Rattle.mains.specs.Starts.{RunsBare}
@@ -102,27 +104,27 @@ told_end (Some x) = omega (arith, x.few)
 
 -- ── the returns ──
 
-module _ {numbers t D : List ℕ} {w functions c reach : ℕ} {u d M : List ℕ} {paths acts middle : ℕ} {term memory term' memory' : List ℕ} where
+module _ {list t D : List ℕ} {w functions c reach : ℕ} {u d M : List ℕ} {paths acts middle : ℕ} {term memory by term' memory' by' : List ℕ} where
   -- Never without room for a word.
-  pub bare_none : {r : Totals} → length d ≡ 0 → RunsBare numbers t D w functions c reach u d M paths acts middle term memory r term' memory'
+  pub bare_none : {r : Totals} → length d ≡ 0 → RunsBare list t D w functions c reach u d M paths acts middle term memory by r term' memory' by'
   bare_none h R T at room eu unmasked spare =
       absurd (let z : ⊥ = omega (arith, room.words_room, at.reach_is, main_size R at.well, spelled_length R at.well (unfold_main R) (main_there R at.well), size_pos 1 (unfold_main R)) in z)
 
   pub bare_run : (x : Option Extent) {d₁ d₂ M₂ f mid₁ mid₂ : List ℕ} {word size low : ℕ} {tally : Tally} → word ≡ whole_word u → take 1 d₁ ≡ word ∷ [] → length d₁ ≡ length d
-      → RunsShared numbers t D w functions c u 1 d₁ M paths acts middle d₂ M₂ tally → f ≡ take tally.size d₂ → Expanded f u 0 mid₁ mid₂ (told x) → size ≡ end_of x → length mid₁ ≡ middle
+      → RunsShared list t D w functions c u 1 d₁ M by paths acts middle d₂ M₂ by' tally → f ≡ take tally.size d₂ → Expanded f u 0 mid₁ mid₂ (told x) → size ≡ end_of x → length mid₁ ≡ middle
       → Finished mid₂ size reach M₂ c term memory term' memory' → low ≡ size % 4294967296
-      → RunsBare numbers t D w functions c reach u d M paths acts middle term memory (record { size = low; visible = tally.visible; internal = tally.internal; refused = tally.refused }) term' memory'
+      → RunsBare list t D w functions c reach u d M paths acts middle term memory by (record { size = low; visible = tally.visible; internal = tally.internal; refused = tally.refused }) term' memory' by'
   unfolding memory_run
   bare_run x {d₁} {d₂} {M₂} {f} {mid₁} {mid₂} {word} {size} {low} {tally} is_word first same runs ef expanded is_size same_middle done el R T at room eu unmasked spare =
       let well = at.well in
       let er = at.reach_is in
       let ec = at.ruled.cells_are in
-      let e : Ended (SharedOver u) R (memory_run (attributes R) (unfold_main R) (words_in numbers)) d₂ M₂ tally × Unit =
+      let e : Ended (SharedOver u) R (memory_run (attributes R) (unfold_main R) (numbers_in list)) d₂ M₂ tally × CountedBy by (readers_in list) (outcomes (system (Sem_M (attributes R))) (start R well) (numbers_in list)) by' × Unit =
       runs reach (record { words_room = omega (arith, room.words_room); middle_room = room.middle_room; path_room = room.path_room; numbers_room = room.numbers_room }) R T at.ruled (start R well)
       (record { running = main_there R well; held = held_alone R well.form (unfold_main R) (main_there R well) unmasked u d₁ eu word is_word first; stored = at.stored })
       (omega (arith, er, main_reaches R well)) in
-      let last_term : Term = (memory_run (attributes R) (unfold_main R) (words_in numbers)).state.term in
+      let last_term : Term = (memory_run (attributes R) (unfold_main R) (numbers_in list)).state.term in
       let spelled : Spelled R last_term size mid₂ =
-      subst (λ n. Spelled R last_term n mid₂) (told_end x ∙ sym is_size) (expanded_so u R last_term tally.size d₂ f mid₁ mid₂ (told x) e.0.after.held ef expanded (omega (arith, run_fits R well (words_in numbers) e.0.after.running, er, room.middle_room))) in
-      main_ended R well numbers e.0 spelled ec er (omega (arith, room.middle_room, expanded.same_length)) (omega (arith, ec, e.0.after.stored.room)) at.term_room at.memory_room done el
-      (words_kept spare spare refl)
+      subst (λ n. Spelled R last_term n mid₂) (told_end x ∙ sym is_size) (expanded_so u R last_term tally.size d₂ f mid₁ mid₂ (told x) e.0.after.held ef expanded (omega (arith, run_fits R well (numbers_in list) e.0.after.running, er, room.middle_room))) in
+      main_ended R well list e.0 spelled ec er (omega (arith, room.middle_room, expanded.same_length)) (omega (arith, ec, e.0.after.stored.room)) at.term_room at.memory_room done el
+      (words_kept spare spare refl) e.1

@@ -16,12 +16,13 @@ use Rattle.eb3.specs.Spelling.{words}
 use Rattle.eb3.proofs.Laws.Spelling.{Small, words_length}
 use Rattle.eb3.proofs.Laws.Operations.{spelling_small}
 use Rattle.eb3.proofs.Laws.MainRunning.{main_running}
-use Rattle.eb3.specs.Bytes.{words_in, word_count, written}
+use Rattle.eb3.specs.Bytes.{word_count, written}
 use Rattle.eb3.specs.Memory.{cell_room, memory_words}
 use Rattle.eb3.specs.Semantics.{Sem_M, Sem_T, Situation, situation, system}
-use Rattle.eb3.specs.TransitionSystems.{TransitionSystem, initial}
-use Rattle.eb3.specs.Machines.{Machine, history_run, memory_run, Agreement}
+use Rattle.eb3.specs.TransitionSystems.{TransitionSystem, initial, outcomes}
+use Rattle.eb3.specs.Machines.{Machine, history_run, memory_run, Agreement, history_outcomes}
 use Rattle.eb3.proofs.Laws.Machines.{machines_agree}
+use Rattle.eb3.specs.Readers.{numbers_in, readers_in}
 use Rattle.eb3.specs.WellFormedness.{WellFormed, Running}
 use Rattle.eb3.specs.Answers.{answered, Ran}
 use Rattle.eb3.specs.Operations.{cells_needed, main_reach}
@@ -35,9 +36,10 @@ use Rattle.steps.specs.Storing.{Stored, Ruled}
 use Rattle.steps.specs.RuledLaws.{ruled_there}
 use Rattle.steps.specs.Judging.{whole}
 use Rattle.sharing.specs.Masks.{Shareable}
+use Rattle.readers.specs.Table.{counted_by}
 use Rattle.runs.specs.Scratch.{WordsOnly}
 use Rattle.runs.specs.ScratchLaws.{words_written, words_then}
-use Rattle.runs.specs.Running.{Holding, Spelled, Ended, Runs}
+use Rattle.runs.specs.Running.{Holding, Spelled, Ended, Runs, CountedBy}
 use Rattle.mains.specs.Mains.{RanRight, RunsMain, Finished}
 use Rattle.mains.specs.Starts.{AtStart, RunsBare, RunsMasked}
 use Rattle.mains.specs.declared.Totals.{Totals}
@@ -125,13 +127,14 @@ module _ (R : RuleSet) (well : WellFormed R) where
         λ j. record { size = s j; visible = v j; internal = i j; refusals = f j }
 
   -- What is returned and written at the end.
-  pub main_ended : {H : Holding} (numbers : List ℕ) {ws M : List ℕ} {tally : Tally} {n : ℕ} {xs : List ℕ} {c reach : ℕ} {term memory spare term' memory' spare' : List ℕ} {low : ℕ}
-      → Ended H R (memory_run (attributes R) main (words_in numbers)) ws M tally → Spelled R (memory_run (attributes R) main (words_in numbers)).state.term n xs
+  pub main_ended : {H : Holding} (list : List ℕ) {ws M : List ℕ} {tally : Tally} {n : ℕ} {xs : List ℕ} {c reach : ℕ} {term memory spare by term' memory' spare' by' : List ℕ} {low : ℕ}
+      → Ended H R (memory_run (attributes R) main (numbers_in list)) ws M tally → Spelled R (memory_run (attributes R) main (numbers_in list)).state.term n xs
       → c ≡ cells_needed R → reach ≡ main_reach R → reach ≤ length xs → now_place + c ≤ length M → reach ≤ word_count term → c ≤ cell_room memory
-      → Finished xs n reach M c term memory term' memory' → low ≡ n % 4294967296 → WordsOnly spare spare'
-      → RanRight numbers term memory spare R (record { size = low; visible = tally.visible; internal = tally.internal; refused = tally.refused }) term' memory' spare'
-  main_ended numbers {ws} {M} {tally} {n} {xs} {c} {reach} {term} {memory} {low = low} e spelled ec er room store_room term_room memory_room done el only =
-      let ks = words_in numbers in
+      → Finished xs n reach M c term memory term' memory' → low ≡ n % 4294967296 → WordsOnly spare spare' → CountedBy by (readers_in list) (outcomes L start (numbers_in list)) by'
+      → RanRight list term memory spare by R (record { size = low; visible = tally.visible; internal = tally.internal; refused = tally.refused }) term' memory' spare' by'
+  unfolding history_outcomes
+  main_ended list {ws} {M} {tally} {n} {xs} {c} {reach} {term} {memory} {by = by} {low = low} e spelled ec er room store_room term_room memory_room done el only counted =
+      let ks = numbers_in list in
       let fits = last_fits ks ws M tally e n xs spelled in
       let size_is = last_size ks ws M tally e n xs spelled in
       let words_are = last_words ks ws M tally e n xs spelled in
@@ -141,22 +144,23 @@ module _ (R : RuleSet) (well : WellFormed R) where
         term_after = done.term_written (omega (arith, fits, er)) room term_room ∙ (λ i. written (words_are i ++ replicate (er i - size_is i) 0) term);
         memory_after = done.memory_written store_room memory_room ∙ ap (λ k. written (take k (drop now_place M)) memory) ec ∙ ap (λ us. written us memory) cells_are;
         words_only = only;
+        counted = counted.counted_so ∙ ap (counted_by by (readers_in list)) (machines_agree (attributes R) main ks).same_outcomes;
       }
 
 -- ── from the start, in its own words ──
 
-module _ {numbers t D : List ℕ} {w functions c reach n : ℕ} {ws ws₂ M M₂ path term memory spare term' memory' spare' : List ℕ} {tally : Tally} {low : ℕ} where
-  pub masked_run : length ws₂ ≡ length ws → Runs numbers t D w functions c n ws M spare path ws₂ M₂ spare' tally → Finished ws₂ tally.size reach M₂ c term memory term' memory'
+module _ {list t D : List ℕ} {w functions c reach n : ℕ} {ws ws₂ M M₂ path term memory spare by term' memory' spare' by' : List ℕ} {tally : Tally} {low : ℕ} where
+  pub masked_run : length ws₂ ≡ length ws → Runs list t D w functions c n ws M spare path by ws₂ M₂ spare' by' tally → Finished ws₂ tally.size reach M₂ c term memory term' memory'
       → low ≡ tally.size % 4294967296
-      → RunsMasked numbers t D w functions c reach n ws M path term memory spare (record { size = low; visible = tally.visible; internal = tally.internal; refused = tally.refused }) term' memory' spare'
+      → RunsMasked list t D w functions c reach n ws M path term memory spare by (record { size = low; visible = tally.visible; internal = tally.internal; refused = tally.refused }) term' memory' spare' by'
   unfolding memory_run
   masked_run same runs done el R T at room held =
       let well = at.well in
       let er = at.reach_is in
       let ec = at.ruled.cells_are in
-      let e : Ended Spelled R (memory_run (attributes R) (unfold_main R) (words_in numbers)) ws₂ M₂ tally × WordsOnly spare spare' =
+      let e : Ended Spelled R (memory_run (attributes R) (unfold_main R) (numbers_in list)) ws₂ M₂ tally × CountedBy by (readers_in list) (outcomes (system (Sem_M (attributes R))) (start R well) (numbers_in list)) by' × WordsOnly spare spare' =
       runs reach room R T at.ruled (start R well) (record { running = main_there R well; held = held; stored = at.stored }) (omega (arith, er, main_reaches R well)) in
-      main_ended R well numbers e.0 e.0.after.held ec er (omega (arith, room.words_room)) (omega (arith, ec, e.0.after.stored.room)) at.term_room at.memory_room done el e.1
+      main_ended R well list e.0 e.0.after.held ec er (omega (arith, room.words_room)) (omega (arith, ec, e.0.after.stored.room)) at.term_room at.memory_room done el e.2 e.1
 
 -- ── main's unfolding and the cells of the start ──
 
@@ -198,20 +202,20 @@ module _ {t T D : List ℕ} {w functions c n : ℕ} {ws ws₁ M spare spare₁ :
 
 -- ── the two returns ──
 
-module _ {numbers t T D : List ℕ} {w functions c reach n : ℕ} {ws ws₁ M spare spare₁ term memory term' memory' : List ℕ} {r : Totals} where
+module _ {list t T D : List ℕ} {w functions c reach n : ℕ} {ws ws₁ M spare spare₁ term memory by term' memory' by' : List ℕ} {r : Totals} where
   -- With a label in some mask.
   pub words_masked : {path spare₂ : List ℕ} → Begun t T D w functions c n ws ws₁ M spare spare₁ → length path ≡ length ws
-      → RunsMasked numbers t D w functions c reach n ws₁ M path term memory spare₁ r term' memory' spare₂ → RunsMain numbers t T D c reach (length ws) term memory spare r term' memory' spare₂
+      → RunsMasked list t D w functions c reach n ws₁ M path term memory spare₁ by r term' memory' spare₂ by' → RunsMain list t T D c reach (length ws) term memory spare by r term' memory' spare₂ by'
   words_masked {path} {spare₂} begun same_path runs R well d ec er room term_room memory_room spare_room =
       let only = spare_words begun R well d ec er spare_room in
       let q = runs R T (at_start begun R well d ec er term_room memory_room)
       (record { words_room = omega (arith, begun.loaded.same_length); bytes_room = omega (arith, only.same_length); path_room = omega arith }) (main_held begun R well d ec er spare_room room) in
-      record { answer = q.answer; term_after = q.term_after; memory_after = q.memory_after; words_only = words_then spare spare₁ spare₂ only q.words_only }
+      record { answer = q.answer; term_after = q.term_after; memory_after = q.memory_after; words_only = words_then spare spare₁ spare₂ only q.words_only; counted = q.counted }
 
   -- Without: the unfolding stays as it is, and no more is written into the spare bytes.
   pub words_bare : {f u d₁ : List ℕ} {ok : Bool} {paths acts middle : ℕ} → Begun t T D w functions c n ws ws₁ M spare spare₁ → f ≡ take n ws₁ → Shareable f ok → ok ≡ true → u ≡ take n ws₁
-      → length d₁ ≡ length ws → paths ≡ length ws → acts ≡ length ws → middle ≡ length ws → RunsBare numbers t D w functions c reach u d₁ M paths acts middle term memory r term' memory'
-      → RunsMain numbers t T D c reach (length ws) term memory spare r term' memory' spare₁
+      → length d₁ ≡ length ws → paths ≡ length ws → acts ≡ length ws → middle ≡ length ws → RunsBare list t D w functions c reach u d₁ M paths acts middle term memory by r term' memory' by'
+      → RunsMain list t T D c reach (length ws) term memory spare by r term' memory' spare₁ by'
   words_bare {f} {u} begun ef shareable yes_ok eu same same_path same_acts same_middle runs R well d ec er room term_room memory_room spare_room =
       let held = main_held begun R well d ec er spare_room room in
       let only = spare_words begun R well d ec er spare_room in
@@ -220,4 +224,4 @@ module _ {numbers t T D : List ℕ} {w functions c reach n : ℕ} {ws ws₁ M sp
       let q = runs R T (at_start begun R well d ec er term_room memory_room)
       (record { words_room = omega arith; middle_room = omega arith; path_room = omega arith; numbers_room = omega arith })
       (eu ∙ held.spelled) (shareable yes_ok _ (unfold_main R) [] there) spare₁ in
-      record { answer = q.answer; term_after = q.term_after; memory_after = q.memory_after; words_only = words_then spare spare₁ spare₁ only q.words_only }
+      record { answer = q.answer; term_after = q.term_after; memory_after = q.memory_after; words_only = words_then spare spare₁ spare₁ only q.words_only; counted = q.counted }

@@ -28,32 +28,32 @@ pub record AtStart (R : RuleSet) (t T D : List ℕ) (w functions c reach : ℕ) 
   pub memory_room : c ≤ cell_room memory
 
 -- From the words u of an unfolding that has no masks; no spare bytes are written.
-abbrev pub RunsBare : (numbers t D : List ℕ) (w functions c reach : ℕ) (u d M : List ℕ) (paths acts middle : ℕ) (term memory : List ℕ) (r : Totals) (term' memory' : List ℕ) → Type 0
-RunsBare numbers t D w functions c reach u d M paths acts middle term memory r term' memory' =
+abbrev pub RunsBare : (list t D : List ℕ) (w functions c reach : ℕ) (u d M : List ℕ) (paths acts middle : ℕ) (term memory by : List ℕ) (r : Totals) (term' memory' by' : List ℕ) → Type 0
+RunsBare list t D w functions c reach u d M paths acts middle term memory by r term' memory' by' =
     (R : RuleSet) (T : List ℕ) → AtStart R t T D w functions c reach M term memory → RoomyOver reach u d paths acts middle → u ≡ words 1 (unfold_main R) → Unmasked (unfold_main R)
-    → (spare : List ℕ) → RanRight numbers term memory spare R r term' memory' spare
+    → (spare : List ℕ) → RanRight list term memory spare by R r term' memory' spare by'
 
 -- From its first n words, in which the run goes on.
-abbrev pub RunsMasked : (numbers t D : List ℕ) (w functions c reach n : ℕ) (ws M path term memory spare : List ℕ) (r : Totals) (term' memory' spare' : List ℕ) → Type 0
-RunsMasked numbers t D w functions c reach n ws M path term memory spare r term' memory' spare' =
+abbrev pub RunsMasked : (list t D : List ℕ) (w functions c reach n : ℕ) (ws M path term memory spare by : List ℕ) (r : Totals) (term' memory' spare' by' : List ℕ) → Type 0
+RunsMasked list t D w functions c reach n ws M path term memory spare by r term' memory' spare' by' =
     (R : RuleSet) (T : List ℕ) → AtStart R t T D w functions c reach M term memory → Roomy reach ws spare path → Spelled R (unfold_main R) n ws
-    → RanRight numbers term memory spare R r term' memory' spare'
+    → RanRight list term memory spare by R r term' memory' spare' by'
 
 -- ── the same of a course ──
 
--- By the course's numbers, rule set and reach.
-abbrev pub CourseBare : (course : Course) (u d M : List ℕ) (paths acts middle : ℕ) (term memory : List ℕ) (r : Totals) (term' memory' : List ℕ) → Type 0
-CourseBare course u d M paths acts middle term memory r term' memory' =
+-- By the course's list, rule set and reach.
+abbrev pub CourseBare : (course : Course) (u d M : List ℕ) (paths acts middle : ℕ) (term memory by : List ℕ) (r : Totals) (term' memory' by' : List ℕ) → Type 0
+CourseBare course u d M paths acts middle term memory by r term' memory' by' =
     let functions = course.rules.functions in
-    RunsBare course.numbers.now functions.words.now functions.directory.now functions.width functions.count functions.cells course.reach u d M paths acts middle term memory r term' memory'
+    RunsBare course.list.now functions.words.now functions.directory.now functions.width functions.count functions.cells course.reach u d M paths acts middle term memory by r term' memory' by'
 
-abbrev pub CourseMasked : (course : Course) (n : ℕ) (ws M path term memory spare : List ℕ) (r : Totals) (term' memory' spare' : List ℕ) → Type 0
-CourseMasked course n ws M path term memory spare r term' memory' spare' =
+abbrev pub CourseMasked : (course : Course) (n : ℕ) (ws M path term memory spare by : List ℕ) (r : Totals) (term' memory' spare' by' : List ℕ) → Type 0
+CourseMasked course n ws M path term memory spare by r term' memory' spare' by' =
     let functions = course.rules.functions in
-    RunsMasked course.numbers.now functions.words.now functions.directory.now functions.width functions.count functions.cells course.reach n ws M path term memory spare r term' memory' spare'
+    RunsMasked course.list.now functions.words.now functions.directory.now functions.width functions.count functions.cells course.reach n ws M path term memory spare by r term' memory' spare' by'
 
 -- There is room for `room` words.
-abbrev pub CourseMain : (course : Course) (room : ℕ) (term memory spare : List ℕ) (r : Totals) (term' memory' spare' : List ℕ) → Type 0
-CourseMain course room term memory spare r term' memory' spare' =
+abbrev pub CourseMain : (course : Course) (room : ℕ) (term memory spare by : List ℕ) (r : Totals) (term' memory' spare' by' : List ℕ) → Type 0
+CourseMain course room term memory spare by r term' memory' spare' by' =
     let functions = course.rules.functions in
-    RunsMain course.numbers.now functions.words.now course.rules.tables.now functions.directory.now functions.cells course.reach room term memory spare r term' memory' spare'
+    RunsMain course.list.now functions.words.now course.rules.tables.now functions.directory.now functions.cells course.reach room term memory spare by r term' memory' spare' by'

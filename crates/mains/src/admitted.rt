@@ -1,4 +1,5 @@
-// The rule set that was admitted, in the form that the later steps use, and what a run of it is given (document 01, "Operations": each begins with Admit; Run).
+// The rule set that was admitted, in the form that the later steps use, and what a run of it is given (document 01, "Operations": each begins with Admit; Run;
+// document 02, K1).
 ghost use Rattle.std.specs.Prelude.{◌≡◌, ◌+◌, ◌≤◌, length, get_or};
 
 use arguments::layout::TABLES;
@@ -16,14 +17,14 @@ pub struct Admitted<'a> {
     pub ghost few_cells: { functions.cells ≤ 1024 },
 }
 
-/// What is run: an admitted rule set's main, by the numbers of moves.
+/// What is run: an admitted rule set's main, by the numbers of moves, each with its card reader.
 #[derive(Clone, Copy)]
 pub struct Course<'a, 'b> {
     pub rules: Admitted<'a>,
     /// Main's reach: no term of the run has more words.
     pub reach: usize,
-    /// The numbers, two bytes each.
-    pub numbers: &'b [u8],
+    /// The numbers, two bytes each, and after each its reader, two bytes more.
+    pub list: &'b [u8],
 }
 
 impl<'a> Admitted<'a> {

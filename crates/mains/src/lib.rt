@@ -1,6 +1,7 @@
 // The run of a rule set's main process from the start: its term in words, its cells in a store, the lent buffers written at the end
 // (document 01, "Operations": Run writes the last term, zeros up to main's G, and the cells). Main is unfolded in one spare buffer,
-// of which only whole words are written; the successors of a term with masks are built there, too.
+// of which only whole words are written; the successors of a term with masks are built there, too. Each number is counted at its reader
+// (document 02, K1).
 // Stays: that words are at most 65,535 is a clause of each function here, for the reason in successors (docs/DESIGN-PASS.md, "A struct for words").
 #![tactic(auto)]
 
@@ -11,6 +12,7 @@ ghost use Rattle.mains.specs.Starts.{CourseBare, CourseMasked, CourseMain};
 use admitted::Course;
 use cells::{load, save};
 use expressions::store;
+use readers::COUNTS;
 use runs::scratch::Scratch;
 use runs::shared::run_shared;
 use runs::{Tally, run_moves};
@@ -85,7 +87,7 @@ fn finish(
 
 // From the words of main's unfolding, which has no masks, and the cells of the start: at first the term is the whole of it, and the last
 // one is written out in full.
-// Stays: that u has at most 65,503 words is what sharing asks.
+// Stays: that u has at most 65,503 words is what sharing asks; and eight parameters, for the reason at `finish`: six are lent.
 fn run_bare(
     course: &Course,
     u: &[u16],
@@ -94,9 +96,10 @@ fn run_bare(
     scratch: &mut Scratch,
     term: &mut [u8],
     memory: &mut [u8],
+    by_reader: &mut [u32; COUNTS],
 ) -> Totals
     requires { (length u.now ≤ 65503) × (length d.old ≤ 65535) }
-    ensures { CourseBare course.now u.now d.old m.old (length scratch.old.path.now) (length scratch.old.acts.now) (length scratch.old.mid.now) term.old memory.old result term.new memory.new }
+    ensures { CourseBare course.now u.now d.old m.old (length scratch.old.path.now) (length scratch.old.acts.now) (length scratch.old.mid.now) term.old memory.old by_reader.old result term.new memory.new by_reader.new }
 {
     // never with room for main
     if d.len() == 0 {
@@ -104,7 +107,7 @@ fn run_bare(
     }
     d[0] = part_word(u);
     let functions = &course.rules.functions;
-    let r = run_shared(course.numbers, functions, u, 1, d, m, scratch);
+    let r = run_shared(course.list, functions, u, 1, d, m, scratch, by_reader);
     // never None: there is room for main's reach
     let end = expand(u, front(d, r.size), scratch.mid, 0).map_or(0, |last| last.end);
     let last = Tally { size: end, ..r };
@@ -112,7 +115,7 @@ fn run_bare(
 }
 
 // With masks, or with operands too deep to be shared, the term is held in its own words.
-// Stays: eight parameters, for the reason at `finish`: six are lent. The term is the first n words of ws, and no slice of them, since `finish` fills ws up to
+// Stays: nine parameters, for the reason at `finish`: seven are lent. The term is the first n words of ws, and no slice of them, since `finish` fills ws up to
 // main's reach.
 fn run_masked(
     course: &Course,
@@ -123,16 +126,18 @@ fn run_masked(
     term: &mut [u8],
     memory: &mut [u8],
     spare: &mut [u8],
+    by_reader: &mut [u32; COUNTS],
 ) -> Totals
     requires { length ws.old ≤ 65535 }
-    ensures { (length spare.new ≡ length spare.old) × CourseMasked course.now n ws.old m.old scratch.old.path.now term.old memory.old spare.old result term.new memory.new spare.new }
+    ensures { (length spare.new ≡ length spare.old) × CourseMasked course.now n ws.old m.old scratch.old.path.now term.old memory.old spare.old by_reader.old result term.new memory.new spare.new by_reader.new }
 {
     let functions = &course.rules.functions;
-    let r = run_moves(course.numbers, functions, n, ws, m, spare, scratch);
+    let r = run_moves(course.list, functions, n, ws, m, spare, scratch, by_reader);
     finish(course, ws, r, m, term, memory)
 }
 
 // Main's unfolding and the cells of the start, then all numbers, in lent words with room for main's reach; every other array is as long.
+// Stays: eight parameters, for the reason at `finish`: seven are lent.
 fn run_words(
     course: &Course,
     ws: &mut [u16],
@@ -141,9 +146,10 @@ fn run_words(
     term: &mut [u8],
     memory: &mut [u8],
     spare: &mut [u8],
+    by_reader: &mut [u32; COUNTS],
 ) -> Totals
     requires { (length ws.old ≤ 65503) × (length d.old ≡ length ws.old) × (length scratch.old.path.now ≡ length ws.old) × (length scratch.old.acts.now ≡ length ws.old) × (length scratch.old.mid.now ≡ length ws.old) }
-    ensures { CourseMain course.now (length ws.old) term.old memory.old spare.old result term.new memory.new spare.new }
+    ensures { CourseMain course.now (length ws.old) term.old memory.old spare.old by_reader.old result term.new memory.new spare.new by_reader.new }
 {
     let rules = &course.rules;
     let tables = rules.tables;
@@ -152,9 +158,20 @@ fn run_words(
     let mut m = [0u16; store::WORDS];
     start_store(&rules.functions, &mut m);
     if shareable(front(ws, n)) {
-        return run_bare(course, front(ws, n), d, &mut m, scratch, term, memory);
+        return run_bare(
+            course,
+            front(ws, n),
+            d,
+            &mut m,
+            scratch,
+            term,
+            memory,
+            by_reader,
+        );
     }
-    run_masked(course, n, ws, &mut m, scratch, term, memory, spare)
+    run_masked(
+        course, n, ws, &mut m, scratch, term, memory, spare, by_reader,
+    )
 }
 
 // The same in arrays of N words, for a reach of at most N. It is a function apart from its caller, so that a short reach does not pay
@@ -166,9 +183,10 @@ fn run_sized<const N: usize>(
     term: &mut [u8],
     memory: &mut [u8],
     spare: &mut [u8],
+    by_reader: &mut [u32; COUNTS],
 ) -> Totals
     requires { N ≤ 65503 }
-    ensures { CourseMain course.now N term.old memory.old spare.old result term.new memory.new spare.new }
+    ensures { CourseMain course.now N term.old memory.old spare.old by_reader.old result term.new memory.new spare.new by_reader.new }
 {
     let mut ws = [0u16; N];
     let mut d = [0u16; N];
@@ -180,19 +198,34 @@ fn run_sized<const N: usize>(
         acts: &mut acts,
         mid: &mut mid,
     };
-    let r = run_words(course, &mut ws, &mut d, &mut scratch, term, memory, spare);
+    let r = run_words(
+        course,
+        &mut ws,
+        &mut d,
+        &mut scratch,
+        term,
+        memory,
+        spare,
+        by_reader,
+    );
     r
 }
 
 // From the start by all numbers, into buffers with room for main's reach and the cells.
-pub fn run_main(course: &Course, term: &mut [u8], memory: &mut [u8], spare: &mut [u8]) -> Totals
-    ensures { CourseMain course.now 8192 term.old memory.old spare.old result term.new memory.new spare.new }
+pub fn run_main(
+    course: &Course,
+    term: &mut [u8],
+    memory: &mut [u8],
+    spare: &mut [u8],
+    by_reader: &mut [u32; COUNTS],
+) -> Totals
+    ensures { CourseMain course.now 8192 term.old memory.old spare.old by_reader.old result term.new memory.new spare.new by_reader.new }
 {
     if course.reach <= 256 {
-        return run_sized::<256>(course, term, memory, spare);
+        return run_sized::<256>(course, term, memory, spare, by_reader);
     }
     if course.reach <= 1024 {
-        return run_sized::<1024>(course, term, memory, spare);
+        return run_sized::<1024>(course, term, memory, spare, by_reader);
     }
-    run_sized::<8192>(course, term, memory, spare)
+    run_sized::<8192>(course, term, memory, spare, by_reader)
 }

@@ -5,4 +5,3 @@ pub mod Bytes
 pub mod Increase
 pub mod Counting
 pub mod Lists
-pub mod Readers

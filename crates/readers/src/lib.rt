@@ -3,15 +3,18 @@
 #![tactic(auto)]
 
 ghost use Rattle.std.specs.Prelude.{◌≡◌, ℕ, ◌+◌, ◌*◌, ◌%◌, ◌<◌, ◌≤◌, true, length, slice_index, slice_index_or};
-ghost use Rattle.eb3.specs.Bytes.{words_in};
-ghost use Rattle.readers.specs.Readers.{doubles_in};
-ghost use Rattle.readers.specs.Readers.{increased};
+ghost use Rattle.eb3.specs.Bytes.{words_in, doubles_in};
+ghost use Rattle.eb3.specs.Readers.{increased};
 ghost use Rattle.readers.specs.Table.{none, Of32Bits, plus as sums, added_to, counts_at, added_first, records, place_of, one_more};
 ghost use Rattle.readers.specs.Placing.{put_number, put_record, put_first};
 
 pub mod list;
 
-#[repr(C)]
+// How many card readers there are, and records in a table.
+const READERS: usize = 32;
+/// How many numbers a run counts in: three for each reader.
+pub const COUNTS: usize = 3 * READERS;
+
 #[derive(Clone, Copy, Default, PartialEq)]
 pub struct Counts {
     pub visible: u32,
@@ -21,7 +24,7 @@ pub struct Counts {
 
 // The sums of two records, each number modulo 4,294,967,296.
 // Stays field by field: each field is a sum, and nothing is taken over as it is.
-pub fn plus(c: Counts, d: Counts) -> Counts
+fn plus(c: Counts, d: Counts) -> Counts
     ensures { result ≡ sums c d }
 {
     Counts {
@@ -32,21 +35,12 @@ pub fn plus(c: Counts, d: Counts) -> Counts
 }
 
 // Adds to one record of a lent table; the others are kept.
-// Stays, here and below: a reader is a usize with its bound as a clause, since it is the place of a record, and what is public asks no more of its callers.
-pub fn add_to(table: &mut [Counts], reader: usize, more: Counts)
-    requires { reader < length table.old }
-    ensures { table.new ≡ added_to table.old reader more }
+// Stays, here and below: the index of a record, which is counted from 0 where readers are from 1, is a usize with its bound as a clause.
+pub fn add_to(table: &mut [Counts], index: usize, more: Counts)
+    requires { index < length table.old }
+    ensures { table.new ≡ added_to table.old index more }
 {
-    table[reader] = plus(table[reader], more);
-}
-
-// The same of a table by value, which is lent to it.
-pub fn add_in(mut table: [Counts; 32], reader: usize, more: Counts) -> [Counts; 32]
-    requires { reader < 32 }
-    ensures { result ≡ added_to table reader more }
-{
-    add_to(&mut table, reader, more);
-    table
+    table[index] = plus(table[index], more);
 }
 
 // ── what a run counts: three numbers a reader, in the order of a record ──
@@ -68,27 +62,24 @@ impl Outcome {
     }
 }
 
-// One more of an outcome at a reader; readers are counted from 0.
-// Stays, here and below: a slice with its length as a fact: public functions take it so, and what is public asks no more of its callers; private ones are handed
-// what those were.
-// Stays, here and below: that what is lent keeps its length is a fact of what it was and what it is then, which no field of a struct holds.
-pub fn count_one(counted: &mut [u32], reader: usize, outcome: Outcome)
-    requires { (reader < 32) × (length counted.old ≡ 96) }
-    ensures { (counted.new ≡ one_more counted.old reader (place_of outcome)) × (length counted.new ≡ length counted.old) }
+// One more of an outcome, at the reader whose record has this index.
+pub fn count_one(by_reader: &mut [u32; COUNTS], index: usize, outcome: Outcome)
+    requires { index < 32 }
+    ensures { by_reader.new ≡ one_more by_reader.old index (place_of outcome) }
 {
-    let at = 3 * reader + outcome.place();
-    counted[at] = counted[at].wrapping_add(1);
+    let at = 3 * index + outcome.place();
+    by_reader[at] = by_reader[at].wrapping_add(1);
 }
 
-fn counts_at(counted: &[u32], reader: usize) -> Counts
-    requires { (reader < 32) × (length counted.now ≡ 96) }
-    ensures { result ≡ counts_at counted.now reader }
+fn counts_at(by_reader: &[u32; COUNTS], index: usize) -> Counts
+    requires { index < 32 }
+    ensures { result ≡ counts_at by_reader.now index }
 {
-    let at = 3 * reader;
+    let at = 3 * index;
     Counts {
-        visible: counted[at],
-        internal: counted[at + 1],
-        refused: counted[at + 2],
+        visible: by_reader[at],
+        internal: by_reader[at + 1],
+        refused: by_reader[at + 2],
     }
 }
 
@@ -100,12 +91,12 @@ fn idle(c: Counts) -> bool
 }
 
 // What was counted at each reader, added to its record.
-fn add_all(mut table: [Counts; 32], counted: &[u32]) -> [Counts; 32]
-    requires { (length counted.now ≡ 96) × ((r : ℕ) → Of32Bits (slice_index_or table r none)) }
-    ensures { result ≡ added_first 32 counted.now table }
+fn add_all(mut table: [Counts; READERS], by_reader: &[u32; COUNTS]) -> [Counts; READERS]
+    requires { (r : ℕ) → Of32Bits (slice_index_or table r none) }
+    ensures { result ≡ added_first 32 by_reader.now table }
 {
-    for i in 0..32 {
-        let more = counts_at(counted, i);
+    for i in 0..READERS {
+        let more = counts_at(by_reader, i);
         if !idle(more) {
             add_to(&mut table, i, more);
         }
@@ -128,11 +119,11 @@ fn read_number(table: &[u8], i: usize) -> u32
 
 // Stays beside counts_at: one function for both would be lent a closure that reads number i, of a host's bytes or of what a run has counted, and what each
 // closure answers would have to be a clause: more than three fields.
-fn read_record(table: &[u8], reader: usize) -> Counts
-    requires { (reader < 32) × (384 ≤ length table.now) }
-    ensures { result ≡ counts_at (doubles_in (words_in table.now)) reader }
+fn read_record(table: &[u8], index: usize) -> Counts
+    requires { (index < 32) × (384 ≤ length table.now) }
+    ensures { result ≡ counts_at (doubles_in (words_in table.now)) index }
 {
-    let at = 3 * reader;
+    let at = 3 * index;
     Counts {
         visible: read_number(table, at),
         internal: read_number(table, at + 1),
@@ -140,12 +131,12 @@ fn read_record(table: &[u8], reader: usize) -> Counts
     }
 }
 
-fn read_records(table: &[u8]) -> [Counts; 32]
+fn read_records(table: &[u8]) -> [Counts; READERS]
     requires { 384 ≤ length table.now }
     ensures { result ≡ records 32 (doubles_in (words_in table.now)) }
 {
-    let mut t = [Counts::default(); 32];
-    for i in 0..32 {
+    let mut t = [Counts::default(); READERS];
+    for i in 0..READERS {
         t[i] = read_record(table, i);
     }
     t
@@ -160,32 +151,32 @@ fn write_number(table: &mut [u8], i: usize, n: u32)
     table[at..at + 4].copy_from_slice(&n.to_le_bytes());
 }
 
-fn write_record(table: &mut [u8], reader: usize, c: Counts)
-    requires { (reader < 32) × (384 ≤ length table.old) }
-    ensures { (table.new ≡ put_record table.old reader c) × (length table.new ≡ length table.old) }
+fn write_record(table: &mut [u8], index: usize, c: Counts)
+    requires { (index < 32) × (384 ≤ length table.old) }
+    ensures { (table.new ≡ put_record table.old index c) × (length table.new ≡ length table.old) }
 {
-    let at = 3 * reader;
+    let at = 3 * index;
     write_number(table, at, c.visible);
     write_number(table, at + 1, c.internal);
     write_number(table, at + 2, c.refused);
 }
 
-fn write_records(table: &mut [u8], t: [Counts; 32])
+fn write_records(table: &mut [u8], t: [Counts; READERS])
     requires { 384 ≤ length table.old }
     ensures { table.new ≡ put_first 32 t table.old }
 {
-    for i in 0..32 {
+    for i in 0..READERS {
         write_record(table, i, t[i]);
     }
 }
 
 // What a run has counted, added to a host's table of 32 records or more: what comes after them is kept.
-// Stays by records, through `add_to`: document 02 (K1) names a lent slice of count structs and one function that adds to one record.
-pub fn add_table(table: &mut [u8], counted: &[u32])
-    requires { (384 ≤ length table.old) × (length counted.now ≡ 96) }
-    ensures { table.new ≡ increased counted.now table.old }
+// Stays by records, through `add_to`: document 01 names for K1 a lent slice of count structs with one thin function that adds to one record.
+pub fn add_table(table: &mut [u8], by_reader: &[u32; COUNTS])
+    requires { 384 ≤ length table.old }
+    ensures { table.new ≡ increased by_reader.now table.old }
 {
     let t = read_records(table);
-    let u = add_all(t, counted);
+    let u = add_all(t, by_reader);
     write_records(table, u);
 }

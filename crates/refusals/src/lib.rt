@@ -1,4 +1,4 @@
-// The refusals as an enum, by document 01's words, and their numbers (document 01, the table under "Operations").
+// The refusals as an enum, by document 01's words, and their numbers (document 01, the table under "Operations"; document 02, K1).
 // Stays in numbers here, and nowhere else: C hosts get them (host/eb3.h), and the exported functions' contracts say them.
 #![tactic(auto)]
 
@@ -19,6 +19,7 @@ pub enum Refusal {
     Term = 10,
     Stranger = 11,
     NotOffered = 12,
+    Reader = 13,
 }
 
 impl From<Refusal> for u32 {

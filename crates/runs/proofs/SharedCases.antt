@@ -4,7 +4,7 @@ use mathlib.Core.Path.{◌≡◌, refl, sym, ap, ◌∙◌, subst}
 use mathlib.Core.List.{List}
 use mathlib.Core.Option.{Option as Maybe, none, some}
 use Rattle.std.specs.Prelude.{Option, None, Some}
-use Prim.Native.Nat.{ℕ, ◌+◌, ◌≤◌, ◌<◌}
+use Prim.Native.Nat.{ℕ, ◌+◌, ◌≤◌, ◌<◌, ◌*◌, ◌/◌, ◌%◌}
 use native.Mathlib.Omega.{arith}
 use lib.ListN.{length, take, get_or, get_elem?, length-take}
 use Rattle.eb3.specs.Terms.{Action}
@@ -13,7 +13,10 @@ use Rattle.eb3.specs.Moves.{Move, moves}
 use Rattle.eb3.specs.RuleSets.{RuleSet, attributes}
 use Rattle.eb3.specs.Sizes.{reach}
 use Rattle.eb3.proofs.Laws.Sizes.{move_size}
-use Rattle.eb3.specs.Bytes.{words_in, word_count}
+use Rattle.eb3.specs.Bytes.{words_in}
+use Rattle.eb3.specs.Readers.{numbers_in, readers_in}
+use Rattle.readers.specs.Table.{place_of, one_more}
+use Rattle.readers.specs.declared.Outcome.{Outcome as Counted}
 use Rattle.eb3.specs.Semantics.{Sem_M, Situation}
 use Rattle.eb3.specs.TransitionSystems.{taken}
 use Rattle.actions.specs.Codes.{action_code}
@@ -24,7 +27,7 @@ use Rattle.sharing.specs.Shared.{term_of, shared_words}
 use Rattle.sharing.specs.Changing.{told}
 use Rattle.sharing.specs.Stepping.{StepTaken, Stepped}
 use Rattle.sharing.specs.declared.moved.Moved.{Moved}
-use Rattle.runs.specs.Running.{Situated, done_as, Once, counted, RunsBy}
+use Rattle.runs.specs.Running.{Situated, done_as, Once, counted, RunsBy, outcome_of}
 use Rattle.runs.specs.Sharing.{SharedOver, RoomyOver, StepsShared, RunsShared}
 use Rattle.runs.specs.declared.Done.{Done}
 use Rattle.runs.specs.declared.Done.TheVariants.{Visible, Internal}
@@ -93,28 +96,29 @@ module _ {t D : List ℕ} {w functions c : ℕ} {u : List ℕ} {n k : ℕ} {d M 
       subst (λ v. StepsShared t D w functions c u n k d M paths numbers middle d' M v) (sym answer) (λ bound room R T ruled s at reaches.
       (none_so t D w functions c u n k d M paths numbers middle bound room R T ruled s at reaches d' None stepped _ refl refl, tt))
 
--- ── the loop: after i numbers of the list ──
+-- ── the loop: after i numbers of the list, each with its reader ──
 
-abbrev pub SharedTo : (numbers t D : List ℕ) (w functions c : ℕ) (u : List ℕ) (n : ℕ) (d M : List ℕ) (paths acts middle : ℕ) (i : ℕ) (d' M' : List ℕ) (r : Tally) → Type 0
-SharedTo numbers t D w functions c u n d M paths acts middle i d' M' r =
-    (bound : ℕ) → RoomyOver bound u d paths acts middle → RunsBy (SharedOver u) bound Unit (take i (words_in numbers)) t D w functions c n d M d' M' r
+abbrev pub SharedTo : (list t D : List ℕ) (w functions c : ℕ) (u : List ℕ) (n : ℕ) (d M by : List ℕ) (paths acts middle : ℕ) (i : ℕ) (d' M' by' : List ℕ) (r : Tally) → Type 0
+SharedTo list t D w functions c u n d M by paths acts middle i d' M' by' r =
+    (bound : ℕ) → RoomyOver bound u d paths acts middle → RunsBy (SharedOver u) bound Unit (take i (numbers_in list)) (take i (readers_in list)) t D w functions c n d M by d' M' by' r
 
-module _ (numbers : List ℕ) {t D : List ℕ} {w functions c : ℕ} {u : List ℕ} {n : ℕ} {d M : List ℕ} {paths acts middle : ℕ} where
-  shared_start_of_zeros : SharedTo numbers t D w functions c u n d M paths acts middle 0 d M (record { size = n; visible = 0; internal = 0; refused = 0 })
-  shared_start_of_zeros bound room = by_start (SharedOver u) bound numbers tt
+module _ (list : List ℕ) {t D : List ℕ} {w functions c : ℕ} {u : List ℕ} {n : ℕ} {d M by : List ℕ} {paths acts middle : ℕ} where
+  shared_start_of_zeros : SharedTo list t D w functions c u n d M by paths acts middle 0 d M by (record { size = n; visible = 0; internal = 0; refused = 0 })
+  shared_start_of_zeros bound room = by_start (SharedOver u) bound list tt
 
   -- A tally that begins with the default, whose fields are 0.
-  pub shared_start : (z : Tally) → (z.size ≡ 0) × ((z.visible ≡ 0) × ((z.internal ≡ 0) × (z.refused ≡ 0))) → SharedTo numbers t D w functions c u n d M paths acts middle 0 d M (record { size = n; visible = z.visible; internal = z.internal; refused = z.refused })
-  shared_start z h = subst (λ (r : Tally). SharedTo numbers t D w functions c u n d M paths acts middle 0 d M r) (λ i. record { size = n; visible = (sym (h.1.0)) i; internal = (sym (h.1.1.0)) i; refused = (sym (h.1.1.1)) i }) shared_start_of_zeros
+  pub shared_start : (z : Tally) → (z.size ≡ 0) × ((z.visible ≡ 0) × ((z.internal ≡ 0) × (z.refused ≡ 0))) → SharedTo list t D w functions c u n d M by paths acts middle 0 d M by (record { size = n; visible = z.visible; internal = z.internal; refused = z.refused })
+  shared_start z h = subst (λ (r : Tally). SharedTo list t D w functions c u n d M by paths acts middle 0 d M by r) (λ i. record { size = n; visible = (sym (h.1.0)) i; internal = (sym (h.1.1.0)) i; refused = (sym (h.1.1.1)) i }) shared_start_of_zeros
 
-  pub shared_next : (i : ℕ) {k : ℕ} {d₁ M₁ : List ℕ} {paths₁ acts₁ middle₁ : ℕ} {d₂ M₂ : List ℕ} {r r' : Tally} {o : Option Done} → i < word_count numbers → length d₁ ≡ length d → paths₁ ≡ paths → acts₁ ≡ acts → middle₁ ≡ middle
-      → SharedTo numbers t D w functions c u n d M paths acts middle i d₁ M₁ r → k ≡ get_or (words_in numbers) i 0 → StepsShared t D w functions c u r.size k d₁ M₁ paths₁ acts₁ middle₁ d₂ M₂ o
-      → r' ≡ counted r o → SharedTo numbers t D w functions c u n d M paths acts middle (i + 1) d₂ M₂ r'
-  shared_next i less same same_path same_acts same_middle go number once counting bound room =
-      by_next (SharedOver u) bound numbers i less (λ x y. tt) (go bound room) number
+  pub shared_next : (i : ℕ) {k x q : ℕ} {d₁ M₁ by₁ : List ℕ} {paths₁ acts₁ middle₁ : ℕ} {d₂ M₂ by₂ : List ℕ} {r r' : Tally} {o : Option Done} {a : Counted} → i < length list / 4 → length d₁ ≡ length d → paths₁ ≡ paths → acts₁ ≡ acts → middle₁ ≡ middle
+      → SharedTo list t D w functions c u n d M by paths acts middle i d₁ M₁ by₁ r → k ≡ get_or (words_in list) (2 * i) 0 → StepsShared t D w functions c u r.size k d₁ M₁ paths₁ acts₁ middle₁ d₂ M₂ o
+      → r' ≡ counted r o → x ≡ get_or (words_in list) (2 * i + 1) 0 → q ≡ (x + 31) % 32 → a ≡ outcome_of o → by₂ ≡ one_more by₁ q (place_of a)
+      → SharedTo list t D w functions c u n d M by paths acts middle (i + 1) d₂ M₂ by₂ r'
+  shared_next i less same same_path same_acts same_middle go number once counting reader place_is done_is one bound room =
+      by_next (SharedOver u) bound list i less (λ x y. tt) (go bound room) number
       (once bound (record { words_room = omega (arith, room.words_room); middle_room = omega (arith, room.middle_room); path_room = omega (arith, room.path_room); numbers_room = omega (arith, room.numbers_room) }))
-      counting
+      counting reader place_is done_is one
 
-  pub shared_end : (i : ℕ) {d' M' : List ℕ} {r : Tally} → word_count numbers ≤ i → SharedTo numbers t D w functions c u n d M paths acts middle i d' M' r
-      → RunsShared numbers t D w functions c u n d M paths acts middle d' M' r
-  shared_end i h go bound room = by_end (SharedOver u) bound numbers i h (go bound room)
+  pub shared_end : (i : ℕ) {d' M' by' : List ℕ} {r : Tally} → length list / 4 ≤ i → SharedTo list t D w functions c u n d M by paths acts middle i d' M' by' r
+      → RunsShared list t D w functions c u n d M by paths acts middle d' M' by' r
+  shared_end i h go bound room = by_end (SharedOver u) bound list i h (go bound room)

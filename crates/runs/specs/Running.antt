@@ -1,15 +1,20 @@
--- The memory machine with its term in words and its cells in a store, fed move numbers (document 01, "Memory and the history machine"; "Operations": Run).
+-- The memory machine with its term in words and its cells in a store, fed move numbers (document 01, "Memory and the history machine"; "Operations": Run), each
+-- with its reader (document 02, K1).
 use Rattle.std.specs.Prelude.{◌≡◌, List, ℕ, ◌+◌, ◌≤◌, length, take, Option, None, Some}
 use Rattle.eb3.specs.RuleSets.{RuleSet, attributes}
 use Rattle.eb3.specs.Terms.{Term}
 use Rattle.eb3.specs.Sizes.{reach}
 use Rattle.eb3.specs.Spelling.{words}
-use Rattle.eb3.specs.Bytes.{words_in, word_count}
+use Rattle.eb3.specs.Bytes.{word_count}
+use Rattle.eb3.specs.Readers.{numbers_in, readers_in}
 use Rattle.eb3.specs.Semantics.{Sem_M, Situation, system}
 use Rattle.eb3.specs.Machines.{Machine}
-use Rattle.eb3.specs.TransitionSystems.{Outcome, took_visible, took_internal, refused, initial, reply, run}
+use Rattle.eb3.specs.TransitionSystems.{Outcome, took_visible, took_internal, refused, initial, reply, run, outcomes}
 use Rattle.eb3.specs.WellFormedness.{Running}
 use Rattle.steps.specs.Storing.{Stored, Ruled}
+use Rattle.readers.specs.Table.{counted_by}
+use Rattle.readers.specs.declared.Outcome.{Outcome as Counted}
+use Rattle.readers.specs.declared.Outcome.TheVariants.{Visible as CountedVisible, Internal as CountedInternal, Refused as CountedRefused}
 use Rattle.runs.specs.Scratch.{WordsOnly}
 use Rattle.runs.specs.declared.Done.{Done}
 use Rattle.runs.specs.declared.Done.TheVariants.{Visible, Internal}
@@ -44,6 +49,12 @@ done_as took_visible n = Some (Visible n)
 done_as took_internal n = Some (Internal n)
 done_as refused n = None
 
+-- What a number did, as it is counted at its reader.
+abbrev pub outcome_of : Option Done → Counted
+outcome_of (Some (Visible n)) = CountedVisible
+outcome_of (Some (Internal n)) = CountedInternal
+outcome_of None = CountedRefused
+
 -- A number that is refused leaves the size as it was.
 pub record Once (H : Holding) (R : RuleSet) (s : Situation (Sem_M (attributes R))) (n k : ℕ) (ws' M' : List ℕ) (r : Option Done) : Type 0 where
   pub size : ℕ
@@ -76,11 +87,16 @@ pub record Ended (H : Holding) (R : RuleSet) (h : Machine (Sem_M (attributes R))
   pub refused_is : r.refused ≡ h.refused_count
   pub after : Situated H R h.state r.size ws' M'
 
-abbrev pub RunsBy : (H : Holding) (bound : ℕ) (Z : Type 0) (ks t D : List ℕ) (w functions c n : ℕ) (ws M ws' M' : List ℕ) (r : Tally) → Type 0
-RunsBy H bound Z ks t D w functions c n ws M ws' M' r =
-    (R : RuleSet) (T : List ℕ) → Ruled R t T D w functions c → (s : Situation (Sem_M (attributes R))) → Situated H R s n ws M → reach 1 s.term ≤ bound
-    → Ended H R (run (system (Sem_M (attributes R))) (initial (system (Sem_M (attributes R))) s) ks) ws' M' r × Z
+-- What is counted by reader, from by on: by', where os is what each number did and rs are their readers.
+pub record CountedBy (by rs : List ℕ) (os : List Outcome) (by' : List ℕ) : Type 0 where
+  pub counted_so : by' ≡ counted_by by rs os
 
-abbrev pub Runs : (numbers t D : List ℕ) (w functions c n : ℕ) (ws M out path ws' M' out' : List ℕ) (r : Tally) → Type 0
-Runs numbers t D w functions c n ws M out path ws' M' out' r =
-    (bound : ℕ) → Roomy bound ws out path → RunsBy Spelled bound (WordsOnly out out') (words_in numbers) t D w functions c n ws M ws' M' r
+-- By the numbers ks with the readers rs.
+abbrev pub RunsBy : (H : Holding) (bound : ℕ) (Z : Type 0) (ks rs t D : List ℕ) (w functions c n : ℕ) (ws M by ws' M' by' : List ℕ) (r : Tally) → Type 0
+RunsBy H bound Z ks rs t D w functions c n ws M by ws' M' by' r =
+    (R : RuleSet) (T : List ℕ) → Ruled R t T D w functions c → (s : Situation (Sem_M (attributes R))) → Situated H R s n ws M → reach 1 s.term ≤ bound
+    → Ended H R (run (system (Sem_M (attributes R))) (initial (system (Sem_M (attributes R))) s) ks) ws' M' r × CountedBy by rs (outcomes (system (Sem_M (attributes R))) s ks) by' × Z
+
+abbrev pub Runs : (list t D : List ℕ) (w functions c n : ℕ) (ws M out path by ws' M' out' by' : List ℕ) (r : Tally) → Type 0
+Runs list t D w functions c n ws M out path by ws' M' out' by' r =
+    (bound : ℕ) → Roomy bound ws out path → RunsBy Spelled bound (WordsOnly out out') (numbers_in list) (readers_in list) t D w functions c n ws M by ws' M' by' r

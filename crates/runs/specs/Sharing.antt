@@ -3,7 +3,7 @@ use Rattle.std.specs.Prelude.{◌≡◌, List, ℕ, ◌≤◌, length, take, Opt
 use Rattle.eb3.specs.Terms.{Term}
 use Rattle.eb3.specs.Scopes.{guard_scope}
 use Rattle.eb3.specs.RuleSets.{RuleSet, attributes}
-use Rattle.eb3.specs.Bytes.{words_in}
+use Rattle.eb3.specs.Readers.{numbers_in, readers_in}
 use Rattle.sharing.specs.Shared.{Shared, term_of, shared_words, Stands}
 use Rattle.runs.specs.Running.{Steps, RunsBy}
 use Rattle.runs.specs.declared.Done.{Done}
@@ -30,6 +30,6 @@ abbrev pub StepsShared : (t D : List ℕ) (w functions c : ℕ) (u : List ℕ) (
 StepsShared t D w functions c u n k d M paths numbers middle d' M' r =
     (bound : ℕ) → RoomyOver bound u d paths numbers middle → Steps (SharedOver u) bound Unit t D w functions c n k d M d' M' r
 
-abbrev pub RunsShared : (numbers t D : List ℕ) (w functions c : ℕ) (u : List ℕ) (n : ℕ) (d M : List ℕ) (paths acts middle : ℕ) (d' M' : List ℕ) (r : Tally) → Type 0
-RunsShared numbers t D w functions c u n d M paths acts middle d' M' r =
-    (bound : ℕ) → RoomyOver bound u d paths acts middle → RunsBy (SharedOver u) bound Unit (words_in numbers) t D w functions c n d M d' M' r
+abbrev pub RunsShared : (list t D : List ℕ) (w functions c : ℕ) (u : List ℕ) (n : ℕ) (d M by : List ℕ) (paths acts middle : ℕ) (d' M' by' : List ℕ) (r : Tally) → Type 0
+RunsShared list t D w functions c u n d M by paths acts middle d' M' by' r =
+    (bound : ℕ) → RoomyOver bound u d paths acts middle → RunsBy (SharedOver u) bound Unit (numbers_in list) (readers_in list) t D w functions c n d M by d' M' by' r

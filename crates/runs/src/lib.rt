@@ -1,12 +1,12 @@
 // The memory machine run by a list of numbers, its term in words and its cells in a store (document 01, "Memory and the history
-// machine"; "Operations": Run: numbers not offered are counted and passed over). Nothing is admitted or checked again between
-// two numbers, so that each costs what its step costs.
+// machine"; "Operations": Run: numbers not offered are counted and passed over), each counted at its reader, too (document 02, K1). Nothing is
+// admitted or checked again between two numbers, so that each costs what its step costs.
 // Stays: that words are at most 65,535 is a clause of each function here, for the reason in successors (docs/DESIGN-PASS.md, "A struct for words").
 #![tactic(auto)]
 
 ghost use Rattle.std.specs.Prelude.{◌≡◌, ◌+◌, ◌≤◌, ◌<◌, length};
 ghost use Rattle.derivation.specs.Arrays.{SameArrays};
-ghost use Rattle.runs.specs.Running.{StepsOnce, counted, Runs};
+ghost use Rattle.runs.specs.Running.{StepsOnce, outcome_of, counted, Runs};
 
 pub mod shared;
 
@@ -17,6 +17,8 @@ pub mod scratch {
 
 use cells::{Functions, load};
 use derivation::Scratch;
+use readers::list::place;
+use readers::{COUNTS, Outcome, count_one};
 use scan::{front, word_at};
 use steps::moving::take_move_in;
 use steps::renewing::renew;
@@ -35,6 +37,17 @@ pub struct Tally {
     pub visible: u64,
     pub internal: u64,
     pub refused: u64,
+}
+
+// What a number did, as it is counted at its reader.
+fn outcome(done: Option<Done>) -> Outcome
+    ensures { result ≡ outcome_of done }
+{
+    match done {
+        Some(Done::Visible(_size)) => Outcome::Visible,
+        Some(Done::Internal(_size)) => Outcome::Internal,
+        None => Outcome::Refused,
+    }
 }
 
 // Move k of the term in the first n words: its successor is built in lent bytes and put in the term's place, the cells are renewed.
@@ -89,33 +102,38 @@ fn counted(tally: Tally, done: Option<Done>) -> Tally
     }
 }
 
-// From the term in the first n words of ws and the cells in the store, by all numbers of the list; an odd last byte is ignored.
-// Stays by number, here and in shared.rt: the contract has the list as words (`words_in`), and pairs of bytes would have to be made into those.
+// From the term in the first n words of ws and the cells in the store, by all numbers of the list, each counted at its reader in `by_reader`; bytes
+// after the last whole pair of a number and its reader are ignored.
+// Stays by number, here and in shared.rt: the contract has the list as words (`words_in`), and groups of four bytes would have to be made into those.
 // Stays: the term is the first n words of ws, here and in shared.rt: it grows and shrinks within one array of a fixed size, since there is no heap. A struct
 // of both would be lent, and each contract would have to say too that its array stays the same (`ghost_name`), as `SameArrays` does of a `Scratch`.
+// Stays: eight parameters, of which five are lent to be written, each a different thing.
 pub fn run_moves(
-    numbers: &[u8],
+    list: &[u8],
     functions: &Functions,
     n: usize,
     ws: &mut [u16],
     m: &mut [u16],
     out: &mut [u8],
     scratch: &mut Scratch,
+    by_reader: &mut [u32; COUNTS],
 ) -> Tally
     requires { length ws.old ≤ 65535 }
     ensures words { length ws.new ≡ length ws.old }
     ensures store { length m.new ≡ length m.old }
     ensures bytes { length out.new ≡ length out.old }
     ensures arrays { SameArrays scratch.old scratch.new }
-    ensures run { Runs numbers.now functions.now.words.now functions.now.directory.now functions.now.width functions.now.count functions.now.cells n ws.old m.old out.old scratch.old.path.now ws.new m.new out.new result }
+    ensures run { Runs list.now functions.now.words.now functions.now.directory.now functions.now.width functions.now.count functions.now.cells n ws.old m.old out.old scratch.old.path.now by_reader.old ws.new m.new out.new by_reader.new result }
 {
     let mut tally = Tally {
         size: n,
         ..Tally::default()
     };
-    for i in 0..numbers.len() / 2 {
-        let k = usize::from(word_at(numbers, i));
+    for i in 0..list.len() / 4 {
+        let k = usize::from(word_at(list, 2 * i));
         let done = step_once(functions, tally.size, k, ws, m, out, scratch);
+        let index = place(word_at(list, 2 * i + 1));
+        count_one(by_reader, index, outcome(done));
         tally = counted(tally, done);
     }
     tally

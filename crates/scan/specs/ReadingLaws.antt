@@ -32,7 +32,7 @@ checked_refused (refused j) k e = record { code = j; read = refl; named = cc }
 checked_refused (taken a u) k e = absurd (let z : ◌≡◌ {A = ℕ} 0 1 = cc in omega arith)
 
 -- By the number itself, where the reading refuses by refusals' numbers only.
-pub checked_refused_by : {A : Type 0} (r : Read A) (k : Refusal) → ((j : ℕ) → r ≡ refused j → T (one_of named.of_present j)) → Err k ≡ checked r → r ≡ refused (number k)
+pub checked_refused_by : {A : Type 0} (r : Read A) (k : Refusal) → ((j : ℕ) → r ≡ refused j → T (one_of named.of_any j)) → Err k ≡ checked r → r ≡ refused (number k)
 checked_refused_by r k within e =
     let h = checked_refused r k e in
     h.read ∙ ap refused (sym (ap number h.named ∙ number_refusal h.code (within h.code h.read)))
@@ -128,7 +128,7 @@ module _ {B : Type 0} (k limit : ℕ) (g : ℕ → Reader B) (t : List ℕ) wher
   unfolding by_number
   by_number_refused j e = then_refused_as (number_of k limit t) g j (checked_refused (number_of k limit t) j e)
 
-  pub by_number_refused_by : (j : Refusal) → ((i : ℕ) → number_of k limit t ≡ refused i → T (one_of named.of_present i)) → Err j ≡ checked (number_of k limit t) → by_number k limit g t ≡ refused (number j)
+  pub by_number_refused_by : (j : Refusal) → ((i : ℕ) → number_of k limit t ≡ refused i → T (one_of named.of_any i)) → Err j ≡ checked (number_of k limit t) → by_number k limit g t ≡ refused (number j)
   unfolding by_number
   by_number_refused_by j within e = then_refused (number_of k limit t) g (number j) (checked_refused_by (number_of k limit t) j within e)
 

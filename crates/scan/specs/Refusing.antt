@@ -13,5 +13,5 @@ use Rattle.refusals.specs.Numbers.{number, number_refusal}
 pub refused_number : {A : Type 0} (r : Read A) (k : Refusal) → Refuses r → RefusedAs k r → r ≡ refused (number k)
 unfolding all_of one_of
 refused_number r k within h =
-    let among : T (one_of named.of_present h.code) = one_of_more named.of_present (4 ∷ 5 ∷ 6 ∷ []) tt h.code (subst Refuses h.read within) in
+    let among : T (one_of named.of_any h.code) = one_of_more named.of_any (4 ∷ 5 ∷ 6 ∷ []) tt h.code (subst Refuses h.read within) in
     h.read ∙ ap refused (sym (ap number h.named ∙ number_refusal h.code among))

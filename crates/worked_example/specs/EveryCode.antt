@@ -1,6 +1,6 @@
 -- A rule set on bytes that uses every code of document 01 (0 to 13 and 20 to 29 in its words, 30 in a running term), executed: its figures worked out by
 -- hand, and one run with visible, internal and refused numbers, its cells at the end ("Blocks and the rule stream", "Unfolding, size and breadth",
--- "Moves", "Memory").
+-- "Moves", "Memory") and its table by reader (document 02, K1).
 use Rattle.std.specs.Prelude.{◌≡◌, refl, ℕ, ◌/◌, ◌%◌, take, drop}
 use mathlib.Core.List.{List, [], ◌∷◌, ◌++◌}
 use Rattle.std.proofs.Math.ListN.{replicate}
@@ -12,8 +12,8 @@ use Rattle.eb3.specs.Moves.{moves, first_with}
 use Rattle.eb3.specs.Derivations.{state_after}
 use Rattle.eb3.specs.Attributes.{function, apply_in_domain, evaluate, guard_holds, now_below, before_values, attribute_value, value_at}
 use Rattle.eb3.specs.Cells.{cell_count, cell_index, offset, cell_at, concat_tabulate, tabulate, cells_up_to, initial_cells, renew, values_up_to}
-use Rattle.eb3.specs.TransitionSystems.{step as machine_step, run as machine_run}
-use Rattle.eb3.specs.Machines.{history_run}
+use Rattle.eb3.specs.TransitionSystems.{step as machine_step, run as machine_run, outcomes, tally}
+use Rattle.eb3.specs.Machines.{history_run, history_outcomes}
 use Rattle.eb3.specs.Sizes.{cond_size, arguments_size, size, reach, breadth, zero_mask, parallel_breadth}
 use Rattle.eb3.specs.Editions.{edition_1, edition_of}
 use Rattle.eb3.specs.RuleSets.{constant_argument, variable_argument, RuleTerm, rule_internal, rule_perform, rule_sequence, rule_choice, rule_star, rule_parallel, rule_guard, choice_over, parallel_over, call, Function, Process, RuleSet}
@@ -24,9 +24,10 @@ use Rattle.eb3.specs.Reading.{giving, then, both, number_of, by_number, count_of
 use Rattle.eb3.specs.ExpressionReading.{constant_of, args_of, readers, read_data, read_cond}
 use Rattle.eb3.specs.TermReading.{mask_of, element_of, elements_of, action_of, terms, read_term, given_term, given_event}
 use Rattle.eb3.specs.RuleReading.{read_parameter_counts, read_function, read_functions, argument_of, arguments_of, rule_action_of, call_of, choice_over_of, parallel_over_of, rule_terms, read_rule_term, read_process, read_processes, read_rules}
-use Rattle.eb3.specs.Bytes.{words_in, bytes_of, written}
+use Rattle.eb3.specs.Bytes.{words_in, bytes_of, doubles_in, double_words, written}
 use Rattle.eb3.specs.Memory.{memory_words, cells_in}
-use Rattle.eb3.specs.Answers.{refused, answered, and_then}
+use Rattle.eb3.specs.Readers.{numbers_of, readers_of, all_read, lets_through, at_reader, counts_from, sums, increased}
+use Rattle.eb3.specs.Answers.{refused, answered, and_then, Ran, Tabled}
 use Rattle.eb3.specs.Blocks.{sums_from, block_right, blocks_right, contents, edition_in, open_blocks}
 use Rattle.eb3.specs.Files.{block_of, blocks_from, file_of}
 use Rattle.eb3.specs.Admission.{all_zero, ended, within_limits, admission}
@@ -160,8 +161,9 @@ file = 0 ∷ 0 ∷ 188 ∷ 158 ∷ (as_bytes (take 254 stream_of_words) ++ (1 �
 --   8: 18 (2, 1), both sides together. Cells kept. Then 5 moves: internal, 1 (1), internal, internal, 18 (2, 1).
 --   5: refused. 0: internal, the left star ends.
 --   The last term: 5 + (5 + 20 + 1) + (5 + 9 + 9) = 54.
-abbrev numbers : List ℕ
-numbers = 3 ∷ 0 ∷ 1 ∷ 0 ∷ 8 ∷ 0 ∷ 5 ∷ 0 ∷ 0 ∷ 0 ∷ []
+-- Readers 1, 32, 1, 7 and 32: two visible at reader 1, one refused at 7, one visible and one internal at 32.
+abbrev list : List ℕ
+list = 3 ∷ 0 ∷ 1 ∷ 0 ∷ 1 ∷ 0 ∷ 32 ∷ 0 ∷ 8 ∷ 0 ∷ 1 ∷ 0 ∷ 5 ∷ 0 ∷ 7 ∷ 0 ∷ 0 ∷ 0 ∷ 32 ∷ 0 ∷ []
 
 -- Buffers of the reported sizes and an odd byte more, filled with 7.
 abbrev term_buffer : List ℕ
@@ -169,6 +171,13 @@ term_buffer = replicate 231 7
 
 abbrev memory_buffer : List ℕ
 memory_buffer = replicate 11 7
+
+-- A table of 32 records and three bytes more. Reader 1's first number is 65,534, every other number 0.
+abbrev table : List ℕ
+table = 254 ∷ 255 ∷ (replicate 382 0 ++ (7 ∷ 7 ∷ 7 ∷ []))
+
+abbrev ran : Tabled Ran
+ran = run file list table term_buffer memory_buffer term_buffer memory_buffer
 
 -- A running term in bytes, the last one: each word low byte first; 30 is done. Beside it the event 18 (2, 1) and the last memory's cells, - 4 - 5 3.
 abbrev last_term : List ℕ
@@ -198,11 +207,15 @@ pub record EveryCodeOnBytes : Type 0 where
       22 ∷ 23 ∷ 21 ∷ 17 ∷ 1 ∷ 1 ∷ 1 ∷ 0 ∷ 23 ∷ 21 ∷ 17 ∷ 1 ∷ 1 ∷ 1 ∷ 1 ∷ 21 ∷ 17 ∷ 1 ∷ 1 ∷ 1 ∷ 2 ∷ 26 ∷ 13 ∷ 23 ∷ 23 ∷ 20 ∷ 24 ∷ 21 ∷ 18 ∷ 1 ∷ 2 ∷ 1 ∷ 1 ∷ 20 ∷
       26 ∷ 13 ∷ 23 ∷ 23 ∷ 20 ∷ 24 ∷ 21 ∷ 18 ∷ 1 ∷ 2 ∷ 1 ∷ 1 ∷ 20 ∷ []
   pub start_memory : (start file term_buffer memory_buffer).memory ≡ 255 ∷ 255 ∷ 5 ∷ 0 ∷ 255 ∷ 255 ∷ 5 ∷ 0 ∷ 255 ∷ 255 ∷ 7 ∷ []
-  pub run_answer : (run file numbers term_buffer memory_buffer term_buffer memory_buffer).answer ≡ answered (record { size = 54; visible = 3; internal = 1; refusals = 1 })
-  pub run_memory : (run file numbers term_buffer memory_buffer term_buffer memory_buffer).memory ≡ 255 ∷ 255 ∷ 4 ∷ 0 ∷ 255 ∷ 255 ∷ 5 ∷ 0 ∷ 3 ∷ 0 ∷ 7 ∷ []
+  pub run_answer : ran.written.answer ≡ answered (record { size = 54; visible = 3; internal = 1; refusals = 1 })
+  pub run_memory : ran.written.memory ≡ 255 ∷ 255 ∷ 4 ∷ 0 ∷ 255 ∷ 255 ∷ 5 ∷ 0 ∷ 3 ∷ 0 ∷ 7 ∷ []
   -- The last term, zeros up to G, and the odd byte as it was.
-  pub run_term : (run file numbers term_buffer memory_buffer term_buffer memory_buffer).term ≡ last_term ++ (replicate 122 0 ++ (7 ∷ []))
-  -- On it: the first key waits for a partner on 17, which is gone; the two sides of 18 end, one or the other, or do 18 together, which leads back to the term.
+  pub run_term : ran.written.term ≡ last_term ++ (replicate 122 0 ++ (7 ∷ []))
+  -- Reader 1's first number, bytes 0 to 3, is 65,536. Reader 7's record begins at byte 72, its third number, from byte 80, is 1; reader 32's at byte 372, its
+  -- first number and its second, from byte 376, are 1. Every other byte is as it was.
+  pub run_table : ran.table ≡ 0 ∷ 0 ∷ 1 ∷ 0 ∷ (replicate 76 0 ++ (1 ∷ (replicate 291 0 ++ (1 ∷ 0 ∷ 0 ∷ 0 ∷ 1 ∷ (replicate 7 0 ++ (7 ∷ 7 ∷ 7 ∷ []))))))
+  -- On the last term: the first key waits for a partner on 17, which is gone; the two sides of 18 end, one or the other, or do 18 together, which leads back
+  -- to the term.
   pub counted : count file last_term last_memory ≡ answered 3
   pub moved : move file last_term last_memory 2 term_buffer memory_buffer
       ≡ record { answer = answered (record { action = visible (record { label = 18; arguments = 2 ∷ 1 ∷ [] }); size = 54 }); term = last_term ++ replicate 123 7; memory = last_memory ++ (7 ∷ []) }
@@ -218,7 +231,7 @@ pub record EveryCodeOnBytes : Type 0 where
   pub no_space : move file last_term last_memory 2 (replicate 139 7) memory_buffer ≡ record { answer = refused 9; term = replicate 139 7; memory = memory_buffer }
 
 pub every_code_on_bytes : EveryCodeOnBytes
-unfolding admit and_then admission open_blocks edition_in edition_of functions_words blocks_right block_right sums_from contents words_in ended all_zero within_limits file_of blocks_from block_of bytes_of stream_words rules_words function_words process_words rule_words argument_words data_words number_words giving then both number_of by_number count_of repeat counted for_each series number_in constant_of args_of readers read_data read_cond mask_of read_parameter_counts read_function read_functions argument_of arguments_of rule_action_of call_of choice_over_of parallel_over_of rule_terms read_rule_term read_process read_processes read_rules unfold_main unfold_below unfold_term right_nest argument_value instantiate_cond size reach breadth parallel_breadth zero_mask cond_size arguments_size offset cell_count function run written words arguments_words memory_words encode history_run machine_run machine_step moves done? in_mask bit same_action same_list state_after guard_holds value_at attribute_value before_values now_below apply_in_domain evaluate evaluate_data variables equal values_up_to tabulate concat_tabulate start less add subtract bounded initial_cells cells_up_to cell_at cell_index count move present decode cells_in given_term given_event read_term terms action_of elements_of element_of first_with renew
+unfolding admit and_then admission open_blocks edition_in edition_of functions_words blocks_right block_right sums_from contents words_in ended all_zero within_limits file_of blocks_from block_of bytes_of stream_words rules_words function_words process_words rule_words argument_words data_words number_words giving then both number_of by_number count_of repeat counted for_each series number_in constant_of args_of readers read_data read_cond mask_of read_parameter_counts read_function read_functions argument_of arguments_of rule_action_of call_of choice_over_of parallel_over_of rule_terms read_rule_term read_process read_processes read_rules unfold_main unfold_below unfold_term right_nest argument_value instantiate_cond size reach breadth parallel_breadth zero_mask cond_size arguments_size offset cell_count function run written words arguments_words memory_words encode history_run machine_run machine_step moves done? in_mask bit same_action same_list state_after guard_holds value_at attribute_value before_values now_below apply_in_domain evaluate evaluate_data variables equal values_up_to tabulate concat_tabulate start less add subtract bounded initial_cells cells_up_to cell_at cell_index count move present decode cells_in given_term given_event read_term terms action_of elements_of element_of first_with renew numbers_of readers_of all_read lets_through at_reader counts_from sums increased doubles_in double_words history_outcomes outcomes tally
 every_code_on_bytes = record {
   spelled = refl;
   file_is = refl;
@@ -228,6 +241,7 @@ every_code_on_bytes = record {
   run_answer = refl;
   run_memory = refl;
   run_term = refl;
+  run_table = refl;
   counted = refl;
   moved = refl;
   presented = refl;

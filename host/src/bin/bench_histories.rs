@@ -5,13 +5,13 @@
 //! bench_histories`); it prints a table for each system, as Markdown, and draws
 //! `docs/events-per-second.svg`. Without the static library the engine is left out.
 //!
-//! The lists are visible moves, chosen at random by a fixed seed; the beginnings of one list serve for all
-//! lengths. Run: the time of one call over the list's beginning, its admission included, divided by the
-//! length. The history machine: the time of an event at that length, its moves listed and one of them taken,
-//! all values found anew from the events; within one event none is found twice. It is written to be plain,
-//! not fast: what counts is how its time grows. All figures are the least over several samples, since
-//! whatever else the machine does only adds to them; and they are processor time of the one thread, since a
-//! run of a second is never left alone.
+//! The lists are visible moves, chosen at random by a fixed seed, at the readers 1 to 32 by turns; the
+//! beginnings of one list serve for all lengths. Run: the time of one call over the list's beginning, its
+//! admission included, divided by the length. The history machine: the time of an event at that length, its
+//! moves listed and one of them taken, all values found anew from the events; within one event none is found
+//! twice. It is written to be plain, not fast: what counts is how its time grows. All figures are the least
+//! over several samples, since whatever else the machine does only adds to them; and they are processor time
+//! of the one thread, since a run of a second is never left alone.
 
 use std::hint::black_box;
 use std::path::Path;
@@ -19,7 +19,9 @@ use std::rc::Rc;
 use std::time::{Duration, Instant};
 
 use host::calls::{Operations, Plain};
+use host::generate::lent::zeros_for_run;
 use host::generate::random::Random;
+use host::generate::readers::by_turns;
 use host::plain::histories::{self, Machine, Tree};
 use host::plot::{thousands, three_figures, Line, Panel, Picture};
 use host::rules::RuleSet;
@@ -200,18 +202,16 @@ fn least(mut sample: impl FnMut() -> f64) -> f64 {
 struct Runs<'a> {
     file: &'a [u8],
     list: Vec<u8>,
-    lent: [Vec<u8>; 4],
+    lent: [Vec<u8>; 5],
 }
 
 impl<'a> Runs<'a> {
     fn new(file: &'a [u8], sizes: Sizes, list: &[u16]) -> Runs<'a> {
-        let (reach, cells) = (2 * sizes.reach as usize, 2 * sizes.cells as usize);
-        let lent = [reach, cells, reach, cells].map(|bytes| vec![0; bytes]);
-        Runs { file, list: bytes_of(list), lent }
+        Runs { file, list: by_turns(list), lent: zeros_for_run(sizes) }
     }
 
     fn length(&self) -> usize {
-        self.list.len() / 2
+        self.list.len() / 4
     }
 
     /// Seconds an event by the engine and by the plain interpreter, which take turns.
@@ -238,8 +238,8 @@ impl<'a> Runs<'a> {
 
     /// Every number is a visible move.
     fn run(&mut self, by: &dyn Operations) {
-        let [term, memory, spare_term, spare_memory] = &mut self.lent;
-        let ran = by.run(black_box(self.file), black_box(&self.list), term, memory, spare_term, spare_memory);
+        let lent = self.lent.each_mut().map(Vec::as_mut_slice);
+        let ran = by.run(black_box(self.file), black_box(&self.list), lent);
         assert_eq!(Ok(self.length() as u64), black_box(ran).map(|tally| tally.visible));
     }
 
@@ -249,11 +249,11 @@ impl<'a> Runs<'a> {
         walked.machine.undo((term.clone(), length - AROUND));
         walked.list[length - AROUND..length].iter().for_each(|&number| walked.machine.feed(number));
         let mut words = histories::spelled(&walked.machine.term);
-        words.resize(self.lent[0].len() / 2, 0);
+        words.resize(self.lent[1].len() / 2, 0);
         let (term, memory) = (bytes_of(&words), bytes_of(&walked.machine.values()));
         for by in [Some(&Plain as &dyn Operations), engine()].into_iter().flatten() {
             self.run(by);
-            assert!(self.lent[0] == term && self.lent[1] == memory, "Run and the history machine part");
+            assert!(self.lent[1] == term && self.lent[2] == memory, "Run and the history machine part");
         }
     }
 }

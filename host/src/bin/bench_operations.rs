@@ -2,18 +2,20 @@
 //! process, on the same bytes.
 //!
 //! Run it in a release build (`cargo run --release --bin bench_operations`); with words as argument, only
-//! the rows that have them in their name, and with `plain` or `engine` behind them that side alone, for a
+//! the rows that have them in their name, and with `plain` or `engine` after them that side alone, for a
 //! profiler. Each sample times a batch of calls, plain and engine taking turns;
 //! the figures are the least over the samples, since whatever else the machine does only adds to them.
-//! Every call admits the rule set and checks the term anew. Without the static library the plain
-//! interpreter stands alone.
+//! Every call admits the rule set and checks the term anew. A run's numbers come from the readers 1 to 32 by
+//! turns, and both count by reader. Without the static library the plain interpreter is timed alone.
 
 use std::hint::black_box;
 use std::time::{Duration, Instant};
 
 use host::calls::{ask, Call, Operation, Operations, Plain};
 use host::generate::calls::Subject;
+use host::generate::lent::zeros_for_run;
 use host::generate::random::Random;
+use host::generate::readers::by_turns;
 use host::generate::running::{self, State};
 use host::rules::RuleSet;
 use host::{bytes_of, examples, on_large_stack, plain, words_of};
@@ -86,7 +88,7 @@ fn systems() {
         };
         row(&subject, &start, subject.sizes.size as usize, 0, 1);
         state_rows(&subject, &busy_state(&subject));
-        run_row(&subject, buffers);
+        run_row(&subject);
     }
 }
 
@@ -162,7 +164,7 @@ fn state_rows(subject: &Subject, state: &State) {
 }
 
 /// A run of visible moves as far as there are any.
-fn run_row(subject: &Subject, buffers: [Vec<u8>; 2]) {
+fn run_row(subject: &Subject) {
     if !wanted(&format!("{}: run", subject.name)) {
         return;
     }
@@ -192,8 +194,8 @@ fn run_row(subject: &Subject, buffers: [Vec<u8>; 2]) {
     let call = Call {
         name: "run".to_string(),
         operation: Operation::Run,
-        given: vec![subject.file.clone(), bytes_of(&list)],
-        lent: [buffers.to_vec(), buffers.to_vec()].concat(),
+        given: vec![subject.file.clone(), by_turns(&list)],
+        lent: zeros_for_run(subject.sizes).to_vec(),
         expected: Some(0),
     };
     row(subject, &call, subject.sizes.size as usize, 0, NUMBERS);
@@ -231,7 +233,7 @@ fn row(subject: &Subject, call: &Call, words: usize, moves: u32, parts: usize) {
 }
 
 fn once(by: &dyn Operations, given: &[&[u8]], operation: Operation, lent: &mut [Vec<u8>]) {
-    let mut slices: [&mut [u8]; 4] = [&mut [], &mut [], &mut [], &mut []];
+    let mut slices: [&mut [u8]; 5] = [&mut [], &mut [], &mut [], &mut [], &mut []];
     let count = lent.len();
     for (slice, buffer) in slices.iter_mut().zip(lent) {
         *slice = buffer;

@@ -6,7 +6,7 @@
 
 use super::running;
 use crate::calls::Operations;
-use crate::{Action, Counted, Made, Moved, Ran, Started};
+use crate::{Action, Counted, LentToRun, Made, Moved, Ran, Started};
 
 /// `eb3_started`.
 #[repr(C)]
@@ -88,7 +88,7 @@ pub(super) fn refusal(number: u32, others: &[u64]) -> Result<(), u8> {
     if number == 0 {
         return Ok(());
     }
-    assert!((1..=12).contains(&number), "refusal {number} is not in the table");
+    assert!((1..=13).contains(&number), "there is no refusal {number}");
     assert!(others.iter().all(|&field| field == 0), "refusal {number} came with {others:?}");
     Err(number as u8)
 }
@@ -124,7 +124,7 @@ pub fn nothing() -> Vec<u32> {
             eb3_count(given, 0, given, 0, given, 0).refusal,
             eb3_move(given, 0, given, 0, given, 0, 0, lent, 0, lent, 0).refusal,
             eb3_present(given, 0, given, 0, given, 0, given, 0, lent, 0, lent, 0).refusal,
-            running::eb3_run(given, 0, given, 0, lent, 0, lent, 0, lent, 0, lent, 0).refusal,
+            running::eb3_run(given, 0, given, 0, lent, 0, lent, 0, lent, 0, lent, 0, lent, 0).refusal,
         ]
     }
 }
@@ -209,15 +209,7 @@ impl Operations for Cabinet {
         reply.moved()
     }
 
-    fn run(
-        &self,
-        rules: &[u8],
-        numbers: &[u8],
-        term: &mut [u8],
-        memory: &mut [u8],
-        spare_term: &mut [u8],
-        spare_memory: &mut [u8],
-    ) -> Ran {
-        running::run(rules, numbers, term, memory, spare_term, spare_memory)
+    fn run(&self, rules: &[u8], list: &[u8], lent: LentToRun) -> Ran {
+        running::run(rules, list, lent)
     }
 }

@@ -1,15 +1,15 @@
 //! Run of the engine.
 //!
-//! Document 01, "Operations"; `eb3_run` of eb3.h.
+//! Document 01, "Operations", and document 02, K1; `eb3_run` of eb3.h.
 
 use super::operations::refusal;
-use crate::{Ran, Tally};
+use crate::{LentToRun, Ran, Tally};
 
 /// `eb3_ran`.
 #[repr(C)]
 pub(super) struct RunReply {
     pub refusal: u32,
-    size: u32,
+    size: u64,
     visible: u64,
     internal: u64,
     refused: u64,
@@ -19,8 +19,10 @@ extern "C" {
     pub(super) fn eb3_run(
         rules: *const u8,
         rules_len: usize,
-        numbers: *const u8,
-        numbers_len: usize,
+        list: *const u8,
+        list_len: usize,
+        table: *mut u8,
+        table_len: usize,
         term: *mut u8,
         term_len: usize,
         memory: *mut u8,
@@ -33,21 +35,17 @@ extern "C" {
 }
 
 /// Run: the last term's size and the three counts, or the refusal's number.
-pub(super) fn run(
-    rules: &[u8],
-    numbers: &[u8],
-    term: &mut [u8],
-    memory: &mut [u8],
-    spare_term: &mut [u8],
-    spare_memory: &mut [u8],
-) -> Ran {
+pub(super) fn run(rules: &[u8], list: &[u8], lent: LentToRun) -> Ran {
+    let [table, term, memory, spare_term, spare_memory] = lent;
     // SAFETY: eb3.h's slices are these, the lent ones borrowed alone; the engine keeps nothing.
     let reply = unsafe {
         eb3_run(
             rules.as_ptr(),
             rules.len(),
-            numbers.as_ptr(),
-            numbers.len(),
+            list.as_ptr(),
+            list.len(),
+            table.as_mut_ptr(),
+            table.len(),
             term.as_mut_ptr(),
             term.len(),
             memory.as_mut_ptr(),
@@ -59,6 +57,6 @@ pub(super) fn run(
         )
     };
     let RunReply { size, visible, internal, refused, .. } = reply;
-    refusal(reply.refusal, &[u64::from(size), visible, internal, refused])?;
+    refusal(reply.refusal, &[size, visible, internal, refused])?;
     Ok(Tally { size, visible, internal, refused })
 }

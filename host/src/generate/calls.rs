@@ -1,17 +1,17 @@
 //! Calls of Start, Count, Move, Present and Run: on right and wrong rule sets, terms, events, memories,
 //! numbers and buffers, alone and several faults at once, for the table's order.
 //!
-//! Document 01, "Operations" and the table: 1 to 8, 10, 11, 9, 12.
+//! Document 01, "Operations" and the table: 1 to 8, 10, 11, 9, 12; document 02, K1: in Run 13 after 9.
 
-use super::lent::{memory, noise, roomy, Fit, FITS};
+use super::lent::{for_run, memory, noise, roomy, Fit, FITS};
 use super::random::Random;
 use super::running::{self, State};
 use super::well_formed::{rule_set, Shape, SHAPES};
-use super::{clauses, events, every_case, wrong_terms};
+use super::{clauses, events, every_case, readers, wrong_terms};
 use crate::calls::{Call, Operation};
-use crate::refusal::{NOT_OFFERED, SPACE, STRANGER, TERM};
+use crate::refusal::{NOT_OFFERED, READER, SPACE, STRANGER, TERM};
 use crate::rules::RuleSet;
-use crate::{bytes_of, examples, plain, Sizes};
+use crate::{bytes_of, examples, plain, Sizes, TABLE_BYTES};
 
 /// Who takes the calls, one by one.
 pub type Taker<'a> = &'a mut dyn FnMut(Call);
@@ -118,31 +118,55 @@ fn starts(random: &mut Random, subject: &Subject, take: Taker) {
     }
 }
 
-/// Lists of numbers, most of them moves; and each of the four buffers in every fit.
+/// Lists of numbers, most of them moves; each of the five buffers in every fit; and lists with a wrong
+/// reader, with room enough and in buffers of any length.
 fn runs(random: &mut Random, subject: &Subject, rounds: usize, take: Taker) {
-    let words = [subject.reach(), subject.cells(), subject.reach(), subject.cells()];
-    let mut call = |random: &mut Random, fits: [Fit; 4], length: usize| {
-        let room = fits.iter().zip(words).all(|(fit, words)| fit.suffices(words));
-        take(Call {
-            name: format!("{}: run of {length} numbers, {fits:?}", subject.name),
-            operation: Operation::Run,
-            given: vec![subject.file.clone(), numbers(random, length)],
-            lent: fits.iter().zip(words).map(|(fit, words)| fit.buffer(random, words)).collect(),
-            expected: Some(if room { 0 } else { SPACE }),
-        });
-    };
+    let all_roomy = |random: &mut Random| [(); 5].map(|()| roomy(random));
     for length in (0..2 * rounds).chain([40, 100]) {
-        let fits = [(); 4].map(|()| roomy(random));
-        call(random, fits, length);
+        let (list, fits) = (readers::list(random, length), all_roomy(random));
+        take(run(random, subject, &format!("{length} numbers"), (list, true), fits));
     }
-    for (buffer, fit) in (0..4).flat_map(|buffer| FITS.map(|fit| (buffer, fit))) {
-        let mut fits = [(); 4].map(|()| roomy(random));
+    for (buffer, fit) in (0..5).flat_map(|buffer| FITS.map(|fit| (buffer, fit))) {
+        let (list, mut fits) = (readers::list(random, 3), all_roomy(random));
         fits[buffer] = fit;
-        call(random, fits, 3);
+        take(run(random, subject, "3 numbers", (list, true), fits));
+    }
+    let wrong = readers::wrong(random, 5);
+    for (name, list) in sample(random, wrong, 3 * rounds) {
+        let fits = [all_roomy(random), [(); 5].map(|()| *random.pick(&FITS))];
+        for fits in fits {
+            take(run(random, subject, &name, (list.clone(), false), fits));
+        }
     }
 }
 
-/// So many move numbers, now and then one that hardly is, and now and then half a number behind them.
+/// A run in buffers of these fits, by a list whose readers are right or not: 9 before 13.
+fn run(
+    random: &mut Random,
+    subject: &Subject,
+    name: &str,
+    (list, right): (Vec<u8>, bool),
+    fits: [Fit; 5],
+) -> Call {
+    let words = [subject.reach(), subject.cells(), subject.reach(), subject.cells()];
+    let room = fits[1..].iter().zip(words).all(|(fit, words)| fit.suffices(words));
+    let expected = if !room {
+        SPACE
+    } else if !right || !fits[0].suffices(TABLE_BYTES / 2) {
+        READER
+    } else {
+        0
+    };
+    Call {
+        name: format!("{}: run, {name}, {fits:?}", subject.name),
+        operation: Operation::Run,
+        given: vec![subject.file.clone(), list],
+        lent: for_run(random, subject.sizes, fits).to_vec(),
+        expected: Some(expected),
+    }
+}
+
+/// `count` move numbers, now and then one that is seldom a move, and now and then half a number after them.
 pub fn numbers(random: &mut Random, count: usize) -> Vec<u8> {
     let number = |random: &mut Random| match random.below(16) {
         0 => random.between(0, 65535),
@@ -326,7 +350,7 @@ fn refused_rules(random: &mut Random, take: Taker) {
             (Operation::Count, 3, 0),
             (Operation::Move(0), 3, 2),
             (Operation::Present, 4, 2),
-            (Operation::Run, 2, 4),
+            (Operation::Run, 2, 5),
         ];
         for (operation, given, lent) in operations {
             let mut slices = |count| (0..count).map(|_| random.below(40)).collect::<Vec<usize>>();

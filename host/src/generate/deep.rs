@@ -5,11 +5,11 @@
 //! expressions of functions, the stream's length. (`nesting` has what Admit has to bear.) Whoever makes
 //! these needs a large stack too.
 
-use super::nesting;
 use super::running::{self, State};
+use super::{lent, nesting, readers};
 use crate::blocks::{blocks_for, file_of, MOST_WORDS};
 use crate::calls::{Call, Operation};
-use crate::{bytes_of, examples, plain, Sizes, MOST_REACH};
+use crate::{bytes_of, examples, plain, Sizes, MOST_REACH, TABLE_BYTES};
 
 /// A worst case by name, with its depth in codes.
 #[derive(Clone, Debug)]
@@ -206,12 +206,11 @@ pub fn rounds() -> Vec<Call> {
     let call = |(name, nest, words): &(&'static str, Nest, usize)| {
         let depth = levels(*nest, *words);
         let Deep { file, sizes, .. } = rule_set(name, depth, &[0], &[&[24], &spelled(*nest, depth)[..]].concat());
-        let lent = vec![vec![0; 2 * sizes.reach as usize], Vec::new()];
         Call {
             name: name.to_string(),
             operation: Operation::Run,
-            given: vec![file, bytes_of(&list)],
-            lent: [lent.clone(), lent].concat(),
+            given: vec![file, readers::by_turns(&list)],
+            lent: lent::zeros_for_run(sizes).to_vec(),
             expected: Some(0),
         }
     };
@@ -219,12 +218,12 @@ pub fn rounds() -> Vec<Call> {
 }
 
 impl Deep {
-    /// The last move of main, and some of those that follow it.
+    /// The last move of main, and some of those that follow it, each at a reader.
     fn run_list(&self) -> Vec<u8> {
         let start = running::start(&self.file, self.sizes);
         let moves = plain::count(&self.file, &start.term, &start.memory).expect("a right term");
         let last = moves.saturating_sub(1) as u16;
-        bytes_of(&[last, 0, 1, 2, last, 0])
+        readers::by_turns(&[last, 0, 1, 2, last, 0])
     }
 
     /// Start, a run from the last move of main on, Count, and the last move by its number and by its action;
@@ -240,9 +239,10 @@ impl Deep {
             lent: lent.to_vec(),
             expected: Some(0),
         };
+        let lent_to_run = [vec![vec![0xff; TABLE_BYTES]], lent.clone(), lent.clone()].concat();
         let mut calls = vec![
             call(Operation::Start, &given[..1], &lent),
-            call(Operation::Run, &[file.clone(), self.run_list()], &[lent.clone(), lent.clone()].concat()),
+            call(Operation::Run, &[file.clone(), self.run_list()], &lent_to_run),
             call(Operation::Count, &given, &[]),
         ];
         let count = plain::count(file, term, memory).expect("a right term");

@@ -1,10 +1,11 @@
 //! Buffers to be lent, and memories to be given.
 //!
 //! Document 01, refusal 9 and "Words past the reported size (Run: past G) and cells past C keep their
-//! values. An odd last byte is ignored and kept". A buffer comes full of random bytes, so that what is
-//! kept can be seen.
+//! values. An odd last byte is ignored and kept"; document 02, K1: "Before a run the table may hold
+//! anything." A buffer comes full of random bytes, so that what is kept can be seen.
 
 use super::random::Random;
+use crate::{Sizes, TABLE_BYTES};
 
 /// How a buffer fits so many words.
 #[derive(Clone, Copy, Debug, PartialEq, Eq)]
@@ -72,4 +73,40 @@ pub fn memory(random: &mut Random, cells: usize, fit: Fit) -> Vec<u8> {
         cell.copy_from_slice(&word.to_le_bytes());
     }
     bytes
+}
+
+/// A table for Run, of the length that the fit gives: any counts, and many that soon begin at 0 again.
+pub fn table(random: &mut Random, fit: Fit) -> Vec<u8> {
+    let mut bytes = fit.buffer(random, TABLE_BYTES / 2);
+    for count in bytes.chunks_exact_mut(4) {
+        if random.chance(40) {
+            count.copy_from_slice(&(u32::MAX - random.below(3) as u32).to_le_bytes());
+        }
+    }
+    bytes
+}
+
+/// What Run is lent, each as long as its fit has it.
+pub fn for_run(random: &mut Random, sizes: Sizes, fits: [Fit; 5]) -> [Vec<u8>; 5] {
+    let [of_table, term, memory, spare_term, spare_memory] = fits;
+    let (reach, cells) = (sizes.reach as usize, sizes.cells as usize);
+    [
+        table(random, of_table),
+        term.buffer(random, reach),
+        memory.buffer(random, cells),
+        spare_term.buffer(random, reach),
+        spare_memory.buffer(random, cells),
+    ]
+}
+
+/// What Run is lent, each with room.
+pub fn roomy_for_run(random: &mut Random, sizes: Sizes) -> [Vec<u8>; 5] {
+    let fits = [(); 5].map(|()| roomy(random));
+    for_run(random, sizes, fits)
+}
+
+/// What Run is lent for a rule set of these sizes, and no byte more: zeros.
+pub fn zeros_for_run(sizes: Sizes) -> [Vec<u8>; 5] {
+    let (reach, cells) = (2 * sizes.reach as usize, 2 * sizes.cells as usize);
+    [TABLE_BYTES, reach, cells, reach, cells].map(|bytes| vec![0; bytes])
 }

@@ -17,6 +17,7 @@ pub mod lent;
 pub mod limits;
 pub mod nesting;
 pub mod random;
+pub mod readers;
 pub mod roles;
 pub mod running;
 pub mod well_formed;

@@ -1,4 +1,4 @@
-//! The history machine, and Run by it: no cells, the whole history.
+//! The history machine: no cells, the whole history. `running` has Run by it.
 //!
 //! Document 01, "Memory and the history machine": "A function's value over T is its empty-trace expression
 //! if T is empty, else its expression for T's last label; now reads values over T, before reads values
@@ -6,14 +6,17 @@
 //! found by recursion over the history; what has been found is remembered, or a history of some thousand
 //! events would take forever. Nothing here is shared with the interpreter over cells but the admission.
 
+mod running;
+
+pub use running::run;
+
 use std::cell::RefCell;
 use std::rc::Rc;
 
 use super::{reader, trees};
-use crate::refusal::SPACE;
 use crate::rules::{Condition, Data, Mask, RuleSet, NO_LABELS};
 use crate::unfold::{self, Running};
-use crate::{Ran, Sizes, Tally, MOST_REACH};
+use crate::{Sizes, Tally, MOST_REACH};
 
 /// A visible action: a label and its arguments.
 #[derive(Clone, Debug, PartialEq, Eq)]
@@ -64,35 +67,6 @@ pub struct Machine<'a> {
     places: Vec<usize>,
     /// What was found in another age is not known any more.
     age: u32,
-}
-
-/// Run, by the history machine: the same answer and the same bytes.
-pub fn run(
-    rules: &[u8],
-    numbers: &[u8],
-    term: &mut [u8],
-    memory: &mut [u8],
-    spare_term: &mut [u8],
-    spare_memory: &mut [u8],
-) -> Ran {
-    let (sizes, rules) = rule_set(rules)?;
-    let (reach, cells) = (2 * sizes.reach as usize, 2 * sizes.cells as usize);
-    if term.len().min(spare_term.len()) < reach || memory.len().min(spare_memory.len()) < cells {
-        return Err(SPACE);
-    }
-    let mut machine = Machine::new(&rules);
-    for pair in numbers.chunks_exact(2) {
-        machine.feed(u16::from_le_bytes([pair[0], pair[1]]));
-    }
-    let mut words = spelled(&machine.term);
-    let size = words.len() as u32;
-    words.resize(sizes.reach as usize, 0);
-    for (words, buffer) in [(words, term), (machine.values(), memory)] {
-        for (place, word) in words.into_iter().enumerate() {
-            buffer[2 * place..2 * place + 2].copy_from_slice(&word.to_le_bytes());
-        }
-    }
-    Ok(Tally { size, ..machine.tally })
 }
 
 /// An admitted file as a tree, with its sizes.

@@ -1,9 +1,11 @@
 //! Start, Count, Move, Present and Run on bytes, over cells.
 //!
-//! Document 01, "Operations" and the table: refusals are tested in its order, 1 to 8, 10, 11, 9, 12; a
-//! refusal writes nothing. "Words past the reported size (Run: past G) and cells past C keep their values.
-//! An odd last byte is ignored and kept; in a given term it is refused 10, in an event 11."
+//! Document 01, "Operations" and the table: refusals are tested in its order, 1 to 8, 10, 11, 9, 12, and in
+//! Run 13 after 9 (document 02, K1); a refusal writes nothing. "Words past the reported size (Run: past G)
+//! and cells past C keep their values. An odd last byte is ignored and kept; in a given term it is refused
+//! 10, in an event 11."
 
+use super::by_reader::{self, Became, Counts};
 use super::decoded::Rules;
 use super::evaluation::Cells;
 use super::memory;
@@ -11,7 +13,7 @@ use super::moves::{Findings, Moves, Output, Packed};
 use super::term::{self, words_of, Given, Term};
 use super::unfolding;
 use crate::refusal::{NOT_OFFERED, SPACE};
-use crate::{Counted, Made, Moved, Ran, Started, Tally};
+use crate::{Counted, LentToRun, Made, Moved, Ran, Started, Tally};
 
 /// Writes main's unfolding and the memory at start.
 pub fn start(rules: &[u8], term: &mut [u8], memory: &mut [u8]) -> Started {
@@ -73,43 +75,41 @@ pub fn present(
     Ok(made(&rules, &moves, number, next_term, next_memory))
 }
 
-/// Takes the moves of a list of numbers, from the start. The scratch buffers count only by their room.
-pub fn run(
-    rules: &[u8],
-    numbers: &[u8],
-    term: &mut [u8],
-    memory: &mut [u8],
-    spare_term: &mut [u8],
-    spare_memory: &mut [u8],
-) -> Ran {
+/// Takes the moves of a list of numbers, from the start, and counts them by their readers. The scratch
+/// buffers count only by their room.
+pub fn run(rules: &[u8], list: &[u8], lent: LentToRun) -> Ran {
+    let [table, term, memory, spare_term, spare_memory] = lent;
     let rules = Rules::admitted(rules)?;
     let reach = rules.sizes.reach as usize;
     space(&rules, &[term, spare_term], reach, &[memory, spare_memory])?;
+    by_reader::judged(list, table)?;
     let mut state = State { term: unfolding::main_of(&rules), cells: memory::at_start(&rules) };
     let mut next = State { term: Term::with_room(reach), cells: Vec::with_capacity(rules.cells()) };
-    let (mut findings, mut ran) = (Findings::default(), Tally::default());
-    for number in numbers.chunks_exact(2).map(|pair| usize::from(u16::from_le_bytes([pair[0], pair[1]]))) {
+    let (mut findings, mut counts) = (Findings::default(), Counts::default());
+    for (number, reader) in by_reader::pairs(list) {
         let mut moves = moves(&rules, &state.term, &state.cells, &mut findings);
         if number >= moves.count() {
-            ran.refused += 1;
+            counts.note(reader, Became::Refused);
             continue;
         }
         next.term.words.clear();
         let action = moves.build(0, number, &mut next.term);
         if action == Packed::INTERNAL {
-            ran.internal += 1;
+            counts.note(reader, Became::Internal);
             next.cells.clone_from(&state.cells);
         } else {
-            ran.visible += 1;
+            counts.note(reader, Became::Visible);
             memory::renew(&rules, action, &state.cells, &mut next.cells);
         }
         std::mem::swap(&mut state, &mut next);
     }
-    ran.size = state.term.words.len() as u32;
+    counts.add_to(table);
+    let size = state.term.words.len();
     write(&state.term.words, term);
-    term[2 * state.term.words.len()..2 * reach].fill(0);
+    term[2 * size..2 * reach].fill(0);
     write(&state.cells, memory);
-    Ok(ran)
+    let [visible, internal, refused] = counts.sums();
+    Ok(Tally { size: size as u64, visible, internal, refused })
 }
 
 /// A run's state: a term and a memory.

@@ -28,6 +28,7 @@ use Rattle.eb3.proofs.Laws.Bytes.{written_words, words_counted}
 use Rattle.eb3.proofs.Laws.Spelling.{Small}
 use Rattle.eb3.specs.Memory.{memory_words}
 use Rattle.eb3.proofs.Laws.Memory.{memory_small, memory_length}
+use Rattle.eb3.specs.Readers.{numbers_in}
 use Rattle.eb3.specs.Answers.{Sizes, Ran, Written}
 use Rattle.eb3.proofs.Laws.Admission.{admitted}
 use Rattle.eb3.specs.Demands.{Roomy, last_trace, values_words, after, Demand3}
@@ -93,7 +94,7 @@ in_range [] k d d' l = let z : ⊥ = omega arith in absurd z
 in_range (w ∷ ws) zero d d' l = refl
 in_range (w ∷ ws) (suc k) d d' l = in_range ws k d d' (omega arith)
 
-module _ (rules numbers term memory spare_term spare_memory : List ℕ) (S : Sizes) (D : Demand3 rules numbers term memory spare_term spare_memory S) (room : Roomy S term memory) where
+module _ (rules list table term memory spare_term spare_memory : List ℕ) (S : Sizes) (D : Demand3 rules list table term memory spare_term spare_memory S) (room : Roomy S term memory) where
   good : WellFormed D.R
   good = (admitted rules D.R D.admitted).good
 
@@ -103,22 +104,22 @@ module _ (rules numbers term memory spare_term spare_memory : List ℕ) (S : Siz
   traced : WellFormedTrace D.R T_list
   unfolding history_run
   traced = subst (λ (c : Machine (Sem_T (attributes D.R))). WellFormedTrace D.R c.state.state) (sym (chain_run (Sem_T (attributes D.R)) D.chain))
-      (history_well_formed D.R (unfold_main D.R) (words_in numbers) (main_running D.R good).form)
+      (history_well_formed D.R (unfold_main D.R) (numbers_in list) (main_running D.R good).form)
 
   abbrev wrote : List ℕ
   wrote = values_words D.R T_list
 
-  memory_is : words_in (after rules numbers term memory spare_term spare_memory S).memory ≡ wrote ++ words_in (drop (2 * length wrote) memory)
+  memory_is : words_in (after rules list table term memory spare_term spare_memory S).written.memory ≡ wrote ++ words_in (drop (2 * length wrote) memory)
   memory_is = ap (λ (w : Written Ran). words_in w.memory) D.run_agrees ∙ written_words wrote memory (values_small D.R good.form T_list traced)
 
-  pub cell_values : CellValues D.R D.h (after rules numbers term memory spare_term spare_memory S)
+  pub cell_values : CellValues D.R D.h (after rules list table term memory spare_term spare_memory S).written
   cell_values = record {
     cell = λ f l x b.
         let k = cells_before D.R f + x in
         let inside : k < length wrote = omega (arith, values_count D.R good.form T_list, before_mono D.R good.form f (length D.R.functions) l) in
         ap (λ ws. get_or ws k 0) memory_is ∙ (get_or-append wrote (words_in (drop (2 * length wrote) memory)) 0 k inside
         ∙ (in_range wrote k 0 (encode 65535 undefined) inside ∙ word_at D.R good.form T_list traced f l x b));
-    all_cells = omega (arith, words_counted (after rules numbers term memory spare_term spare_memory S).memory, ap length memory_is, length-append wrote (words_in (drop (2 * length wrote) memory)), values_count D.R good.form T_list);
+    all_cells = omega (arith, words_counted (after rules list table term memory spare_term spare_memory S).written.memory, ap length memory_is, length-append wrote (words_in (drop (2 * length wrote) memory)), values_count D.R good.form T_list);
     cell_count = cells_in_all D.R good.form;
     cell_place = place_is D.R good.form;
     domain_is = one_domain D.R good.form;

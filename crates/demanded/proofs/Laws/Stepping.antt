@@ -1,5 +1,5 @@
--- A host's steps are the run (`one_more`, `run_then_move`, `steps_are_the_run`; document 01, "Operations": Start, Move and Run).
-use Rattle.std.specs.Prelude.{◌≡◌, length, drop, replicate}
+-- A host's steps are the run (`one_more`, `run_then_move`, `steps_are_the_run`; document 01, "Operations": Start, Move and Run; document 02, K1).
+use Rattle.std.specs.Prelude.{◌≡◌, T, length, drop, replicate}
 use Rattle.std.proofs.Math.Path.{refl, ap, subst}
 use Rattle.std.proofs.Common.{sym, ◌∙◌, arith, length-append, take-append-drop, take_at}
 use mathlib.Core.List.{List, [], ◌∷◌, ◌++◌, map, append_assoc, append-nil}
@@ -29,20 +29,21 @@ use Rattle.eb3.proofs.Laws.MainRunning.{main_running}
 use Rattle.eb3.proofs.Laws.Running.{run_running, history_well_formed}
 use Rattle.eb3.specs.Spelling.{words}
 use Rattle.eb3.proofs.Laws.Spelling.{words_length}
-use Rattle.eb3.specs.Bytes.{words_in, bytes_of, word_count, written}
+use Rattle.eb3.specs.Bytes.{bytes_of, word_count, written}
 use Rattle.eb3.proofs.Laws.Bytes.{bytes_length, written_length, written_cut}
 use Rattle.eb3.specs.Memory.{memory_words}
 use Rattle.eb3.proofs.Laws.Memory.{memory_length}
-use Rattle.eb3.specs.Answers.{refused, answered, and_then, Sizes, Moved, Ran, Written}
+use Rattle.eb3.specs.Answers.{refused, answered, and_then, Sizes, Moved, Ran, Written, or_refused}
 use Rattle.eb3.proofs.Laws.Answers.{not_both, answered_injective, refused_injective}
+use Rattle.eb3.specs.Readers.{numbers_in, lets_through}
 use Rattle.eb3.specs.Admission.{admission}
 use Rattle.eb3.proofs.Laws.Admission.{admitted}
 use Rattle.eb3.specs.Operations.{main_reach, sizes_needed, term_in, cells_given, writing, moved, count, run}
-use Rattle.eb3.specs.Answers.{or_refused}
 use Rattle.eb3.proofs.Laws.Operations.{term_back, values_back}
 use Rattle.eb3.specs.Demands.{Roomy, last_term, last_trace, history_moves, values_words, run_result, cut}
 use Rattle.eb3.proofs.Laws.DemandThree.{admit_reports, there, count_there, move_there, renewed_there, run_is, h}
 use Rattle.eb3.proofs.Laws.DemandOne.{start_writes}
+use Rattle.demanded.proofs.Laws.Readers.{through_more, numbers_more}
 use Rattle.demanded.specs.Stepping.{Host, host_after_start, host_start, host_of, more_visible, more_internal, taken, not_taken, stepped, host_move, host_step, host_run, SameAsRun, RoomyHost, OneMoreHolds, RunThenMoveHolds, StepsAreTheRunHolds}
 
 -- ── one step of a machine more ──
@@ -290,20 +291,20 @@ module _ (rules : List ℕ) (S : Sizes) (R : RuleSet) (a : admission rules ≡ a
 
   -- ── on bytes ──
 
-  module _ (numbers term memory spare_term spare_memory : List ℕ) (room : Roomy S term memory) (spare : Roomy S spare_term spare_memory) where
+  module _ (list table term memory spare_term spare_memory : List ℕ) (room : Roomy S term memory) (spare : Roomy S spare_term spare_memory) (through : T (lets_through list table)) where
     abbrev ended : Machine (Sem_T (attributes R))
-    ended = history (words_in numbers)
+    ended = history (numbers_in list)
 
     abbrev result : Written Ran
-    result = run rules numbers term memory spare_term spare_memory
+    result = (run rules list table term memory spare_term spare_memory).written
 
     ran_is : result ≡ run_result R ended term memory
     unfolding history h
-    ran_is = run_is rules S R a s numbers term memory spare_term spare_memory room spare
+    ran_is = run_is rules S R a s list table term memory spare_term spare_memory room spare through
 
     ran_term : (n : ℕ) → n ≡ size R.edition.width (last_term R ended) → cut n result.term ≡ bytes_of (words R.edition.width (last_term R ended))
     ran_term n e = ap (λ (w : Written Ran). cut n w.term) ran_is
-        ∙ (ap (λ m. take (2 * m) (run_result R ended term memory).term) (e ∙ sym (term_length (last_term R ended) (running (words_in numbers))))
+        ∙ (ap (λ m. take (2 * m) (run_result R ended term memory).term) (e ∙ sym (term_length (last_term R ended) (running (numbers_in list))))
         ∙ written_cut (words R.edition.width (last_term R ended)) _ term)
 
     ran_cells : take (2 * S.cells) result.memory ≡ bytes_of (values_words R (last_trace R ended))
@@ -320,9 +321,9 @@ module _ (rules : List ℕ) (S : Sizes) (R : RuleSet) (a : admission rules ≡ a
           arith,
           length-append (words R.edition.width E) (replicate (main_reach R - size R.edition.width E) 0),
           length-replicate {A = ℕ} (main_reach R - size R.edition.width E) 0,
-          term_length E (running (words_in numbers)),
+          term_length E (running (numbers_in list)),
           size_below_reach R.edition.width E,
-          reach_within (words_in numbers),
+          reach_within (numbers_in list),
         ) in
         let lt : length ws ≤ word_count term = omega (arith, room.term_room) in
         let lm : length (values_words R H) ≤ word_count memory = omega (arith, values_length H, room.memory_room) in
@@ -338,7 +339,7 @@ module _ (rules : List ℕ) (S : Sizes) (R : RuleSet) (a : admission rules ≡ a
     unfolding ran_answer
     ran_answered = ap (λ (w : Written Ran). w.answer) ran_is
 
-    to_run : (g : Host) → Reached (words_in numbers) g → SameAsRun S g result
+    to_run : (g : Host) → Reached (numbers_in list) g → SameAsRun S g result
     to_run g r = record {
       same_answer = ap (λ (w : Written Ran). w.answer) ran_is
           ∙ (λ i. answered (record { size = sym r.size_is i; visible = sym r.visible_is i; internal = sym r.internal_is i; refusals = sym r.refused_is i }));
@@ -346,7 +347,7 @@ module _ (rules : List ℕ) (S : Sizes) (R : RuleSet) (a : admission rules ≡ a
       same_cells = r.cells_are ∙ sym ran_cells;
     }
 
-    from_run : (g : Host) → RoomyHost S g → SameAsRun S g result → Reached (words_in numbers) g
+    from_run : (g : Host) → RoomyHost S g → SameAsRun S g result → Reached (numbers_in list) g
     from_run g o same =
         let p = answered_injective _ _ (sym same.same_answer ∙ ap (λ (w : Written Ran). w.answer) ran_is) in
         record {
@@ -360,39 +361,39 @@ module _ (rules : List ℕ) (S : Sizes) (R : RuleSet) (a : admission rules ≡ a
         }
 
 pub one_more : OneMoreHolds
-one_more rules term memory spare_term spare_memory S e room spare = record {
-  one_more = λ numbers numbers' k f g o same.
+one_more rules table term memory spare_term spare_memory S e room spare = record {
+  one_more = λ list list' k x t q f g o same.
       let p = admit_reports rules S e in
-      let r = from_run rules S p.0 p.1 p.2 numbers term memory spare_term spare_memory room spare g o same in
-      let n = next rules S p.0 p.1 p.2 (words_in numbers) g r k in (
+      let r = from_run rules S p.0 p.1 p.2 list table term memory spare_term spare_memory room spare t g o same in
+      let n = next rules S p.0 p.1 p.2 (numbers_in list) g r k in (
         n.0,
         n.1,
         n.2.room,
-        to_run rules S p.0 p.1 p.2 numbers' term memory spare_term spare_memory room spare n.0
-            (subst (λ l. Reached rules S p.0 p.1 p.2 l n.0) (sym f) n.2),
+        to_run rules S p.0 p.1 p.2 list' table term memory spare_term spare_memory room spare (through_more list list' table k x t f q) n.0
+            (subst (λ l. Reached rules S p.0 p.1 p.2 l n.0) (sym (numbers_more list list' table k x t f)) n.2),
       );
 }
 
 pub run_then_move : RunThenMoveHolds
-run_then_move rules numbers numbers' term memory spare_term spare_memory next_term next_memory k S e f room spare next =
+run_then_move rules list list' table term memory spare_term spare_memory next_term next_memory k x S e t q f room spare other =
     let p = admit_reports rules S e in
-    let r = ran_answer rules S p.0 p.1 p.2 numbers term memory spare_term spare_memory room spare in
-    let q = ran_answered rules S p.0 p.1 p.2 numbers term memory spare_term spare_memory room spare in
-    let n = (one_more rules term memory spare_term spare_memory S e room spare).one_more numbers numbers' k f (host_of (run rules numbers term memory spare_term spare_memory) r next_term next_memory)
-    (record { current = ran_roomy rules S p.0 p.1 p.2 numbers term memory spare_term spare_memory room spare; other = next }) (record { same_answer = q; same_term = refl; same_cells = refl }) in
-    record { ran = r; ran_is = q; host = n.0; moved_to = n.1; same_as_run = n.3 }
+    let r = ran_answer rules S p.0 p.1 p.2 list table term memory spare_term spare_memory room spare t in
+    let a = ran_answered rules S p.0 p.1 p.2 list table term memory spare_term spare_memory room spare t in
+    let n = (one_more rules table term memory spare_term spare_memory S e room spare).one_more list list' k x t q f (host_of (run rules list table term memory spare_term spare_memory).written r next_term next_memory)
+    (record { current = ran_roomy rules S p.0 p.1 p.2 list table term memory spare_term spare_memory room spare t; other = other }) (record { same_answer = a; same_term = refl; same_cells = refl }) in
+    record { ran = r; ran_is = a; host = n.0; moved_to = n.1; same_as_run = n.3 }
 
 pub steps_are_the_run : StepsAreTheRunHolds
 unfolding and_then
-steps_are_the_run rules numbers term memory spare_term spare_memory first_term first_memory second_term second_memory S e room spare room₁ room₂ =
+steps_are_the_run rules list table term memory spare_term spare_memory first_term first_memory second_term second_memory S e t room spare room₁ room₂ =
     let p = admit_reports rules S e in
     let g = first rules S p.0 p.1 p.2 first_term first_memory second_term second_memory room₁ room₂ in
-    let m = steps_reach rules S p.0 p.1 p.2 (words_in numbers) [] g (first_reached rules S p.0 p.1 p.2 first_term first_memory second_term second_memory room₁ room₂) in
+    let m = steps_reach rules S p.0 p.1 p.2 (numbers_in list) [] g (first_reached rules S p.0 p.1 p.2 first_term first_memory second_term second_memory room₁ room₂) in
     record {
       host = m.0;
-      stepped_to = ap (λ x. and_then x λ g. host_run rules g (words_in numbers)) (first_is rules S p.0 p.1 p.2 first_term first_memory second_term second_memory room₁ room₂) ∙ m.1;
-      same_as_run = to_run rules S p.0 p.1 p.2 numbers term memory spare_term spare_memory room spare m.0 m.2;
+      stepped_to = ap (λ x. and_then x λ g. host_run rules g (numbers_in list)) (first_is rules S p.0 p.1 p.2 first_term first_memory second_term second_memory room₁ room₂) ∙ m.1;
+      same_as_run = to_run rules S p.0 p.1 p.2 list table term memory spare_term spare_memory room spare t m.0 m.2;
       room_kept = m.2.room;
-      count_answers = (_, count_here rules S p.0 p.1 p.2 (words_in numbers) m.0 m.2);
-      only_12 = only_12 rules S p.0 p.1 p.2 (words_in numbers) m.0 m.2;
+      count_answers = (_, count_here rules S p.0 p.1 p.2 (numbers_in list) m.0 m.2);
+      only_12 = only_12 rules S p.0 p.1 p.2 (numbers_in list) m.0 m.2;
     }

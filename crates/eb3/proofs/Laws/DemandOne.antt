@@ -1,5 +1,5 @@
 -- Demand 1 is met: every refusal has its number and writes nothing (`refusals`); in buffers of the reported sizes space never lacks (`space`).
-use Rattle.std.specs.Prelude.{◌≡◌, refl, ◌&&◌, List, [], ◌∷◌, ℕ, ◌≤◌, length}
+use Rattle.std.specs.Prelude.{◌≡◌, refl, false, ◌&&◌, List, [], ◌∷◌, ℕ, ◌≤◌, length}
 use Rattle.std.proofs.Math.Path.{ap, subst}
 use Rattle.std.proofs.Common.{sym, ◌∙◌, arith, le→leb}
 use Rattle.std.proofs.Math.Option.{Option, none, some}
@@ -21,15 +21,15 @@ use Rattle.eb3.proofs.Laws.Reading.{pick_true, picked}
 use Rattle.eb3.specs.TermReading.{given_term, given_event}
 use Rattle.eb3.specs.Bytes.{words_in, word_count}
 use Rattle.eb3.specs.Memory.{cell_room}
-use Rattle.eb3.specs.Answers.{Answer, refused, answered, and_then, Sizes, Ran, Moved, Written, unwritten}
+use Rattle.eb3.specs.Answers.{Answer, refused, answered, and_then, Sizes, Ran, Moved, Written, unwritten, or_refused, Tabled, untabled}
 use Rattle.eb3.proofs.Laws.Answers.{not_both, answered_injective, refused_injective}
 use Rattle.eb3.proofs.Laws.Refusals.{Within, and_then_within, or_refused_within, admission_within, refused_within}
 use Rattle.eb3.specs.Admission.{admission}
 use Rattle.eb3.proofs.Laws.Admission.{admitted}
-use Rattle.eb3.specs.Operations.{cells_needed, main_reach, sizes_needed, term_fits, memory_fits, even, term_in, event_in, listed, writing, started, moved, chosen, at_first, ran, admit, start, count, move, present, run}
-use Rattle.eb3.specs.Answers.{or_refused}
+use Rattle.eb3.specs.Operations.{cells_needed, main_reach, sizes_needed, term_fits, memory_fits, even, term_in, event_in, listed, writing, started, moved, chosen, at_first, ran, admit, start, count, move, present, run, ran_with, tabling, run_fits}
 use Rattle.eb3.specs.Demands.{Roomy, RefusedAs, RefusalsHold, SpaceHolds}
-use Rattle.eb3.proofs.Laws.DemandThree.{admit_reports, fits}
+use Rattle.eb3.proofs.Laws.DemandThree.{admit_reports, fits, run_judged}
+use Rattle.eb3.specs.Readers.{numbers_in, lets_through}
 
 -- ── refusals ──
 
@@ -102,20 +102,36 @@ module _ (rules : List ℕ) where
       writing_as Refusal.of_present next_term next_memory (event_in R event) _ (within_more Refusal.of_present of_event tt (event_in R event) (event_within R event)) (λ ρ.
       chosen_as Refusal.of_present tt tt R E memory next_term next_memory (at_first ρ))))
 
-  run_as : (numbers term memory spare_term spare_memory : List ℕ) → RefusedAs Refusal.of_start term memory (run rules numbers term memory spare_term spare_memory)
-  unfolding run one_of all_of
-  run_as numbers term memory spare_term spare_memory = writing_as Refusal.of_start term memory (admission rules) _ (admitted_within Refusal.of_start tt) (λ R.
-      picked (RefusedAs Refusal.of_start term memory) ((term_fits (main_reach R) term && memory_fits R memory) && (term_fits (main_reach R) spare_term && memory_fits R spare_memory)) _ _
-      (λ t. done_as Refusal.of_start term memory (ran numbers term memory R) _ refl) (refused_as Refusal.of_start term memory Refusal.space tt))
+  -- Run: what it leaves of the buffers and of the table, where it is refused.
+  module _ (list table term memory spare_term spare_memory : List ℕ) where
+    abbrev RunRefused : Tabled Ran → Type 0
+    RunRefused w = RefusedAs Refusal.of_run term memory w.written × ((j : ℕ) → w.written.answer ≡ refused j → w.table ≡ table)
+
+    run_refused : (k : ℕ) → T (one_of Refusal.of_run k) → RunRefused (untabled table term memory k)
+    run_refused k h = (refused_as Refusal.of_run term memory k h, λ j e. refl)
+
+    run_done : (R : RuleSet) → RunRefused (ran_with list table term memory R)
+    run_done R = (done_as Refusal.of_run term memory (ran (numbers_in list) term memory R) _ refl, λ j e. absurd (not_both j _ (sym e)))
+
+    tabling_as : {Y : Type 0} (a : Answer Y) (f : Y → Tabled Ran) → Within Refusal.of_run a → ((y : Y) → RunRefused (f y)) → RunRefused (tabling table term memory a f)
+    tabling_as (refused k) f w h = run_refused k w
+    tabling_as (answered y) f w h = h y
+
+    run_as : RunRefused (run rules list table term memory spare_term spare_memory)
+    unfolding run one_of all_of
+    run_as = tabling_as (admission rules) _ (admitted_within Refusal.of_run tt) (λ R.
+        picked RunRefused (run_fits R term memory spare_term spare_memory) _ _
+        (λ t. picked RunRefused (lets_through list table) _ _ (λ u. run_done R) (run_refused Refusal.reader tt)) (run_refused Refusal.space tt))
 
 pub refusals : RefusalsHold
-refusals rules numbers term memory event next_term next_memory spare_term spare_memory k = record {
+refusals rules list table term memory event next_term next_memory spare_term spare_memory k = record {
   admit_refused = refused_within Refusal.of_admission (admit rules) (admit_within rules);
   start_refused = start_as rules term memory;
   count_refused = refused_within Refusal.of_count (count rules term memory) (count_within rules term memory);
   move_refused = move_as rules term memory k next_term next_memory;
   present_refused = present_as rules term memory event next_term next_memory;
-  run_refused = run_as rules numbers term memory spare_term spare_memory;
+  run_refused = (run_as rules list table term memory spare_term spare_memory).0;
+  run_table_kept = (run_as rules list table term memory spare_term spare_memory).1;
 }
 
 -- ── space ──
@@ -135,19 +151,12 @@ module _ (rules : List ℕ) (S : Sizes) (R : RuleSet) (a : admission rules ≡ a
   start_roomy : (term memory : List ℕ) → Roomy S term memory → (start rules term memory).answer ≡ answered S.size
   start_roomy term memory room = ap (λ (w : Written ℕ). w.answer) (start_writes rules S R a s term memory room) ∙ ap (λ (x : Sizes). answered x.size) s
 
-  run_roomy : (numbers term memory spare_term spare_memory : List ℕ) → Roomy S term memory → Roomy S spare_term spare_memory → (r : Ran) × ((run rules numbers term memory spare_term spare_memory).answer ≡ answered r)
-  unfolding run
-  run_roomy numbers term memory spare_term spare_memory room spare =
-      let f = fits S R s term memory room (main_reach R) (omega arith) in
-      let f' = fits S R s spare_term spare_memory spare (main_reach R) (omega arith) in (
-        _,
-        ap (λ (w : Written Ran). w.answer)
-            (ap (λ x. writing term memory x λ R. pick ((term_fits (main_reach R) term && memory_fits R memory) && (term_fits (main_reach R) spare_term && memory_fits R spare_memory))
-            (ran numbers term memory R) (unwritten term memory Refusal.space)) a
-            ∙ pick_true _ _ ((term_fits (main_reach R) term && memory_fits R memory) && (term_fits (main_reach R) spare_term && memory_fits R spare_memory))
-            (T_and (term_fits (main_reach R) term && memory_fits R memory) (term_fits (main_reach R) spare_term && memory_fits R spare_memory)
-            (T_and (term_fits (main_reach R) term) (memory_fits R memory) f.0 f.1) (T_and (term_fits (main_reach R) spare_term) (memory_fits R spare_memory) f'.0 f'.1))),
-      )
+  module _ (list table term memory spare_term spare_memory : List ℕ) (room : Roomy S term memory) (spare : Roomy S spare_term spare_memory) where
+    run_roomy : T (lets_through list table) → (r : Ran) × ((run rules list table term memory spare_term spare_memory).written.answer ≡ answered r)
+    run_roomy through = (_, ap (λ (w : Tabled Ran). w.written.answer) (run_judged rules S R a s list table term memory spare_term spare_memory room spare ∙ pick_true _ _ (lets_through list table) through))
+
+    run_unread : lets_through list table ≡ false → run rules list table term memory spare_term spare_memory ≡ untabled table term memory Refusal.reader
+    run_unread e = run_judged rules S R a s list table term memory spare_term spare_memory room spare ∙ ap (λ b. pick b (ran_with list table term memory R) (untabled table term memory Refusal.reader)) e
 
   -- Ten is not nine, and neither is twelve.
   not_space : {X : Type 0} (k : ℕ) → (k ≡ Refusal.space → ⊥) → ◌≡◌ {A = Answer X} (refused k) (refused Refusal.space) → ⊥
@@ -210,6 +219,7 @@ space rules S e =
     record {
       start_has_room = start_roomy rules S p.0 p.1 p.2;
       run_has_room = run_roomy rules S p.0 p.1 p.2;
+      run_readers = run_unread rules S p.0 p.1 p.2;
       count_has_room = count_roomy rules S p.0 p.1 p.2;
       move_has_room = λ R a E term memory next_term next_memory k t i j l. move_roomy rules S R a (reported R a p.0 p.1 p.2) E term memory next_term next_memory t i j l k;
       present_has_room = λ R a E term memory event next_term next_memory t i j l. present_roomy rules S R a (reported R a p.0 p.1 p.2) E term memory next_term next_memory t i j l event;

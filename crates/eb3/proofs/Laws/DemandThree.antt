@@ -1,6 +1,6 @@
 -- Demand 3 is met: one theorem over admit, run, count and move on bytes (`demand_3`).
-use Rattle.std.specs.Prelude.{◌≡◌, ◌&&◌, List, ℕ, ◌≤◌, T, length}
-use Rattle.std.proofs.Math.Path.{ap, sym}
+use Rattle.std.specs.Prelude.{◌≡◌, ◌&&◌, List, ℕ, ◌≤◌, T, length, refl, []}
+use Rattle.std.proofs.Math.Path.{ap, sym, subst}
 use Rattle.std.proofs.Common.{◌∙◌, arith, le→leb}
 use Rattle.std.proofs.Math.Option.{Option, none, some}
 use Rattle.std.proofs.Math.ListN.{get_elem?}
@@ -13,10 +13,12 @@ use Rattle.eb3.specs.Derivations.{state_after}
 use Rattle.eb3.specs.Attributes.{Trace}
 use Rattle.eb3.specs.Cells.{all_values}
 use Rattle.eb3.proofs.Laws.Cells.{length_values}
-use Rattle.eb3.specs.Semantics.{Sem_T, Sem_M}
+use Rattle.eb3.specs.Semantics.{Sem_T, Sem_M, situation, system}
 use Rattle.eb3.proofs.Laws.Semantics.{demand_2_trace}
-use Rattle.eb3.specs.Machines.{Machine, history_start, history_run}
+use Rattle.eb3.specs.Machines.{Machine, history_start, history_run, history_outcomes}
 use Rattle.eb3.proofs.Laws.Machines.{guards_alike, new_cells, history_chain, machines_agree}
+use Rattle.eb3.specs.TransitionSystems.{Outcome, visible?, internal?, refused?, tally}
+use Rattle.eb3.proofs.Laws.TransitionSystems.{Tallied, run_tallied}
 use Rattle.eb3.specs.Sizes.{size, reach, breadth}
 use Rattle.eb3.proofs.Laws.Sizes.{run_reach, run_breadth}
 use Rattle.eb3.specs.RuleSets.{RuleSet, attributes}
@@ -31,14 +33,15 @@ use Rattle.eb3.specs.Bytes.{words_in, word_count, written}
 use Rattle.eb3.proofs.Laws.Bytes.{written_length}
 use Rattle.eb3.specs.Memory.{cell_room, memory_words}
 use Rattle.eb3.proofs.Laws.Memory.{memory_length}
-use Rattle.eb3.specs.Answers.{refused, answered, and_then, Sizes, Ran, Written, unwritten}
+use Rattle.eb3.specs.Answers.{refused, answered, and_then, Sizes, Ran, Written, or_refused, Tabled, untabled}
 use Rattle.eb3.proofs.Laws.Answers.{and_then_answered, answered_injective}
 use Rattle.eb3.specs.Admission.{admission}
 use Rattle.eb3.proofs.Laws.Admission.{admitted}
-use Rattle.eb3.specs.Operations.{cells_needed, main_reach, sizes_needed, term_fits, memory_fits, term_in, cells_given, listed, writing, moved, chosen, ran, admit, count, move, run}
-use Rattle.eb3.specs.Answers.{or_refused}
+use Rattle.eb3.specs.Operations.{cells_needed, main_reach, sizes_needed, term_fits, memory_fits, term_in, cells_given, listed, writing, moved, chosen, admit, count, move, run, ran_with, reader_counts, tabling, run_fits}
 use Rattle.eb3.proofs.Laws.Operations.{cut_back, values_back}
-use Rattle.eb3.specs.Demands.{Roomy, last_term, last_trace, history_moves, values_words, run_result, move_result, cut, after, Demand3, Demand3Holds}
+use Rattle.eb3.specs.Demands.{Roomy, last_term, last_trace, history_moves, values_words, run_result, move_result, cut, after, Demand3, Demand3Holds, TableAfter}
+use Rattle.eb3.specs.Readers.{numbers_in, readers_in, lets_through, increased}
+use Rattle.eb3.proofs.Laws.Readers.{one_outcome_each, table_after, through_readers, through_room}
 
 -- What an admission reports is what its rule set needs.
 pub admit_reports : (rules : List ℕ) (S : Sizes) → admit rules ≡ answered S → (R : RuleSet) × (admission rules ≡ answered R) × (sizes_needed R ≡ S)
@@ -51,6 +54,15 @@ fits S R s term memory r n l =
     let g : main_reach R ≡ S.reach = ap (λ (x : Sizes). x.reach) s in
     let c : cells_needed R ≡ S.cells = ap (λ (x : Sizes). x.cells) s in
     (le→leb n (word_count term) (omega (arith, r.term_room)), le→leb (cells_needed R) (cell_room memory) (omega (arith, r.memory_room)))
+
+-- So do Run's four.
+run_has_room : (S : Sizes) (R : RuleSet) → sizes_needed R ≡ S → (term memory spare_term spare_memory : List ℕ) → Roomy S term memory → Roomy S spare_term spare_memory
+    → T (run_fits R term memory spare_term spare_memory)
+run_has_room S R s term memory spare_term spare_memory room spare =
+    let f = fits S R s term memory room (main_reach R) (omega arith) in
+    let f' = fits S R s spare_term spare_memory spare (main_reach R) (omega arith) in
+    T_and (term_fits (main_reach R) term && memory_fits R memory) (term_fits (main_reach R) spare_term && memory_fits R spare_memory)
+    (T_and (term_fits (main_reach R) term) (memory_fits R memory) f.0 f.1) (T_and (term_fits (main_reach R) spare_term) (memory_fits R spare_memory) f'.0 f'.1)
 
 module _ (rules : List ℕ) (S : Sizes) (R : RuleSet) (a : admission rules ≡ answered R) (s : sizes_needed R ≡ S) where
   good : WellFormed R
@@ -93,35 +105,58 @@ module _ (rules : List ℕ) (S : Sizes) (R : RuleSet) (a : admission rules ≡ a
     pub renewed_there : (x : Move) → state_after (Sem_M (attributes R)) (cells_given R memory) x.action ≡ all_values (attributes R) (state_after (Sem_T (attributes R)) H x.action)
     renewed_there x = ap (λ M. state_after (Sem_M (attributes R)) M x.action) cells ∙ new_cells (attributes R) H x.action
 
+  -- Run, up to the test of 13.
+  pub run_judged : (list table term memory spare_term spare_memory : List ℕ) → Roomy S term memory → Roomy S spare_term spare_memory
+      → run rules list table term memory spare_term spare_memory ≡ pick (lets_through list table) (ran_with list table term memory R) (untabled table term memory Refusal.reader)
+  unfolding run
+  run_judged list table term memory spare_term spare_memory room spare =
+      ap (λ x. tabling table term memory x λ R. pick (run_fits R term memory spare_term spare_memory)
+      (pick (lets_through list table) (ran_with list table term memory R) (untabled table term memory Refusal.reader)) (untabled table term memory Refusal.space)) a
+      ∙ pick_true _ _ (run_fits R term memory spare_term spare_memory) (run_has_room S R s term memory spare_term spare_memory room spare)
+
   -- The run from the start.
-  module _ (numbers term memory spare_term spare_memory : List ℕ) (room : Roomy S term memory) (spare : Roomy S spare_term spare_memory) where
+  module _ (list table term memory spare_term spare_memory : List ℕ) (room : Roomy S term memory) (spare : Roomy S spare_term spare_memory) (through : T (lets_through list table)) where
     unfoldable pub h : Machine (Sem_T (attributes R))
-    h = history_run (attributes R) (unfold_main R) (words_in numbers)
+    h = history_run (attributes R) (unfold_main R) (numbers_in list)
 
     running : Running R (last_term R h)
     unfolding h history_run
-    running = run_running R (Sem_T (attributes R)) (history_start (attributes R) (unfold_main R)) (words_in numbers) (main_running R good)
+    running = run_running R (Sem_T (attributes R)) (history_start (attributes R) (unfold_main R)) (numbers_in list) (main_running R good)
 
     reach_kept : reach R.edition.width (last_term R h) ≤ S.reach
     unfolding h history_run
     reach_kept = let g : main_reach R ≡ S.reach = ap (λ (x : Sizes). x.reach) s in
-        omega (arith, run_reach R.edition.width (Sem_T (attributes R)) (history_start (attributes R) (unfold_main R)) (words_in numbers))
+        omega (arith, run_reach R.edition.width (Sem_T (attributes R)) (history_start (attributes R) (unfold_main R)) (numbers_in list))
 
     breadth_kept : breadth (last_term R h) ≤ S.breadth
     unfolding h history_run
     breadth_kept = let g : breadth (unfold_main R) ≡ S.breadth = ap (λ (x : Sizes). x.breadth) s in
-        omega (arith, run_breadth R.edition.width (Sem_T (attributes R)) (history_start (attributes R) (unfold_main R)) (words_in numbers))
+        omega (arith, run_breadth R.edition.width (Sem_T (attributes R)) (history_start (attributes R) (unfold_main R)) (numbers_in list))
 
-    pub run_is : after rules numbers term memory spare_term spare_memory S ≡ run_result R h term memory
-    unfolding run h
-    run_is =
-        let f = fits S R s term memory room (main_reach R) (omega arith) in
-        let f' = fits S R s spare_term spare_memory spare (main_reach R) (omega arith) in
-        ap (λ x. writing term memory x λ R. pick ((term_fits (main_reach R) term && memory_fits R memory) && (term_fits (main_reach R) spare_term && memory_fits R spare_memory))
-        (ran numbers term memory R) (unwritten term memory Refusal.space)) a
-        ∙ pick_true _ _ ((term_fits (main_reach R) term && memory_fits R memory) && (term_fits (main_reach R) spare_term && memory_fits R spare_memory))
-        (T_and (term_fits (main_reach R) term && memory_fits R memory) (term_fits (main_reach R) spare_term && memory_fits R spare_memory)
-        (T_and (term_fits (main_reach R) term) (memory_fits R memory) f.0 f.1) (T_and (term_fits (main_reach R) spare_term) (memory_fits R spare_memory) f'.0 f'.1))
+    run_made : after rules list table term memory spare_term spare_memory S ≡ ran_with list table term memory R
+    run_made = run_judged list table term memory spare_term spare_memory room spare ∙ pick_true _ _ (lets_through list table) through
+
+    pub run_is : (after rules list table term memory spare_term spare_memory S).written ≡ run_result R h term memory
+    unfolding h
+    run_is = ap (λ (w : Tabled Ran). w.written) run_made
+
+    pub table_is : (after rules list table term memory spare_term spare_memory S).table ≡ increased (reader_counts list R) table
+    table_is = ap (λ (w : Tabled Ran). w.table) run_made
+
+    -- What each number did.
+    abbrev did : List Outcome
+    did = history_outcomes (attributes R) (unfold_main R) (numbers_in list)
+
+    did_tallied : Tallied (system (Sem_T (attributes R))) (history_start (attributes R) (unfold_main R)) h did
+    unfolding h history_run history_outcomes
+    did_tallied = run_tallied (system (Sem_T (attributes R))) (history_start (attributes R) (unfold_main R)) (numbers_in list)
+
+    did_counted : (h.visible_count ≡ tally visible? did) × (h.internal_count ≡ tally internal? did) × (h.refused_count ≡ tally refused? did)
+    did_counted = (omega (arith, did_tallied.visible_tally), omega (arith, did_tallied.internal_tally), omega (arith, did_tallied.refused_tally))
+
+    did_many : length (readers_in list) ≡ length did
+    unfolding history_outcomes
+    did_many = one_outcome_each (system (Sem_T (attributes R))) (situation (unfold_main R) []) (words_in list)
 
     -- What is then given to Count and Move: the last term, cut, and the last memory.
     abbrev result : Written Ran
@@ -132,7 +167,7 @@ module _ (rules : List ℕ) (S : Sizes) (R : RuleSet) (a : admission rules ≡ a
 
     cells_are : cells_given R result.memory ≡ all_values (attributes R) (last_trace R h)
     unfolding h
-    cells_are = values_back R good.form (last_trace R h) memory (history_well_formed R (unfold_main R) (words_in numbers) (main_running R good).form)
+    cells_are = values_back R good.form (last_trace R h) memory (history_well_formed R (unfold_main R) (numbers_in list) (main_running R good).form)
 
     room_left : S.cells ≤ cell_room result.memory
     room_left =
@@ -155,19 +190,24 @@ module _ (rules : List ℕ) (S : Sizes) (R : RuleSet) (a : admission rules ≡ a
           memory = written (memory_words (renewed_there (last_term R h) (last_trace R h) (cut (size R.edition.width (last_term R h)) result.term) result.memory term_given cells_are room_left reach_kept x i)) next_memory;
         })
 
-    agreed : Demand3 rules numbers term memory spare_term spare_memory S
+    agreed : Demand3 rules list table term memory spare_term spare_memory S
     unfolding h there
     agreed = record {
       R = R;
       admitted = a;
       reported = sym s;
       h = h;
-      chain = history_chain (attributes R) (unfold_main R) (words_in numbers);
-      all_counted = (machines_agree (attributes R) (unfold_main R) (words_in numbers)).all_counted;
-      visible_in_trace = (machines_agree (attributes R) (unfold_main R) (words_in numbers)).visible_in_trace;
+      chain = history_chain (attributes R) (unfold_main R) (numbers_in list);
+      all_counted = (machines_agree (attributes R) (unfold_main R) (numbers_in list)).all_counted;
+      visible_in_trace = (machines_agree (attributes R) (unfold_main R) (numbers_in list)).visible_in_trace;
       run_agrees = run_is;
       reach_kept = reach_kept;
       breadth_kept = breadth_kept;
+      did = did;
+      did_is = refl;
+      did_counted = did_counted;
+      table_agrees = subst (TableAfter (readers_in list) did table) (sym table_is)
+          (table_after (readers_in list) did table (through_room list table through) did_many (through_readers list table through));
       derived = demand_2_trace (attributes R) (last_trace R h) (last_term R h);
       count_agrees = ap (λ (w : Written Ran). count rules (cut (size R.edition.width (last_term R h)) w.term) w.memory) run_is
           ∙ count_there (last_term R h) (last_trace R h) (cut (size R.edition.width (last_term R h)) result.term) result.memory term_given cells_are room_left reach_kept;
@@ -179,6 +219,6 @@ module _ (rules : List ℕ) (S : Sizes) (R : RuleSet) (a : admission rules ≡ a
     }
 
 pub demand_3 : Demand3Holds
-demand_3 rules numbers term memory spare_term spare_memory S e room spare =
+demand_3 rules list table term memory spare_term spare_memory S e room spare through =
     let p = admit_reports rules S e in
-    agreed rules S p.0 p.1 p.2 numbers term memory spare_term spare_memory room spare
+    agreed rules S p.0 p.1 p.2 list table term memory spare_term spare_memory room spare through

@@ -18,7 +18,7 @@ use Rattle.eb3.proofs.Laws.Reading.{pick_true, pick_false}
 use Rattle.eb3.specs.Answers.{Answer, refused, answered, and_then, Sizes}
 use Rattle.eb3.specs.Admission.{ends_right, ended, within_limits, admission}
 use Rattle.eb3.specs.Operations.{sizes_needed, admit}
-use Rattle.eb3.specs.Judging.{sizes_of_measure, judged, whole_of}
+use Rattle.eb3.specs.Judging.{judged, whole_of}
 
 module _ (R : RuleSet) where
   m : Measure

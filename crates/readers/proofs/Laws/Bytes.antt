@@ -3,9 +3,8 @@ use Rattle.std.specs.Prelude.{◌≡◌, ℕ, zero, suc, ◌+◌, ◌*◌, ◌/�
 use Rattle.std.proofs.Common.{arith, sym, ap, subst, ◌∙◌, append_assoc, length-append, length-set}
 use borrow.Rule.Slice.PartMut.{put_mid}
 use Rattle.std.specs.Int.{w32, to_le_bytes}
-use Rattle.eb3.specs.Bytes.{words_in, written}
-use Rattle.readers.specs.Readers.{doubles_in, double_words}
-use Rattle.readers.proofs.Laws.Readers.{double_length}
+use Rattle.eb3.specs.Bytes.{words_in, written, doubles_in, double_words}
+use Rattle.eb3.proofs.Laws.Readers.{double_length}
 use Rattle.writing.specs.WroteLaws.{written_next}
 use Rattle.readers.specs.Placing.{put_word, put_number}
 

@@ -6,12 +6,11 @@ use Rattle.std.proofs.Math.Path.{sym, ap}
 use Rattle.std.proofs.lemmas.List.{length-replicate}
 use Rattle.std.proofs.lemmas.Bool.{eqb-false}
 use Rattle.eb3.specs.Generic.AllLists.{All}
-use Rattle.readers.specs.Readers.{readers}
+use Rattle.eb3.specs.Limits.{readers}
 use Rattle.eb3.specs.TransitionSystems.{Outcome, took_visible, took_internal, refused, visible?, internal?, refused?, tally}
-use Rattle.eb3.specs.Bytes.{written}
-use Rattle.readers.specs.Readers.{double_words}
-use Rattle.readers.specs.Readers.{at_reader, counts_of, counts_by_reader, sums, increased}
-use Rattle.readers.proofs.Laws.Readers.{Reader, counts_length, counts_at}
+use Rattle.eb3.specs.Bytes.{double_words, written}
+use Rattle.eb3.specs.Readers.{at_reader, counts_of, counts_by_reader, sums, increased}
+use Rattle.eb3.proofs.Laws.Readers.{CardReader, counts_length, counts_at}
 use Rattle.readers.specs.Table.{one_more, outcome_place, counted_by}
 
 -- ── one number more ──
@@ -28,7 +27,7 @@ one_more_length : (ns : List ℕ) (q p : ℕ) → length (one_more ns q p) ≡ l
 unfolding one_more
 one_more_length ns q p = length-set ns _ _
 
-pub counted_length : (ns rs : List ℕ) (os : List Outcome) → length (counted_by ns rs os) ≡ length ns
+counted_length : (ns rs : List ℕ) (os : List Outcome) → length (counted_by ns rs os) ≡ length ns
 unfolding counted_by
 counted_length ns [] os = refl
 counted_length ns (r ∷ rs) [] = refl
@@ -86,7 +85,7 @@ kind (suc zero) o = internal? o
 kind (suc (suc p)) o = refused? o
 
 -- A number is counted at reader q + 1 and outcome p exactly if it is that reader's and did that.
-counted_here : (q p r : ℕ) (o : Outcome) → q < 32 → p < 3 → Reader r → here (3 * q + p) (3 * ((r + 31) % 32) + outcome_place o) ≡ cond (r == suc q) (cond (kind p o) 1 0) 0
+counted_here : (q p r : ℕ) (o : Outcome) → q < 32 → p < 3 → CardReader r → here (3 * q + p) (3 * ((r + 31) % 32) + outcome_place o) ≡ cond (r == suc q) (cond (kind p o) 1 0) 0
 counted_here q p r o l m h = go (r == suc q) refl
   where
     place_is : (r + 31) % 32 ≡ r - 1
@@ -116,7 +115,7 @@ counted_here q p r o l m h = go (r == suc q) refl
         let n : r ≡ suc q → ⊥ = eqb-false r (suc q) e in
         not_here (3 * q + p) (3 * ((r + 31) % 32) + outcome_place o) (λ x. n (omega (arith, place_is, h.0, m, place_below o, x)))
 
-times_tally : (q p : ℕ) (rs : List ℕ) (os : List Outcome) → q < 32 → p < 3 → All Reader rs → times q p rs os ≡ tally (kind p) (at_reader (suc q) rs os)
+times_tally : (q p : ℕ) (rs : List ℕ) (os : List Outcome) → q < 32 → p < 3 → All CardReader rs → times q p rs os ≡ tally (kind p) (at_reader (suc q) rs os)
 unfolding times tally at_reader
 times_tally q p [] os l m h = refl
 times_tally q p (r ∷ rs) [] l m h = refl
@@ -164,7 +163,7 @@ zero_at (suc n) (suc i) = zero_at n i
 zeros_length : length zeros ≡ 96
 zeros_length = length-replicate {A = ℕ} 96 0
 
-module _ (rs : List ℕ) (os : List Outcome) (right : All Reader rs) where
+module _ (rs : List ℕ) (os : List Outcome) (right : All CardReader rs) where
   abbrev counted : List ℕ
   counted = counted_by zeros rs os
 

@@ -4,11 +4,10 @@ use native.Mathlib.Omega.{arith}
 use Rattle.std.proofs.Math.Path.{refl, sym, ap}
 use Rattle.std.proofs.Common.{◌∙◌, length-append, take-suc, take_all}
 use mathlib.Core.List.{append_assoc}
-use Rattle.eb3.specs.Bytes.{words_in, bytes_of, written}
-use Rattle.readers.specs.Readers.{doubles_in, double_words}
+use Rattle.eb3.specs.Bytes.{words_in, bytes_of, written, doubles_in, double_words}
 use Rattle.eb3.proofs.Laws.Bytes.{words_counted}
-use Rattle.readers.specs.Readers.{sums, increased}
-use Rattle.readers.proofs.Laws.Readers.{doubles_length, sums_length, sums_at}
+use Rattle.eb3.specs.Readers.{sums, increased}
+use Rattle.eb3.proofs.Laws.Readers.{doubles_length, sums_length, sums_at}
 use Rattle.readers.specs.declared.Counts.{Counts}
 use Rattle.readers.specs.Table.{none, plus, counts_at, records, added_first, numbers}
 use Rattle.readers.specs.Placing.{put_number, put_first}

@@ -4,7 +4,7 @@ use Rattle.std.proofs.Common.{arith, sym, ap, ◌∙◌, length-drop, drop-cons,
 use Rattle.std.proofs.lemmas.Bool.{lt-leb}
 use Rattle.eb3.specs.Bytes.{words_in}
 use Rattle.eb3.proofs.Laws.Bytes.{words_counted}
-use Rattle.readers.specs.Readers.{reader?, all_read, lets_through}
+use Rattle.eb3.specs.Readers.{reader?, all_read, lets_through}
 
 -- While the first i readers are right, the answer is that of what comes after them.
 abbrev pub ReadersTo : List ℕ → ℕ → Type 0

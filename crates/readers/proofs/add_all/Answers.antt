@@ -10,5 +10,5 @@ pub loop-i-preserved : goal.loop-i-preserved
 loop-i-preserved c =
     elim c.if-not-idle.branch [
       | then-not-idle w ↦ w.table-is ∙ add_next _ _ _ _ _ _ c.loop-i.invariant c.counts_at-more.ensures w.add_to.ensures
-      | else-not-idle w ↦ w.table-is ∙ add_nothing _ _ _ _ _ _ c.requires.1 c.loop-i.invariant c.counts_at-more.ensures c.idle.ensures w.if-not-idle.false
+      | else-not-idle w ↦ w.table-is ∙ add_nothing _ _ _ _ _ _ c.requires c.loop-i.invariant c.counts_at-more.ensures c.idle.ensures w.if-not-idle.false
     ]

@@ -6,4 +6,4 @@ use Rattle.readers.proofs.add_to.Goals as goal
 
 pub returns : goal.returns
 unfolding added_to
-returns c = ap (λ r. slice_set c.args.table.now c.args.reader r) c.plus.ensures
+returns c = ap (λ r. slice_set c.args.table.now c.args.index r) c.plus.ensures

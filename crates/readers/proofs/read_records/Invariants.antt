@@ -1,5 +1,4 @@
-use Rattle.eb3.specs.Bytes.{words_in}
-use Rattle.readers.specs.Readers.{doubles_in}
+use Rattle.eb3.specs.Bytes.{words_in, doubles_in}
 use Rattle.readers.proofs.Laws.Table.{ReadTo}
 use Rattle.readers.proofs.read_records.Given as goal
 

@@ -6,10 +6,10 @@ use native.Mathlib.Omega.{arith}
 use Rattle.runs.proofs.shared.run_shared.Goals as goal
 
 pub loop-i-init : goal.loop-i-init
-loop-i-init c = let h = c.default.ensures in (omega (arith, h.1.0, h.1.1.0, h.1.1.1), refl, refl, arrays_same, shared_start c.args.numbers.now c.default.result h)
+loop-i-init c = let h = c.default.ensures in (omega (arith, h.1.0, h.1.1.0, h.1.1.1), refl, refl, arrays_same, shared_start c.args.list.now c.default.result h)
 
 pub loop-i-preserved : goal.loop-i-preserved
-loop-i-preserved c = let v = c.loop-i.invariant in let o = c.step_shared-done.ensures in (omega (arith, v.0, ap total c.counted-tally.ensures, counted_once c.loop-i.tally c.step_shared-done.result), o.words ∙ v.1, o.store ∙ v.2, arrays_then v.3 o.arrays, shared_next _ _ c.loop-i-test.true v.1 v.3.path_length v.3.acts_length v.3.mid_length v.4 (c.from-k.ensures ∙ c.word_at.ensures) o.stepped c.counted-tally.ensures)
+loop-i-preserved c = let v = c.loop-i.invariant in let o = c.step_shared-done.ensures in (omega (arith, v.0, ap total c.counted-tally.ensures, counted_once c.loop-i.tally c.step_shared-done.result), o.words ∙ v.1, o.store ∙ v.2, arrays_then v.3 o.arrays, shared_next _ _ c.loop-i-test.true v.1 v.3.path_length v.3.acts_length v.3.mid_length v.4 (c.from-k.ensures ∙ c.word_at.ensures) o.stepped c.counted-tally.ensures c.word_at-in-loop-i.ensures c.place-index.ensures.0 c.outcome.ensures c.count_one.ensures)
 
 pub returns-clause-run : goal.returns-clause-run
-returns-clause-run c = shared_end c.args.numbers.now c.loop-i.i (omega (arith, c.loop-i-test.false)) c.loop-i.invariant.4
+returns-clause-run c = shared_end c.args.list.now c.loop-i.i (omega (arith, c.loop-i-test.false)) c.loop-i.invariant.4

@@ -1,22 +1,9 @@
 -- Run's list and table by card reader (document 02, K1). Each number of the list is followed by a word, its reader, 1 to 32. The table has a record for
 -- each reader: how many of its numbers took a visible move, took an internal one, or were refused; three numbers of 32 bits in that order.
-use Rattle.std.specs.Prelude.{◌≡◌, ◌≤◌, drop, Bool, true, false, ◌&&◌, cond, List, [], ◌∷◌, ◌++◌, ℕ, zero, suc, ◌+◌, ◌-◌, ◌*◌, ◌/◌, ◌%◌, eqb, leb, length, get_or}
+use Rattle.std.specs.Prelude.{Bool, true, false, ◌&&◌, cond, List, [], ◌∷◌, ◌++◌, ℕ, zero, suc, ◌+◌, ◌-◌, ◌*◌, ◌/◌, ◌%◌, eqb, leb, length, get_or}
 use Rattle.eb3.specs.TransitionSystems.{Outcome, visible?, internal?, refused?, tally}
-use Rattle.eb3.specs.Bytes.{words_in, written}
-
--- The card readers of Run's list, and the records of its table.
-abbrev pub readers : ℕ
-readers = 32
-
--- Numbers of 32 bits, two words each, low word first; a last word without a second one is none.
-unfoldable pub doubles_in : List ℕ → List ℕ
-doubles_in [] = []
-doubles_in (a ∷ []) = []
-doubles_in (a ∷ b ∷ ws) = (a + 65536 * b) ∷ doubles_in ws
-
-unfoldable pub double_words : List ℕ → List ℕ
-double_words [] = []
-double_words (n ∷ ns) = n % 65536 ∷ n / 65536 ∷ double_words ns
+use Rattle.eb3.specs.Bytes.{words_in, doubles_in, double_words, written}
+use Rattle.eb3.specs.Limits
 
 -- ── the list ──
 
@@ -40,7 +27,7 @@ readers_in list = readers_of (words_in list)
 -- ── refusal 13 ──
 
 abbrev pub reader? : ℕ → Bool
-reader? r = leb 1 r && leb r readers
+reader? r = leb 1 r && leb r Limits.readers
 
 -- No reader is missing, and none is outside 1 to 32.
 unfoldable pub all_read : List ℕ → Bool
@@ -54,7 +41,7 @@ record_count table = length table / 12
 
 -- 13 lets the list and the table through.
 unfoldable pub lets_through : List ℕ → List ℕ → Bool
-lets_through list table = all_read (words_in list) && leb readers (record_count table)
+lets_through list table = all_read (words_in list) && leb Limits.readers (record_count table)
 
 -- ── counts by reader ──
 
@@ -73,7 +60,7 @@ counts_from zero r rs os = []
 counts_from (suc n) r rs os = counts_of (at_reader r rs os) ++ counts_from n (suc r) rs os
 
 abbrev pub counts_by_reader : List ℕ → List Outcome → List ℕ
-counts_by_reader rs os = counts_from readers 1 rs os
+counts_by_reader rs os = counts_from Limits.readers 1 rs os
 
 -- ── the table ──
 
@@ -83,11 +70,11 @@ sums [] ys = []
 sums (x ∷ xs) [] = []
 sums (x ∷ xs) (y ∷ ys) = (x + y) % 4294967296 ∷ sums xs ys
 
--- The table with counts added to the numbers at its front; what comes after them keeps its value.
+-- The table with counts added to its first numbers, one to each; what comes after them keeps its value.
 unfoldable pub increased : List ℕ → List ℕ → List ℕ
 increased counts table = written (double_words (sums (doubles_in (words_in table)) counts)) table
 
--- A reader's record in a table's bytes, number j of it: 0 visible, 1 internal, 2 refused.
+-- Number j of reader r's record in a table's bytes: 0 visible, 1 internal, 2 refused.
 abbrev pub record_number : List ℕ → ℕ → ℕ → ℕ
 record_number table r j = get_or (doubles_in (words_in table)) (3 * (r - 1) + j) 0
 
@@ -97,16 +84,4 @@ sum_to zero f = 0
 sum_to (suc n) f = sum_to n f + f (suc n)
 
 abbrev pub column_sum : ℕ → List ℕ → ℕ
-column_sum j table = sum_to readers (λ r. record_number table r j)
-
--- The table after numbers whose readers are rs and whose outcomes are os.
-pub record TableAfter (rs : List ℕ) (os : List Outcome) (table table' : List ℕ) : Type 0 where
-  pub table_is : table' ≡ increased (counts_by_reader rs os) table
-  pub visible_increase : (r : ℕ) → 1 ≤ r → r ≤ readers → record_number table' r 0 ≡ (record_number table r 0 + tally visible? (at_reader r rs os)) % 4294967296
-  pub internal_increase : (r : ℕ) → 1 ≤ r → r ≤ readers → record_number table' r 1 ≡ (record_number table r 1 + tally internal? (at_reader r rs os)) % 4294967296
-  pub refused_increase : (r : ℕ) → 1 ≤ r → r ≤ readers → record_number table' r 2 ≡ (record_number table r 2 + tally refused? (at_reader r rs os)) % 4294967296
-  pub rest_kept : drop (12 * readers) table' ≡ drop (12 * readers) table
-  pub same_length : length table' ≡ length table
-  pub visible_adds_up : column_sum 0 table' % 4294967296 ≡ (column_sum 0 table + tally visible? os) % 4294967296
-  pub internal_adds_up : column_sum 1 table' % 4294967296 ≡ (column_sum 1 table + tally internal? os) % 4294967296
-  pub refused_adds_up : column_sum 2 table' % 4294967296 ≡ (column_sum 2 table + tally refused? os) % 4294967296
+column_sum j table = sum_to Limits.readers (λ r. record_number table r j)

@@ -13,17 +13,14 @@ use Rattle.std.proofs.Math.Seq.{drop-append_seam}
 use Rattle.std.proofs.lemmas.Bool.{eqb-false}
 use Rattle.eb3.specs.Generic.AllLists.{All}
 use Rattle.eb3.specs.Generic.Booleans.{T_and, T_fst, T_snd}
-use Rattle.eb3.specs.TransitionSystems.{TransitionSystem, Outcome, reply, outcomes, visible?, internal?, refused?, tally}
-use Rattle.eb3.specs.Bytes.{words_in, bytes_of, written}
+use Rattle.eb3.specs.Limits
+use Rattle.eb3.specs.TransitionSystems.{TransitionSystem, Outcome, outcomes, visible?, internal?, refused?, tally}
+use Rattle.eb3.proofs.Laws.TransitionSystems.{outcomes_length}
+use Rattle.eb3.specs.Bytes.{words_in, bytes_of, doubles_in, double_words, written}
 use Rattle.eb3.proofs.Laws.Bytes.{words_counted, bytes_length, written_length, written_words}
 use Rattle.eb3.proofs.Laws.Spelling.{Small}
-use Rattle.readers.specs.Readers.{TableAfter, readers, doubles_in, double_words, numbers_of, readers_of, reader?, all_read, record_count, lets_through, at_reader, counts_of, counts_from, counts_by_reader, sums, increased, record_number, sum_to, column_sum}
-
-module _ (L : TransitionSystem) where
-  outcomes_length : (s : L.State) (ks : List ℕ) → length (outcomes L s ks) ≡ length ks
-  unfolding outcomes
-  outcomes_length s [] = refl
-  outcomes_length s (k ∷ ks) = ap suc (outcomes_length (reply L s k).1 ks)
+use Rattle.eb3.specs.Readers.{numbers_of, readers_of, reader?, all_read, record_count, lets_through, at_reader, counts_of, counts_from, counts_by_reader, sums, increased, record_number, sum_to, column_sum}
+use Rattle.eb3.specs.Demands.{TableAfter}
 
 -- ── the list ──
 
@@ -86,13 +83,13 @@ all_read_append (k ∷ r ∷ ws) us t u =
     T_and (reader? r) (all_read (ws ++ us)) (T_fst (reader? r) (all_read ws) t) (all_read_append ws us (T_snd (reader? r) (all_read ws) t) u)
 
 -- Every reader of a list that 13 lets through is 1 to 32.
-abbrev pub Reader : ℕ → Type 0
-Reader r = (1 ≤ r) × (r ≤ readers)
+abbrev pub CardReader : ℕ → Type 0
+CardReader r = (1 ≤ r) × (r ≤ Limits.readers)
 
-pub is_reader : (r : ℕ) → T (reader? r) → Reader r
-is_reader r t = (leb→le 1 r (T_fst (leb 1 r) (leb r readers) t), leb→le r readers (T_snd (leb 1 r) (leb r readers) t))
+pub is_reader : (r : ℕ) → T (reader? r) → CardReader r
+is_reader r t = (leb→le 1 r (T_fst (leb 1 r) (leb r Limits.readers) t), leb→le r Limits.readers (T_snd (leb 1 r) (leb r Limits.readers) t))
 
-pub readers_right : (ws : List ℕ) → T (all_read ws) → All Reader (readers_of ws)
+pub readers_right : (ws : List ℕ) → T (all_read ws) → All CardReader (readers_of ws)
 unfolding all_read readers_of
 readers_right [] t = tt
 readers_right (k ∷ []) t = absurd t
@@ -119,7 +116,7 @@ unfolding double_words
 double_small [] h = tt
 double_small (n ∷ ns) h = let l : n < 4294967296 = h.0 in (omega arith, (omega arith, double_small ns h.1))
 
-pub doubles_back : (ns rest : List ℕ) → doubles_in (double_words ns ++ rest) ≡ ns ++ doubles_in rest
+doubles_back : (ns rest : List ℕ) → doubles_in (double_words ns ++ rest) ≡ ns ++ doubles_in rest
 unfolding doubles_in double_words
 doubles_back [] rest = refl
 doubles_back (n ∷ ns) rest = let e : n % 65536 + 65536 * (n / 65536) ≡ n = omega arith in λ i. e i ∷ doubles_back ns rest i
@@ -133,7 +130,7 @@ sums_length [] (y ∷ ys) l = let z : ⊥ = omega (arith, l) in absurd z
 sums_length (x ∷ xs) [] l = refl
 sums_length (x ∷ xs) (y ∷ ys) l = let k : length ys ≤ length xs = omega (arith, l) in omega (arith, sums_length xs ys k)
 
-pub sums_small : (xs ys : List ℕ) → Small_32 (sums xs ys)
+sums_small : (xs ys : List ℕ) → Small_32 (sums xs ys)
 unfolding sums
 sums_small [] ys = tt
 sums_small (x ∷ xs) [] = tt
@@ -172,25 +169,25 @@ counts_at (suc n) (suc i) j r rs os l h =
 
 -- ── the table ──
 
-module _ (counts table : List ℕ) (room : 12 * readers ≤ length table) (many : length counts ≡ 3 * readers) where
+module _ (counts table : List ℕ) (room : 12 * Limits.readers ≤ length table) (many : length counts ≡ 3 * Limits.readers) where
   abbrev added : List ℕ
   added = sums (doubles_in (words_in table)) counts
 
   enough : length counts ≤ length (doubles_in (words_in table))
   enough = omega (arith, doubles_length (words_in table), words_counted table, room, many)
 
-  added_many : length added ≡ 3 * readers
+  added_many : length added ≡ 3 * Limits.readers
   added_many = sums_length (doubles_in (words_in table)) counts enough ∙ many
 
-  words_many : length (double_words added) ≡ 6 * readers
+  words_many : length (double_words added) ≡ 6 * Limits.readers
   words_many = omega (arith, double_length added, added_many)
 
-  pub increased_length : length (increased counts table) ≡ length table
+  increased_length : length (increased counts table) ≡ length table
   unfolding increased
   increased_length = written_length (double_words added) table (omega (arith, words_many, room))
 
   -- Number i of the table's first 96.
-  pub increased_at : (i : ℕ) → i < 3 * readers → get_or (doubles_in (words_in (increased counts table))) i 0 ≡ (get_or (doubles_in (words_in table)) i 0 + get_or counts i 0) % 4294967296
+  increased_at : (i : ℕ) → i < 3 * Limits.readers → get_or (doubles_in (words_in (increased counts table))) i 0 ≡ (get_or (doubles_in (words_in table)) i 0 + get_or counts i 0) % 4294967296
   unfolding increased
   increased_at i h =
       let inside : i < length added = omega (arith, added_many, h) in
@@ -200,11 +197,11 @@ module _ (counts table : List ℕ) (room : 12 * readers ≤ length table) (many 
       ∙ (get_or-append added (doubles_in (words_in (drop (2 * length (double_words added)) table))) 0 i inside
       ∙ sums_at (doubles_in (words_in table)) counts i enough counted))
 
-  pub increased_rest : drop (12 * readers) (increased counts table) ≡ drop (12 * readers) table
+  increased_rest : drop (12 * Limits.readers) (increased counts table) ≡ drop (12 * Limits.readers) table
   unfolding increased written
   increased_rest =
-      let n : 12 * readers ≡ length (bytes_of (double_words added)) = omega (arith, bytes_length (double_words added), words_many) in
-      let m : 2 * length (double_words added) ≡ 12 * readers = omega (arith, words_many) in
+      let n : 12 * Limits.readers ≡ length (bytes_of (double_words added)) = omega (arith, bytes_length (double_words added), words_many) in
+      let m : 2 * length (double_words added) ≡ 12 * Limits.readers = omega (arith, words_many) in
       ap (λ (k : ℕ). drop k (bytes_of (double_words added) ++ drop (2 * length (double_words added)) table)) n
       ∙ (drop-append_seam (bytes_of (double_words added)) (drop (2 * length (double_words added)) table) ∙ ap (λ (k : ℕ). drop k table) m)
 
@@ -273,15 +270,15 @@ module _ (p : Outcome → Bool) where
   sum_zero zero f e = refl
   sum_zero (suc n) f e = omega (arith, sum_zero n f e, e (suc n))
 
-  pub readers_add_up : (rs : List ℕ) (os : List Outcome) → length rs ≡ length os → All Reader rs → sum_to readers (λ r. tally p (at_reader r rs os)) ≡ tally p os
+  readers_add_up : (rs : List ℕ) (os : List Outcome) → length rs ≡ length os → All CardReader rs → sum_to Limits.readers (λ r. tally p (at_reader r rs os)) ≡ tally p os
   unfolding tally
-  readers_add_up [] [] l h = sum_zero readers (λ r. tally p (at_reader r [] [])) (λ r. none_at r [])
+  readers_add_up [] [] l h = sum_zero Limits.readers (λ r. tally p (at_reader r [] [])) (λ r. none_at r [])
   readers_add_up [] (o ∷ os) l h = let z : ⊥ = omega (arith, l) in absurd z
   readers_add_up (x ∷ rs) [] l h = let z : ⊥ = omega (arith, l) in absurd z
   readers_add_up (x ∷ rs) (o ∷ os) l h =
       let k : length rs ≡ length os = omega (arith, l) in
-      sum_plus readers (λ r. tally p (at_reader r (x ∷ rs) (o ∷ os))) (only x (one_if o)) (λ r. tally p (at_reader r rs os)) (λ r. at_more x r rs o os)
-      ∙ (ap (λ (n : ℕ). n + sum_to readers (λ r. tally p (at_reader r rs os))) (sum_one readers x (one_if o) h.0.0 h.0.1)
+      sum_plus Limits.readers (λ r. tally p (at_reader r (x ∷ rs) (o ∷ os))) (only x (one_if o)) (λ r. tally p (at_reader r rs os)) (λ r. at_more x r rs o os)
+      ∙ (ap (λ (n : ℕ). n + sum_to Limits.readers (λ r. tally p (at_reader r rs os))) (sum_one Limits.readers x (one_if o) h.0.0 h.0.1)
       ∙ (ap (λ (n : ℕ). one_if o + n) (readers_add_up rs os k h.1) ∙ sym (tally_more o os)))
 
 -- Sums of remainders.
@@ -300,26 +297,26 @@ sum_remainders (suc n) f g h e =
 
 -- ── all of it ──
 
-module _ (rs : List ℕ) (os : List Outcome) (table : List ℕ) (room : 12 * readers ≤ length table) (same : length rs ≡ length os) (right : All Reader rs) where
+module _ (rs : List ℕ) (os : List Outcome) (table : List ℕ) (room : 12 * Limits.readers ≤ length table) (same : length rs ≡ length os) (right : All CardReader rs) where
   abbrev counts : List ℕ
   counts = counts_by_reader rs os
 
-  many : length counts ≡ 3 * readers
-  many = counts_length readers 1 rs os
+  many : length counts ≡ 3 * Limits.readers
+  many = counts_length Limits.readers 1 rs os
 
-  pub number_increase : (r j : ℕ) → 1 ≤ r → r ≤ readers → j < 3
+  pub number_increase : (r j : ℕ) → 1 ≤ r → r ≤ Limits.readers → j < 3
       → record_number (increased counts table) r j ≡ (record_number table r j + get_or (counts_of (at_reader r rs os)) j 0) % 4294967296
   number_increase r j l h m =
-      let i : 3 * (r - 1) + j < 3 * readers = omega (arith, l, h, m) in
-      let less : r - 1 < readers = omega (arith, l, h) in
+      let i : 3 * (r - 1) + j < 3 * Limits.readers = omega (arith, l, h, m) in
+      let less : r - 1 < Limits.readers = omega (arith, l, h) in
       let back : 1 + (r - 1) ≡ r = omega (arith, l) in
       increased_at counts table room many (3 * (r - 1) + j) i
-      ∙ ap (λ (n : ℕ). (record_number table r j + n) % 4294967296) (counts_at readers (r - 1) j 1 rs os less m ∙ ap (λ (n : ℕ). get_or (counts_of (at_reader n rs os)) j 0) back)
+      ∙ ap (λ (n : ℕ). (record_number table r j + n) % 4294967296) (counts_at Limits.readers (r - 1) j 1 rs os less m ∙ ap (λ (n : ℕ). get_or (counts_of (at_reader n rs os)) j 0) back)
 
   adds_up : (j : ℕ) (p : Outcome → Bool) → j < 3 → ((r : ℕ) → get_or (counts_of (at_reader r rs os)) j 0 ≡ tally p (at_reader r rs os))
       → column_sum j (increased counts table) % 4294967296 ≡ (column_sum j table + tally p os) % 4294967296
   adds_up j p m e =
-      sum_remainders readers (λ r. record_number (increased counts table) r j) (λ r. record_number table r j) (λ r. tally p (at_reader r rs os))
+      sum_remainders Limits.readers (λ r. record_number (increased counts table) r j) (λ r. record_number table r j) (λ r. tally p (at_reader r rs os))
       (λ r l h. number_increase r j l h m ∙ ap (λ (n : ℕ). (record_number table r j + n) % 4294967296) (e r))
       ∙ ap (λ (n : ℕ). (column_sum j table + n) % 4294967296) (readers_add_up p rs os same right)
 
@@ -341,18 +338,18 @@ module _ (rs : List ℕ) (os : List Outcome) (table : List ℕ) (room : 12 * rea
 module _ (list table : List ℕ) where
   pub through_read : T (lets_through list table) → T (all_read (words_in list))
   unfolding lets_through
-  through_read t = T_fst (all_read (words_in list)) (leb readers (record_count table)) t
+  through_read t = T_fst (all_read (words_in list)) (leb Limits.readers (record_count table)) t
 
-  pub through_records : T (lets_through list table) → readers ≤ record_count table
+  pub through_records : T (lets_through list table) → Limits.readers ≤ record_count table
   unfolding lets_through
-  through_records t = leb→le readers (record_count table) (T_snd (all_read (words_in list)) (leb readers (record_count table)) t)
+  through_records t = leb→le Limits.readers (record_count table) (T_snd (all_read (words_in list)) (leb Limits.readers (record_count table)) t)
 
-  pub let_through : T (all_read (words_in list)) → readers ≤ record_count table → T (lets_through list table)
+  pub let_through : T (all_read (words_in list)) → Limits.readers ≤ record_count table → T (lets_through list table)
   unfolding lets_through
-  let_through t l = T_and (all_read (words_in list)) (leb readers (record_count table)) t (le→leb readers (record_count table) l)
+  let_through t l = T_and (all_read (words_in list)) (leb Limits.readers (record_count table)) t (le→leb Limits.readers (record_count table) l)
 
-  pub through_readers : T (lets_through list table) → All Reader (readers_of (words_in list))
+  pub through_readers : T (lets_through list table) → All CardReader (readers_of (words_in list))
   through_readers t = readers_right (words_in list) (through_read t)
 
-  pub through_room : T (lets_through list table) → 12 * readers ≤ length table
-  through_room t = let h : readers ≤ record_count table = through_records t in omega (arith, h)
+  pub through_room : T (lets_through list table) → 12 * Limits.readers ≤ length table
+  through_room t = let h : Limits.readers ≤ record_count table = through_records t in omega (arith, h)
