@@ -123,7 +123,7 @@ fn mask_limit(n: usize) -> usize
 }
 
 // The k words of a mask, where n labels are left.
-// Stays with the tests that `scan::number` makes: with a call of it for each word, which was proved, the check of 900 given parallels takes up to a fifth more
+// Stays with the tests that `scan::number` makes: with a call of it for each word, which was proved, the check of 900 given parallels takes a tenth more
 // instructions, measured.
 // Stays: k does not say how many of the words count, but how many a mask has. All callers give MASK_WORDS; it stays a parameter by a rule of the project, a
 // public function keeps its promise.

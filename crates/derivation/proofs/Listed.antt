@@ -25,7 +25,7 @@ use Rattle.derivation.specs.AnswerLaws.{never_full}
 use Rattle.derivation.proofs.Answers.{sound_lost, sound_passed}
 use Rattle.derivation.proofs.Counts.{count_all}
 
--- l is the answer of the left's list, q that of the right's behind it
+-- l is what listing the left side's moves answered, q what listing the right side's answered, into the array after them
 module _ (t M acts mid : List ℕ) (l : Moves) (first : Listed t M acts mid (Some l)) (short : length t ≤ 65535) where
   first_fits : l.count ≤ length mid
   first_fits = omega (arith, first.count_bounded, first.same_length)
@@ -65,7 +65,7 @@ module _ (t M acts mid : List ℕ) (l : Moves) (first : Listed t M acts mid (Som
       right = λ P E F rest s z. never_full z;
     }
 
-    -- the scratch array in two: the left's numbers, and the right's with what was free behind them
+    -- the scratch array in two: the left's numbers, and the right's with what was free after them
     module _ (r : Moves) (isr : q ≡ Some r) (xs free : List ℕ) (isx : xs ≡ take l.count whole) (isf : free ≡ drop l.count whole) where
       second : Listed u M (drop l.count mid) back (Some r)
       second = subst (Listed u M (drop l.count mid) back) isr behind
@@ -147,6 +147,6 @@ module _ (t M acts mid : List ℕ) (l : Moves) (first : Listed t M acts mid (Som
               };
         }
 
--- What is left of a number, told by its answer.
+-- The same answer, with what is left of k written as `passed + k - passed`.
 pub told_left : (a l k : ℕ) → a ≡ passed + answer l k → a ≡ passed + answer l (passed + k - passed)
 told_left a l k e = e ∙ ap (λ n. passed + answer l n) (let f : k ≡ passed + k - passed = omega arith in f)

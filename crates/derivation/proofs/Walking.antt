@@ -85,7 +85,7 @@ told_other (At i) h = absurd (h i refl)
 told_other (Behind k left) h = omega arith
 told_other NoRoom h = omega arith
 
--- what stands before the place q was written anew
+-- what is before the place q was written anew
 pub whole_back : (q : ℕ) (mid back : List ℕ) → length back ≡ length (take q mid) → q ≤ length mid → length (back ++ drop q mid) ≡ length mid
 whole_back q mid back h l = omega (arith, h, length-append back (drop q mid), length-take-le q mid l, length-drop q mid)
 
@@ -98,12 +98,12 @@ pub operands_path : {w : ℕ} {count : Term → Term → ℕ} {p : Term → Term
     → OperandsDerived w count p t M k entry mid n r → OperandsDerived w count p t M k entry exit n r
 operands_path {w} {count} {p} {t} {M} {k} {entry} {mid} {exit} {n} {r} e h = subst (λ o. OperandsDerived w count p t M k entry o n r) (sym e) h
 
--- ── a decision in front ──
+-- ── a decision before a path ──
 
 pub decided_path : {o : List ℕ} {r q : ℕ} {entry mid exit : List ℕ} → mid ≡ entry → Decided o r mid exit q → Decided o r entry exit q
 decided_path {o} {r} {q} {entry} {mid} {exit} e h = subst (λ p. Decided o r p exit q) e h
 
--- none in front of an answer that is no place
+-- none is written before an answer that is no place
 pub decided_other : (e : Arrays) (r : Walked) (o : List ℕ) (x : List ℕ) → (r ≡ Found → ⊥) → Decided o (answered e r) x x (answered e r)
 decided_other e Found o x h = absurd (h refl)
 decided_other e Passed o x h = record {

@@ -15,7 +15,7 @@ pub record Kept (b e : Arrays) : Type 0 where
   pub path_length : length e.path.now ≡ length b.path.now
   pub acts_length : length e.acts.now ≡ length b.acts.now
 
--- The answer of a walk that left the arrays so, in one number: where the path begins; or the words left behind the term and what is left of k; or that there was no room.
+-- The answer of a walk that left the arrays so, in one number: where the path begins; or the words left after the term and what is left of k; or that there was no room.
 abbrev pub answered : Arrays → Walked → ℕ
 answered e Found = e.at
 answered e Passed = passed + answer e.left e.k

@@ -1,5 +1,5 @@
 // What a walk over a term reads and writes on its way to move k (document 01, "Moves, in order"), and what it answers. They are in a file of their own, since
-// the clauses of lib.rt name them.
+// the clauses of lib.rt and answering.rt name them.
 ghost use Rattle.std.specs.Prelude.{◌≤◌, ◌<◌, length};
 
 /// What a walk answers; the numbers that belong to it are in the arrays.

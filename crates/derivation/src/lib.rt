@@ -2,11 +2,10 @@
 // Stays: that words are at most 65,535 is a clause of each function here, for the reason in successors (docs/DESIGN-PASS.md, "A struct for words").
 #![tactic(auto)]
 
-ghost use Rattle.std.specs.Prelude.{◌≡◌, List, ℕ, ◌+◌, ◌-◌, ◌≤◌, ◌<◌, [], ◌∷◌, length};
-ghost use Rattle.expressions.specs.Answering.{answer};
-ghost use Rattle.derivation.specs.Derived.{passed, full, Derived, DerivedShown};
+ghost use Rattle.std.specs.Prelude.{◌≡◌, List, ℕ, ◌+◌, ◌-◌, ◌≤◌, ◌<◌, ◌∷◌, length};
+ghost use Rattle.derivation.specs.Derived.{Derived, DerivedShown};
 ghost use Rattle.derivation.specs.Lending.{Kept, Over, Placed, answered, told};
-ghost use Rattle.derivation.specs.Arms.{Decided, ActionDerived, TwoDerived, RightDerived, LeftDerived, ListedDerived, MaskedDerived, SidesDerived, BothDerived};
+ghost use Rattle.derivation.specs.Arms.{ActionDerived, TwoDerived, RightDerived, LeftDerived, ListedDerived, MaskedDerived, SidesDerived, BothDerived};
 
 use actions::{behind_action, code_at, in_set, join, mask_set};
 use code_numbers::{ACTION, CHOICE, DONE, GUARD, INTERNAL, PARALLEL, SEQUENCE, STAR};
@@ -17,6 +16,7 @@ use paths::{BOTH_DONE, BOTH_MOVE, CHOOSE_LEFT, END, LEFT_MOVES, RIGHT_MOVES, ROU
 use scan::{behind, first, last};
 use searching::locate;
 
+mod answering;
 mod arrays;
 mod located;
 mod scratch;
@@ -25,85 +25,12 @@ mod searching;
 pub use arrays::{Arrays, Derivation, Walked};
 pub use scratch::Scratch;
 
-// ── answers ──
-
 // How many words of t are before its last words u.
 pub fn size_before(t: &[u16], u: &[u16]) -> u16
     requires { (length t.now ≤ 65535) × (length u.now ≤ length t.now) }
     ensures { result ≡ length t.now - length u.now }
 {
     (t.len() - u.len()) as u16
-}
-
-// Stays, here and below: the bound of `left` is a clause: it is a number of its own until the arrays hold it, with its bound.
-// Stays: that the arrays stay the same and keep their lengths (`Kept`) is a fact of what they were and what they are then, which no field of a struct holds.
-impl Arrays<'_> {
-    // The term has no move k; so many words are left after it.
-    pub fn passing(&mut self, left: usize) -> Walked
-        requires { left ≤ 65535 }
-        ensures kept { Kept self.old self.new }
-        ensures path { self.new.path.now ≡ self.old.path.now }
-        ensures passed { (answered self.new result ≡ passed + answer left self.old.k) × (answered self.new result < full) }
-    {
-        self.left = left;
-        Walked::Passed
-    }
-
-    // One move, whose path is empty: it begins at the end.
-    pub fn single(&mut self, left: usize) -> Walked
-        requires { left ≤ 65535 }
-        ensures kept { Kept self.old self.new }
-        ensures path { self.new.path.now ≡ self.old.path.now }
-        ensures one { (self.old.k ≡ 0 → answered self.new result ≡ length self.old.path.now) × (1 ≤ self.old.k → answered self.new result ≡ passed + answer left (self.old.k - 1)) }
-    {
-        if self.k == 0 {
-            self.at = self.path.len();
-            return Walked::Found;
-        }
-        self.k = self.k - 1;
-        self.passing(left)
-    }
-
-    // Writes a decision before the path that was found.
-    // Stays, here and in decide_right: c is the word that is written, so that an enum of the decisions would only be turned back into it.
-    pub fn decide(&mut self, c: u16, walked: Walked) -> Walked
-        ensures kept { Kept self.old self.new }
-        ensures decided { Decided (c ∷ []) (answered self.old walked) self.old.path.now self.new.path.now (answered self.new result) }
-    {
-        match walked {
-            Walked::Found => {
-                if self.at == 0 {
-                    return Walked::Full;
-                }
-                self.at = self.at - 1;
-                self.path[self.at] = c;
-                Walked::Found
-            }
-            _ => walked,
-        }
-    }
-
-    // Writes a decision that goes on on the right, and the left operand's size after it.
-    pub fn decide_right(&mut self, c: u16, n: u16, walked: Walked) -> Walked
-        ensures kept { Kept self.old self.new }
-        ensures decided { Decided (c ∷ n ∷ []) (answered self.old walked) self.old.path.now self.new.path.now (answered self.new result) }
-    {
-        let q = self.decide(n, walked);
-        self.decide(c, q)
-    }
-
-    // An action whose label a mask above hides is no move that shows.
-    fn derive_action(&mut self, t: &[u16], x: u64) -> Walked
-        requires { length t.now ≤ 65535 }
-        ensures kept { Kept self.old self.new }
-        ensures path { self.new.path.now ≡ self.old.path.now }
-        ensures derived { ActionDerived x t.now self.old.k (length self.old.path.now) (answered self.new result) }
-    {
-        if in_set(x, code_at(t)) {
-            return self.passing(behind_action(t));
-        }
-        self.single(behind_action(t))
-    }
 }
 
 // ── the walk ──
@@ -172,6 +99,19 @@ impl Arrays<'_> {
             GUARD => self.derive_guard(t, x),
             _ => self.passing(t.len()),
         }
+    }
+
+    // An action whose label a mask above hides is no move that shows.
+    fn derive_action(&mut self, t: &[u16], x: u64) -> Walked
+        requires { length t.now ≤ 65535 }
+        ensures kept { Kept self.old self.new }
+        ensures path { self.new.path.now ≡ self.old.path.now }
+        ensures derived { ActionDerived x t.now self.old.k (length self.old.path.now) (answered self.new result) }
+    {
+        if in_set(x, code_at(t)) {
+            return self.passing(behind_action(t));
+        }
+        self.single(behind_action(t))
     }
 
     // The left term's path, or the right's where the left is done.
@@ -326,7 +266,7 @@ impl Arrays<'_> {
         }
     }
 
-    // The path of move i of all the left side's, which it makes alone, whatever words u are behind it.
+    // The path of move i of all the left side's, which it makes alone, whatever the words u after it are.
     #[cycle(deriving)]
     fn derive_left_alone(&mut self, t: &[u16], i: usize) -> Walked
         requires { (length t.now ≤ 65535) × (i < 131072) }

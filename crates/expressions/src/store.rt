@@ -22,5 +22,5 @@ pub const ROW_WORDS: usize = 2;
 /// From here the cells that `now` reads.
 pub const CELLS: usize = 36;
 
-/// How many words a store has that holds up to 1,024 cells twice: those that `now` reads, and behind them those that `before` reads.
+/// How many words a store has that holds up to 1,024 cells twice: those that `now` reads, and after them those that `before` reads.
 pub const WORDS: usize = 2084;

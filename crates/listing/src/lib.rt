@@ -126,7 +126,7 @@ impl Lister<'_> {
 
     // The moves whose labels are not in x. The set goes down with the masks above, so that a parallel beside a side that can never move takes nothing away
     // from a list that is made, which would be a copy of it at every such parallel.
-    // A sequence whose left term is done is told apart here, so that the call for what stands behind it is a loop (measured, of many within one another:
+    // A sequence whose left term is done has an arm of its own, so that the call for its right term is a loop (measured, of many within one another:
     // tested in list_sequence, 1.18 times the instructions, and a level of the stack for each; docs/DESIGN-PASS.md, "Answers packed in one number").
     #[cycle(listing_terms)]
     fn list_shown(&mut self, s: &[u16], x: u64) -> Option<usize>

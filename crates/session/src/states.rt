@@ -52,7 +52,7 @@ impl Display for Action {
     }
 }
 
-/// A rule set, the position where its session stands, another that the successors are written into, and the page that all is printed on.
+/// A rule set, the position that its session is at, another that the successors are written into, and the page that all is printed on.
 #[derive(Drop)]
 pub struct Session<'a> {
     pub page: &'a mut Page,
@@ -62,7 +62,7 @@ pub struct Session<'a> {
 }
 
 impl Session<'_> {
-    // Prints the state where the session stands, after the moves taken. The next position takes the successors that Move writes on the way. That the
+    // Prints the state that the session is in, after the moves taken. The next position takes the successors that Move writes on the way. That the
     // position, or a move below the count, is refused does not occur.
     pub fn print_state(&mut self, taken: u64) -> io::Result<()> {
         let moves = match self.here.count(self.rules) {

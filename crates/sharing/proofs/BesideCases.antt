@@ -1,4 +1,4 @@
--- Two shared terms in parallel spelled out, behind the code and a mask without a label (document 01, "Operations": Run writes the last term).
+-- Two shared terms in parallel spelled out, after the code and a mask without a label (document 01, "Operations": Run writes the last term).
 use mathlib.Core.Path.{◌≡◌, refl, sym, ap, ◌∙◌, subst}
 use mathlib.Core.List.{List, [], ◌∷◌, ◌++◌, append_assoc}
 use Prim.Native.Nat.{ℕ, ◌+◌, ◌-◌, ◌≤◌, ◌<◌}
@@ -20,7 +20,7 @@ use Rattle.sharing.proofs.ExpandingCases.{Tells, answered_same}
 abbrev pub head : List ℕ
 head = 25 ∷ 0 ∷ 0 ∷ 0 ∷ 0 ∷ []
 
--- What is told of two shared terms in parallel.
+-- What is said of two shared terms in parallel, spelled out from `at` on where there is room: the answer r, and what the array is then.
 abbrev BesideTells : List ℕ → List ℕ → List ℕ → List ℕ → ℕ → ℕ → Type 0
 BesideTells t u entry exit at r =
     (P : Scope) (S T : Shared) (rest : List ℕ) → 25 ∷ t ≡ 25 ∷ ((shared_words S ++ shared_words T) ++ rest) → Stands u P S → Stands u P T → at + (5 + (length (words 1 (term_of S)) + length (words 1 (term_of T)))) ≤ length entry

@@ -1,4 +1,4 @@
--- A shared term spelled out: a part copied from its place, done, and what is made of two terms spelled out one behind the other (document 01, "Operations": Run
+-- A shared term spelled out: a part copied from its place, done, and what is made of two terms spelled out one after the other (document 01, "Operations": Run
 -- writes the last term).
 use mathlib.Core.Path.{◌≡◌, refl, sym, ap, ◌∙◌, subst}
 use mathlib.Core.List.{List, [], ◌∷◌, ◌++◌}
@@ -31,7 +31,7 @@ words_some (Star E) = omega arith
 words_some (Parallel Δ E F) = omega arith
 words_some (Guard C E) = omega arith
 
--- e is what stands at the part's place, and k words are left behind it.
+-- e are the words from the part's place on, of which k are left after the part.
 module _ (u e : List ℕ) (w k : ℕ) (high : 32 ≤ w) (is : e ≡ last_of (w - 32) u) (skipped : (k ≤ length e) × ((P : Scope) (E : Term) (rest : List ℕ) → TermAt e P E rest → k ≡ length rest)) where
   module _ (P : Scope) (l : ℕ) (E : Term) (q : w ≡ part_word l) (p : PartAt u P l E) where
     there : TermAt e P E p.rest
@@ -76,7 +76,7 @@ expand_none s u entry at h = record { same_length = refl; right = λ P S rest e 
 pub answered_same : (left left' n n' : ℕ) → answer left n ≡ answer left' n' → left ≤ 65535 → left' ≤ 65535 → (left ≡ left') × (n ≡ n')
 answered_same left left' n n' e h k = (omega (arith, e, answer_is left n, answer_is left' n'), omega (arith, e, answer_is left n, answer_is left' n'))
 
--- What is told of a shared term.
+-- What is said of a shared term, spelled out from `at` on where there is room: the answer r, and what the array is then.
 abbrev pub Tells : List ℕ → List ℕ → ℕ → ℕ → Shared → List ℕ → Type 0
 Tells entry exit at r S rest = at + length (words 1 (term_of S)) ≤ length entry → (r ≡ answer (length rest) (at + length (words 1 (term_of S)))) × (exit ≡ put_at at (words 1 (term_of S)) entry)
 
@@ -91,7 +91,7 @@ module _ (entry exit t : List ℕ) (at r : ℕ) where
   pub done_expanded : (u : List ℕ) → DoneExpanded (length t) at entry exit r → Expanded (30 ∷ t) u at entry exit r
   done_expanded u h = record { same_length = h.same_length; right = λ P S rest e st. done_tells h S rest e }
 
--- What is known of a word behind the cases of what has begun.
+-- What is known of a word after the cases of what has begun: it is none of their codes.
 abbrev pub NotBegun : ℕ → Type 0
 NotBegun w = ((Unit {0} × (w ≡ 22 → ⊥)) × (w ≡ 25 → ⊥)) × (w ≡ 30 → ⊥)
 
@@ -110,7 +110,7 @@ module _ (entry exit s t u : List ℕ) (w at r : ℕ) (a : w ≡ get_or s 0 0) (
 
 -- ── what follows ──
 
--- What is told of a sequence: of a shared term, and of a part that follows it.
+-- The same is said of a sequence: a shared term, and a part that follows it.
 abbrev ThenTells : List ℕ → List ℕ → List ℕ → List ℕ → ℕ → ℕ → Type 0
 ThenTells t u entry exit at r =
     (P : Scope) (S : Shared) (l : ℕ) (F : Term) (rest : List ℕ) → 22 ∷ t ≡ 22 ∷ part_word l ∷ (shared_words S ++ rest) → Stands u P S → PartAt u P l F → at + (1 + (length (words 1 (term_of S)) + length (words 1 F))) ≤ length entry

@@ -46,7 +46,7 @@ module _ (e : Arrays) (r : Walked) (h : r ≡ Seen) where
   pub seen_at : found_in e r / 65536 ≡ e.at
   seen_at = answered_count (found_in e r) e.left e.at (ap (found_in e) h) e.within.1
 
--- where it begins, after so many words
+-- where the path begins, in one number with `here`, the words left where the place begins
 pub placed_is : (e : Arrays) (r : Walked) (here : ℕ) → r ≡ Seen → here + 65536 * sought_in e r ≡ answer here e.at
 placed_is e r here h = ap (λ w. here + 65536 * sought_in e w) h ∙ sym (answer_is here e.at)
 
@@ -117,7 +117,7 @@ changed_at {u} {d} {n} {i} {j} {p} {mid} {d'} {mid'} {z} e h = subst (λ k. Chan
 pub part_as : {u : List ℕ} {w here left : ℕ} {M : List ℕ} {k : ℕ} {entry exit : List ℕ} {n q r : ℕ} → q ≡ r → PartFound u w here left M k entry exit n q → PartFound u w here left M k entry exit n r
 part_as {u} {w} {here} {left} {M} {k} {entry} {exit} {n} {q} {r} e h = subst (PartFound u w here left M k entry exit n) e h
 
--- ── a decision in front ──
+-- ── a decision before a path ──
 
 pub decided_path : {o : List ℕ} {r q : ℕ} {entry mid exit : List ℕ} → mid ≡ entry → Decided o r mid exit q → Decided o r entry exit q
 decided_path {o} {r} {q} {entry} {mid} {exit} e h = subst (λ p. Decided o r p exit q) e h

@@ -10,7 +10,7 @@ use Rattle.listing.specs.Listing.{holding}
 use Rattle.derivation.specs.Derived.{passed}
 use Rattle.sharing.specs.Shared.{Shared, term_of, shared_words, Stands}
 
--- The successor is held in the first words of d'; r is so many of them, and 65,536 times the action's number (`told` of what is answered).
+-- The successor is held in the first words of d'; r is how many words these are, and 65,536 times the action's number (`told` of what is answered).
 pub record StepTaken (u : List ℕ) (P : Scope) (x : Move) (d' : List ℕ) (r : ℕ) : Type 0 where
   pub shared : Shared
   pub stands : Stands u P shared

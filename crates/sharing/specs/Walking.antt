@@ -12,7 +12,7 @@ sought_in e Found = e.at
 sought_in e Passed = passed + e.k
 sought_in e Full = full
 
--- In a shared term: the words left where the place begins, and where the path begins; or the words left behind the term, and what is left of k.
+-- In a shared term: the words left where the place begins, and where the path begins; or the words left after the term, and what is left of k.
 abbrev pub found_in : Arrays → Walked → ℕ
 found_in e Found = answer e.left e.at
 found_in e Passed = passed + answer e.left e.k

@@ -40,7 +40,7 @@ elements_count ns t vs u e =
 
 -- ── an action ──
 
--- What stands behind a label.
+-- What comes after a label.
 abbrev performed : List ℕ → ℕ → Reader Term
 performed T k u = giving (perform k) (elements_of 1 (sizes_of (declared T) (label (declared T) k)) u)
 
@@ -62,7 +62,7 @@ module _ (T t : List ℕ) where
     unfolding then
     action_high o = refused_wrong _ _ (record { code = 5; read = by_label false (le-ltb d b o); named = refl })
 
-    -- ds is the label's domains, u the words behind it, p how many are left behind their elements
+    -- ds are the label's domains, u the words after the label, p how many words are left after an element of each domain
     module _ (k : d < b) (ds u : List ℕ) (p : Option ℕ) (o : ds ≡ row T (18 + 3 * d)) (l : u ≡ drop 1 t) (f : p ≡ left_after (elements_of 1 (sizes_of (declared T) ds) u)) where
       domains_are : label (declared T) d ≡ ds
       domains_are = label_at T d (omega (arith, i)) ∙ sym o

@@ -1,4 +1,4 @@
--- The words stored, and those of the blocks still to come, are the stream; behind them the array is as it was.
+-- The words stored, then those of the blocks still to come, are the stream; after the words stored the array is as it was.
 use mathlib.Core.Path.{◌≡◌}
 use mathlib.Core.List.{◌++◌}
 use Prim.Native.Nat.{◌*◌, ◌-◌}
@@ -7,6 +7,6 @@ use Rattle.eb3.specs.Bytes.{words_in}
 use Rattle.eb3.specs.Blocks.{contents}
 use Rattle.blocks.proofs.join.Given as goal
 
--- The words stored, and those of the blocks still to come, are the stream; behind them the array is as it was.
+-- The words stored, then those of the blocks still to come, are the stream; after the words stored the array is as it was.
 abbrev pub invariant-loop-i : goal.invariant-loop-i
 invariant-loop-i l = (take (254 * l.i) l.words ++ words_in (contents (l.n - l.i) (drop (512 * l.i) l.rules)) ≡ words_in (contents l.n l.rules)) × (drop (254 * l.i) l.words ≡ drop (254 * l.i) l.initial.words)

@@ -1,4 +1,4 @@
--- A decision is written in front of a path that was found; any other answer is as it was.
+-- A decision is written before a path that was found; any other answer is as it was.
 use Rattle.std.proofs.Common.{rules}
 use Rattle.derivation.proofs.Walking.{kept_same, decided_other}
 use Rattle.derivation.proofs.arrays.Arrays.decide.Goals as goal
