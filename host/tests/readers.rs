@@ -1,5 +1,6 @@
 //! Request K1 (document 02): counts by card reader. Run's table and refusal 13, asked of the plain
-//! interpreter, of the history machine and, where it is linked, of the engine; every test asks all of them.
+//! interpreter, of the history machine and, where it is linked, of the engine: of all of them, but between
+//! forbidden pages, where the history machine is not asked. The header's figures are tested, too.
 //! `ROUNDS=20` makes twenty times as many random cases.
 
 use host::calls::{Call, Operation, Operations, Outcome, Plain};
