@@ -33,7 +33,7 @@ pub record Ready (A : Attributes) (o : Option VisibleAction) (b : Reading) (t D 
 -- A store M whose cells are to be filled for the functions A, after a last action o or at the start.
 pub record Filling (A : Attributes) (o : Option VisibleAction) (b : Reading) (t D M : List ℕ) (w j n : ℕ) : Type 0 where
   pub functions : n ≡ number_of_functions A
-  pub largest : A.top ≡ 65534
+  pub largest : A.edition.top ≡ 65534
   pub laid : Laid A M
   pub small : (f : ℕ) → f < n → stored M (4 + 2 * f) ≤ 64
   pub room : now_place + total_cells A ≤ length M

@@ -79,7 +79,7 @@ module _ (A : Attributes) (M : List ℕ) (laid : Laid A M) (cells : List Value) 
   pub guard_judged : Holds M now_place cells → (C : Cond) → Plain (guard_scope A 0) → CondInScope C (guard_scope A 0)
       → evaluate_cond C (environment_in M) ≡ guard_holds A (cell_at A cells) C
   guard_judged holds C plain s =
-      let agree : Agree (guard_scope A 0) (environment_in M) (environment A.top [] (cell_at A cells) no_reading) = record {
+      let agree : Agree (guard_scope A 0) (environment_in M) (environment A.edition.top [] (cell_at A cells) no_reading) = record {
         top = sym plain.largest;
         variable = λ i h. absurd (let z : ⊥ = omega arith in z);
         now = λ g h vs. reads_cells now_place holds g h vs;

@@ -127,7 +127,7 @@ module _ {t : List ℕ} {f left : ℕ} (T : Turn t f left) (M' : List ℕ) (x y 
       let n = T.filling.arguments_few in
       ap (decode 65534) (kept (suc i) (omega arith) (omega arith)) ∙ T.filling.variables_there i l
 
-  agreeing : Agree here.scope (environment_in M'') (environment T.A.top (x ∷ arguments_of T.o) (cell_at T.A new) T.b)
+  agreeing : Agree here.scope (environment_in M'') (environment T.A.edition.top (x ∷ arguments_of T.o) (cell_at T.A new) T.b)
   agreeing = record { top = sym T.filling.largest; variable = variables_read; now = now_reads; before = before_reads }
 
   within : Within (domain T.A f) (x ∷ [])
@@ -137,7 +137,7 @@ module _ {t : List ℕ} {f left : ℕ} (T : Turn t f left) (M' : List ℕ) (x y 
   unfolding evaluate
   turn_value =
       data_agrees here.scope _ _ agreeing (expression (function T.A f) T.o) here.in_scope
-      ∙ ap (λ xs. evaluate_data (expression (function T.A f) T.o) (environment T.A.top xs (cell_at T.A new) T.b)) (sym (scope_variables x T.o))
+      ∙ ap (λ xs. evaluate_data (expression (function T.A f) T.o) (environment T.A.edition.top xs (cell_at T.A new) T.b)) (sym (scope_variables x T.o))
       ∙ renewed T.A T.o T.b (number_of_functions T.A) f (x ∷ []) new defined within here.scope here.names_below here.in_scope (λ c l. refl)
       ∙ ap (λ i. get_or all (offset T.A f + i) undefined) (row_index T.A T.M f (T.filling.laid f defined) x)
 

@@ -22,7 +22,7 @@ piece_words w (of_term E) = words w E
 abbrev pub term_fits : Scope → Term → Type 0
 term_fits P Done = Unit
 term_fits P Internal = Unit
-term_fits P (Perform a) = (length a.arguments ≤ 2) × All (λ v. v ≤ P.top) a.arguments
+term_fits P (Perform a) = (length a.arguments ≤ 2) × All (λ v. v ≤ P.edition.top) a.arguments
 term_fits P (Sequence E F) = term_fits P E × term_fits P F
 term_fits P (Choice E F) = term_fits P E × term_fits P F
 term_fits P (Star E) = term_fits P E

@@ -4,6 +4,7 @@ use Rattle.std.proofs.Math.Option.{Option, none, some}
 use Rattle.eb3.specs.Values.{Value, undefined, number}
 use Rattle.eb3.specs.Expressions.{Data, Undefined, Cond, Reading, no_reading, environment, evaluate_data, evaluate_cond}
 use Rattle.eb3.specs.Terms.{VisibleAction}
+use Rattle.eb3.specs.Editions.{Edition}
 
 -- A function: its parameters' domain sizes (one in edition 1), its expression for the empty trace, and one for each label.
 pub record AttributeFunction : Type 0 where
@@ -11,9 +12,9 @@ pub record AttributeFunction : Type 0 where
   pub at_start : Data
   pub at_label : List Data
 
--- The part of a rule set that gives attributes their values.
+-- The part of a rule set that gives attributes their values: its edition, whose largest number bounds them, and its functions.
 pub record Attributes : Type 0 where
-  pub top : ℕ
+  pub edition : Edition
   pub functions : List AttributeFunction
 
 abbrev pub number_of_functions : Attributes → ℕ
@@ -56,11 +57,11 @@ variables_in_scope xs (some a) = xs ++ a.arguments
 
 -- Function f at xs after a last action, or at the start: its expression, with what now and before read.
 unfoldable pub evaluate : Attributes → Option VisibleAction → Reading → Reading → ℕ → List ℕ → Value
-evaluate A o now before f xs = evaluate_data (expression (function A f) o) (environment A.top (variables_in_scope xs o) now before)
+evaluate A o now before f xs = evaluate_data (expression (function A f) o) (environment A.edition.top (variables_in_scope xs o) now before)
 
 -- A guard reads values now; it has no variables, and before does not occur in it.
 unfoldable pub guard_holds : Attributes → Reading → Cond → Bool
-guard_holds A now C = evaluate_cond C (environment A.top [] now no_reading)
+guard_holds A now C = evaluate_cond C (environment A.edition.top [] now no_reading)
 
 -- What function i may read now: the functions below it, whose values are made by the same recursion.
 unfoldable pub now_below : Attributes → Option VisibleAction → Reading → ℕ → Reading

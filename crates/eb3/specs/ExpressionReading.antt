@@ -56,7 +56,7 @@ pub record Readers : Type 0 where
 
 abbrev pub data_by : ℕ → Scope → Readers → DataKind → Reader Data
 data_by width P e DataKind.undefined t = taken Undefined t
-data_by width P e DataKind.constant t = giving Constant (constant_of width P.top t)
+data_by width P e DataKind.constant t = giving Constant (constant_of width P.edition.top t)
 data_by width P e DataKind.variable t = giving Variable (number_of Refusal.reference P.variables t)
 data_by width P e (DataKind.pair k) t = giving (λ p. k p.0 p.1) (both e.datum e.datum t)
 data_by width P e DataKind.select t = giving (λ p. If p.0 p.1.0 p.1.1) (both e.condition (both e.datum e.datum) t)

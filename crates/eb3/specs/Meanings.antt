@@ -85,9 +85,9 @@ pub record ReadingMeanings (A : Attributes) (T : Trace) (M : List Value) (f : �
 -- The two semantics: what a visible action does to the history and to the cells, and what a guard reads.
 pub record StateMeanings (A : Attributes) (T : Trace) (M : List Value) (C : Cond) (a : VisibleAction) : Type 0 where
   pub history_appended : (Sem_T A).update T a ≡ a ∷ T
-  pub history_guard : (Sem_T A).satisfies T C ≡ evaluate_cond C (environment A.top [] (value_at A T) no_reading)
+  pub history_guard : (Sem_T A).satisfies T C ≡ evaluate_cond C (environment A.edition.top [] (value_at A T) no_reading)
   pub cells_renewed : (Sem_M A).update M a ≡ renew A M a
-  pub cells_guard : (Sem_M A).satisfies M C ≡ evaluate_cond C (environment A.top [] (cell_at A M) no_reading)
+  pub cells_guard : (Sem_M A).satisfies M C ≡ evaluate_cond C (environment A.edition.top [] (cell_at A M) no_reading)
 
 -- In every derivation a visible action updates the state once, and an internal one keeps it.
 pub record StepStates (S : DataState) (M M' : S.State) (E E' : Term) : Type 0 where

@@ -28,10 +28,10 @@ count_for counts f = get_or counts f 1
 
 -- What function i of those with these parameter counts may name: before may stand only where a label's expression does.
 abbrev pub at_start_scope : Edition → List ℕ → ℕ → Scope
-at_start_scope L counts i = record { top = L.top; arity = count_for counts; now = i; before = 0; variables = count_for counts i }
+at_start_scope L counts i = record { edition = L; arity = count_for counts; now = i; before = 0; variables = count_for counts i }
 
 abbrev pub at_label_scope : Edition → List ℕ → ℕ → ℕ → Scope
-at_label_scope L counts i n = record { top = L.top; arity = count_for counts; now = i; before = length counts; variables = count_for counts i + n }
+at_label_scope L counts i n = record { edition = L; arity = count_for counts; now = i; before = length counts; variables = count_for counts i + n }
 
 abbrev pub function_from : List ℕ × (Data × List Data) → Function
 function_from p = record { parameters = p.0; at_start = p.1.0; at_label = p.1.1 }

@@ -2,11 +2,12 @@
 use Rattle.std.specs.Prelude.{◌≡◌, ℕ, suc, ◌+◌, ◌≤◌, ◌<◌, length, get_or}
 use Rattle.eb3.specs.Expressions.{Data, Undefined, Constant, Variable, Add, Subtract, If, Now, Before, Args, Nil, Cons, Cond, Equal, Less, And, Or, Not, True}
 use Rattle.eb3.specs.Attributes.{Attributes, function, domain, number_of_functions}
+use Rattle.eb3.specs.Editions.{Edition}
 
--- The largest constant, each function's parameter count, the functions that now and before may name (those below these numbers),
+-- The edition, which says the largest constant and how many words it has; each function's parameter count; the functions that now and before may name (those below these numbers),
 -- and how many variables there are. Where before may name none, its code does not occur.
 pub record Scope : Type 0 where
-  pub top : ℕ
+  pub edition : Edition
   pub arity : ℕ → ℕ
   pub now : ℕ
   pub before : ℕ
@@ -15,7 +16,7 @@ pub record Scope : Type 0 where
 abbrev mutual
   pub DataInScope : Data → Scope → Type 0
   DataInScope Undefined P = Unit
-  DataInScope (Constant n) P = n ≤ P.top
+  DataInScope (Constant n) P = n ≤ P.edition.top
   DataInScope (Variable i) P = i < P.variables
   DataInScope (Add a b) P = DataInScope a P × DataInScope b P
   DataInScope (Subtract a b) P = DataInScope a P × DataInScope b P
@@ -41,15 +42,15 @@ arities A f = length (domain A f)
 
 -- In function f, now names functions below f; before may name any function, but does not occur in the empty-trace expression.
 abbrev pub start_scope : Attributes → ℕ → Scope
-start_scope A f = record { top = A.top; arity = arities A; now = f; before = 0; variables = arities A f }
+start_scope A f = record { edition = A.edition; arity = arities A; now = f; before = 0; variables = arities A f }
 
 -- The function's variables come first, then the label's, of which there are n.
 abbrev pub label_scope : Attributes → ℕ → ℕ → Scope
-label_scope A f n = record { top = A.top; arity = arities A; now = f; before = number_of_functions A; variables = arities A f + n }
+label_scope A f n = record { edition = A.edition; arity = arities A; now = f; before = number_of_functions A; variables = arities A f + n }
 
 -- A guard names any function now and none before; n variables are in scope.
 abbrev pub guard_scope : Attributes → ℕ → Scope
-guard_scope A n = record { top = A.top; arity = arities A; now = number_of_functions A; before = 0; variables = n }
+guard_scope A n = record { edition = A.edition; arity = arities A; now = number_of_functions A; before = 0; variables = n }
 
 -- All functions' expressions stand in their scopes; label l has `parameters l` parameters.
 pub record ExpressionsInScope (A : Attributes) (parameters : ℕ → ℕ) : Type 0 where

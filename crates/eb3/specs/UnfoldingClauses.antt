@@ -47,4 +47,4 @@ pub record Entries (R : RuleSet) (k : ℕ) : Type 0 where
   pub function_entry : function_rule R k ≡ get_or R.functions k no_rule
   pub process_entry : process R k ≡ get_or R.processes k no_process
   pub attributes_are : attributes R
-      ≡ record { top = R.edition.top; functions = map (λ (F : Function). record { sizes = map (domain_size R) F.parameters; at_start = F.at_start; at_label = F.at_label }) R.functions }
+      ≡ record { edition = R.edition; functions = map (λ (F : Function). record { sizes = map (domain_size R) F.parameters; at_start = F.at_start; at_label = F.at_label }) R.functions }

@@ -29,10 +29,10 @@ module _ (t u M : List ℕ) (x y : Valued) where
   pub paired : (g : Value → Value → ℕ) (r : Valued) → Evaluated t M x → u ≡ last_of x.left t → Evaluated u M y
       → r.value ≡ g (decode 65534 x.value) (decode 65534 y.value) → r.left ≡ y.left → Paired g t M r
   paired g r f k h e l P a b rest at s =
-      let p = data_parted t M x P (data_words 1 b ++ rest) f a at in
+      let p = data_parted t M x P (data_words P.edition.width b ++ rest) f a at in
       let next : DataAt u P b rest = record { plain = at.plain; in_scope = s; spelled = p.behind u k } in
       let n = data_parted u M y P rest h b next in
-      let v : decode 65534 x.value ≡ evaluate_data a (environment_in M) = data_value t M x P (data_words 1 b ++ rest) f a at in
+      let v : decode 65534 x.value ≡ evaluate_data a (environment_in M) = data_value t M x P (data_words P.edition.width b ++ rest) f a at in
       let w : decode 65534 y.value ≡ evaluate_data b (environment_in M) = data_value u M y P rest h b next in
       record { value = e ∙ (λ i. g (v i) (w i)); left = l ∙ n.left }
 
@@ -41,7 +41,7 @@ module _ (t u M : List ℕ) (x y : ℕ) where
   pub joined : (g : Bool → Bool → Bool) (z r : ℕ) → Judged t M x → u ≡ last_of (x / 65536) t → Judged u M y
       → ((c d : Bool) → x % 65536 ≡ truth c → y % 65536 ≡ truth d → z ≡ truth (g c d)) → r ≡ answer z (y / 65536) → Joined g t M r
   joined g z r f k h e q P c d rest at s =
-      let p = cond_parted t M x P (cond_words 1 d ++ rest) f c at in
+      let p = cond_parted t M x P (cond_words P.edition.width d ++ rest) f c at in
       let next : CondAt u P d rest = record { plain = at.plain; in_scope = s; spelled = p.behind u k } in
       let n = cond_parted u M y P rest h d next in
       q ∙ (λ j. answer (e (evaluate_cond c (environment_in M)) (evaluate_cond d (environment_in M)) p.word n.word j) (n.left j))
@@ -56,9 +56,9 @@ module _ (t M : List ℕ) (x : ℕ) (f : Judged t M x) where
 module _ (t u v M : List ℕ) (c : ℕ) (x y : Valued) (f : Judged t M c) (k : u ≡ last_of (c / 65536) t) (h : Evaluated u M x) (l : v ≡ last_of x.left u) (i : Evaluated v M y) where
   selected : (r : Valued) → r.left ≡ y.left → ((b : Bool) (p q : Value) → c % 65536 ≡ truth b → x.value ≡ value_word p → y.value ≡ value_word q → r.value ≡ value_word (cond b p q)) → Selected t M r
   selected r e q P d a b rest at sa sb =
-      let p = cond_parted t M c P (data_words 1 a ++ (data_words 1 b ++ rest)) f d at in
-      let first : DataAt u P a (data_words 1 b ++ rest) = record { plain = at.plain; in_scope = sa; spelled = p.behind u k } in
-      let n = data_parted u M x P (data_words 1 b ++ rest) h a first in
+      let p = cond_parted t M c P (data_words P.edition.width a ++ (data_words P.edition.width b ++ rest)) f d at in
+      let first : DataAt u P a (data_words P.edition.width b ++ rest) = record { plain = at.plain; in_scope = sa; spelled = p.behind u k } in
+      let n = data_parted u M x P (data_words P.edition.width b ++ rest) h a first in
       let second : DataAt v P b rest = record { plain = at.plain; in_scope = sb; spelled = n.behind v l } in
       let m = data_parted v M y P rest i b second in
       record {

@@ -44,16 +44,16 @@ front_of_data (If c a b) = selection
 front_of_data (Now f rs) = present
 front_of_data (Before f rs) = past
 
-data_known : (d : Data) (s rest : List ℕ) → s ≡ data_words 1 d ++ rest → data_front (get_or s 0 0) ≡ front_of_data d
+data_known : (w : ℕ) (d : Data) (s rest : List ℕ) → s ≡ data_words w d ++ rest → data_front (get_or s 0 0) ≡ front_of_data d
 unfolding data_words
-data_known Undefined s rest e = ap (λ u. data_front (get_or u 0 0)) e
-data_known (Constant n) s rest e = ap (λ u. data_front (get_or u 0 0)) e
-data_known (Variable i) s rest e = ap (λ u. data_front (get_or u 0 0)) e
-data_known (Add a b) s rest e = ap (λ u. data_front (get_or u 0 0)) e
-data_known (Subtract a b) s rest e = ap (λ u. data_front (get_or u 0 0)) e
-data_known (If c a b) s rest e = ap (λ u. data_front (get_or u 0 0)) e
-data_known (Now f rs) s rest e = ap (λ u. data_front (get_or u 0 0)) e
-data_known (Before f rs) s rest e = ap (λ u. data_front (get_or u 0 0)) e
+data_known w Undefined s rest e = ap (λ u. data_front (get_or u 0 0)) e
+data_known w (Constant n) s rest e = ap (λ u. data_front (get_or u 0 0)) e
+data_known w (Variable i) s rest e = ap (λ u. data_front (get_or u 0 0)) e
+data_known w (Add a b) s rest e = ap (λ u. data_front (get_or u 0 0)) e
+data_known w (Subtract a b) s rest e = ap (λ u. data_front (get_or u 0 0)) e
+data_known w (If c a b) s rest e = ap (λ u. data_front (get_or u 0 0)) e
+data_known w (Now f rs) s rest e = ap (λ u. data_front (get_or u 0 0)) e
+data_known w (Before f rs) s rest e = ap (λ u. data_front (get_or u 0 0)) e
 
 -- What a match says of the codes that it tests one by one, where none is met.
 abbrev OtherData : ℕ → Type 0
@@ -75,12 +75,12 @@ DataArm past t M r = Named (before_place M) t M r
 
 -- A function has one argument.
 module _ (M : List ℕ) (at f : ℕ) (P : Scope) (plain : Plain P) (t rest : List ℕ) (r : Valued) (h : Named at t M r) where
-  one_argument : (rs : Args) (n : ℕ) → n ≡ 1 → ArgsInScope rs P n → t ≡ f ∷ (args_words 1 rs ++ rest)
+  one_argument : (rs : Args) (n : ℕ) → n ≡ 1 → ArgsInScope rs P n → t ≡ f ∷ (args_words P.edition.width rs ++ rest)
       → IsValued (value_word (reading_in M at f (evaluate_args rs (environment_in M)))) (length rest) r
   unfolding data_words evaluate_data
   one_argument Nil n o w e = absurd (omega arith)
   one_argument (Cons a Nil) n o w e =
-      let here : DataAt (drop 1 t) P a rest = record { plain = plain; in_scope = w.2; spelled = ap (drop 1) e ∙ append_assoc (data_words 1 a) [] rest } in
+      let here : DataAt (drop 1 t) P a rest = record { plain = plain; in_scope = w.2; spelled = ap (drop 1) e ∙ append_assoc (data_words P.edition.width a) [] rest } in
       record {
         value = (h P a rest here).value ∙ ap (λ u. value_word (reading_in M at (get_or u 0 0) (evaluate_data a (environment_in M) ∷ []))) e;
         left = (h P a rest here).left;
@@ -92,22 +92,23 @@ module _ (s t M : List ℕ) (r : Valued) (q : t ≡ drop 1 s) where
   unfolding data_words number_words evaluate_data encode variable_in
   by_data Undefined P rest at h = record { value = h.value; left = h.left ∙ ap length (q ∙ ap (drop 1) at.spelled) }
   by_data (Constant n) P rest at h =
-      record { value = h.value ∙ ap (λ u. get_or u 0 0) (q ∙ ap (drop 1) at.spelled); left = h.left ∙ ap (λ u. length (drop 1 u)) (q ∙ ap (drop 1) at.spelled) }
+      let e : t ≡ n ∷ rest = q ∙ ap (drop 1) at.spelled ∙ ap (λ w. number_words w n ++ rest) at.plain.one_word in
+      record { value = h.value ∙ ap (λ u. get_or u 0 0) e; left = h.left ∙ ap (λ u. length (drop 1 u)) e }
   by_data (Variable i) P rest at h =
       record {
         value = h.value.value ∙ sym (word_of_value (stored M (get_or t 0 0)) h.small) ∙ ap (λ u. value_word (decode 65534 (stored M (get_or u 0 0)))) (q ∙ ap (drop 1) at.spelled);
         left = h.value.left ∙ ap (λ u. length (drop 1 u)) (q ∙ ap (drop 1) at.spelled);
       }
   by_data (Add a b) P rest at h =
-      h P a b rest (record { plain = at.plain; in_scope = at.in_scope.0; spelled = q ∙ ap (drop 1) at.spelled ∙ append_assoc (data_words 1 a) (data_words 1 b) rest }) at.in_scope.1
+      h P a b rest (record { plain = at.plain; in_scope = at.in_scope.0; spelled = q ∙ ap (drop 1) at.spelled ∙ append_assoc (data_words P.edition.width a) (data_words P.edition.width b) rest }) at.in_scope.1
   by_data (Subtract a b) P rest at h =
-      h P a b rest (record { plain = at.plain; in_scope = at.in_scope.0; spelled = q ∙ ap (drop 1) at.spelled ∙ append_assoc (data_words 1 a) (data_words 1 b) rest }) at.in_scope.1
+      h P a b rest (record { plain = at.plain; in_scope = at.in_scope.0; spelled = q ∙ ap (drop 1) at.spelled ∙ append_assoc (data_words P.edition.width a) (data_words P.edition.width b) rest }) at.in_scope.1
   by_data (If c a b) P rest at h =
       h P c a b rest
       (record {
         plain = at.plain;
         in_scope = at.in_scope.0;
-        spelled = q ∙ ap (drop 1) at.spelled ∙ append_assoc (cond_words 1 c) (data_words 1 a ++ data_words 1 b) rest ∙ ap (λ u. cond_words 1 c ++ u) (append_assoc (data_words 1 a) (data_words 1 b) rest);
+        spelled = q ∙ ap (drop 1) at.spelled ∙ append_assoc (cond_words P.edition.width c) (data_words P.edition.width a ++ data_words P.edition.width b) rest ∙ ap (λ u. cond_words P.edition.width c ++ u) (append_assoc (data_words P.edition.width a) (data_words P.edition.width b) rest);
       })
       at.in_scope.1
       at.in_scope.2
@@ -117,7 +118,7 @@ module _ (s t M : List ℕ) (r : Valued) (q : t ≡ drop 1 s) where
   module _ (w : ℕ) (first : w ≡ get_or s 0 0) where
     data_arm : (k : DataFront) → data_front w ≡ k → DataArm k t M r → Evaluated s M r
     data_arm k e h P d rest at =
-        by_data d P rest at (subst (λ j. DataArm j t M r) (sym e ∙ ap data_front first ∙ data_known d s rest at.spelled) h)
+        by_data d P rest at (subst (λ j. DataArm j t M r) (sym e ∙ ap data_front first ∙ data_known P.edition.width d s rest at.spelled) h)
 
     pub data_constant : w ≡ 1 → IsValued (get_or t 0 0) (length (drop 1 t)) r → Evaluated s M r
     data_constant e h = data_arm constant (ap data_front e) h
@@ -168,14 +169,14 @@ front_of_cond (Or c d) = disjunction
 front_of_cond (Not c) = negation
 front_of_cond True = truism
 
-cond_known : (c : Cond) (s rest : List ℕ) → s ≡ cond_words 1 c ++ rest → cond_front (get_or s 0 0) ≡ front_of_cond c
+cond_known : (w : ℕ) (c : Cond) (s rest : List ℕ) → s ≡ cond_words w c ++ rest → cond_front (get_or s 0 0) ≡ front_of_cond c
 unfolding data_words
-cond_known (Equal a b) s rest e = ap (λ u. cond_front (get_or u 0 0)) e
-cond_known (Less a b) s rest e = ap (λ u. cond_front (get_or u 0 0)) e
-cond_known (And c d) s rest e = ap (λ u. cond_front (get_or u 0 0)) e
-cond_known (Or c d) s rest e = ap (λ u. cond_front (get_or u 0 0)) e
-cond_known (Not c) s rest e = ap (λ u. cond_front (get_or u 0 0)) e
-cond_known True s rest e = ap (λ u. cond_front (get_or u 0 0)) e
+cond_known w (Equal a b) s rest e = ap (λ u. cond_front (get_or u 0 0)) e
+cond_known w (Less a b) s rest e = ap (λ u. cond_front (get_or u 0 0)) e
+cond_known w (And c d) s rest e = ap (λ u. cond_front (get_or u 0 0)) e
+cond_known w (Or c d) s rest e = ap (λ u. cond_front (get_or u 0 0)) e
+cond_known w (Not c) s rest e = ap (λ u. cond_front (get_or u 0 0)) e
+cond_known w True s rest e = ap (λ u. cond_front (get_or u 0 0)) e
 
 abbrev CondArm : CondFront → List ℕ → List ℕ → ℕ → Type 0
 CondArm equality t M r = Compared equal_word t M r
@@ -195,20 +196,20 @@ module _ (s t M : List ℕ) (r : ℕ) (q : t ≡ drop 1 s) where
   by_cond : (c : Cond) (P : Scope) (rest : List ℕ) → CondAt s P c rest → CondArm (front_of_cond c) t M r → r ≡ answer (truth (evaluate_cond c (environment_in M))) (length rest)
   unfolding data_words evaluate_data truth
   by_cond (Equal a b) P rest at h =
-      h P a b rest (record { plain = at.plain; in_scope = at.in_scope.0; spelled = q ∙ ap (drop 1) at.spelled ∙ append_assoc (data_words 1 a) (data_words 1 b) rest }) at.in_scope.1
+      h P a b rest (record { plain = at.plain; in_scope = at.in_scope.0; spelled = q ∙ ap (drop 1) at.spelled ∙ append_assoc (data_words P.edition.width a) (data_words P.edition.width b) rest }) at.in_scope.1
   by_cond (Less a b) P rest at h =
-      h P a b rest (record { plain = at.plain; in_scope = at.in_scope.0; spelled = q ∙ ap (drop 1) at.spelled ∙ append_assoc (data_words 1 a) (data_words 1 b) rest }) at.in_scope.1
+      h P a b rest (record { plain = at.plain; in_scope = at.in_scope.0; spelled = q ∙ ap (drop 1) at.spelled ∙ append_assoc (data_words P.edition.width a) (data_words P.edition.width b) rest }) at.in_scope.1
   by_cond (And c d) P rest at h =
-      h P c d rest (record { plain = at.plain; in_scope = at.in_scope.0; spelled = q ∙ ap (drop 1) at.spelled ∙ append_assoc (cond_words 1 c) (cond_words 1 d) rest }) at.in_scope.1
+      h P c d rest (record { plain = at.plain; in_scope = at.in_scope.0; spelled = q ∙ ap (drop 1) at.spelled ∙ append_assoc (cond_words P.edition.width c) (cond_words P.edition.width d) rest }) at.in_scope.1
   by_cond (Or c d) P rest at h =
-      h P c d rest (record { plain = at.plain; in_scope = at.in_scope.0; spelled = q ∙ ap (drop 1) at.spelled ∙ append_assoc (cond_words 1 c) (cond_words 1 d) rest }) at.in_scope.1
+      h P c d rest (record { plain = at.plain; in_scope = at.in_scope.0; spelled = q ∙ ap (drop 1) at.spelled ∙ append_assoc (cond_words P.edition.width c) (cond_words P.edition.width d) rest }) at.in_scope.1
   by_cond (Not c) P rest at h = h P c rest (record { plain = at.plain; in_scope = at.in_scope; spelled = q ∙ ap (drop 1) at.spelled })
   by_cond True P rest at h = h ∙ ap (λ u. answer 1 (length u)) (q ∙ ap (drop 1) at.spelled)
 
   module _ (w : ℕ) (first : w ≡ get_or s 0 0) where
     cond_arm : (k : CondFront) → cond_front w ≡ k → CondArm k t M r → Judged s M r
     cond_arm k e h P c rest at =
-        by_cond c P rest at (subst (λ j. CondArm j t M r) (sym e ∙ ap cond_front first ∙ cond_known c s rest at.spelled) h)
+        by_cond c P rest at (subst (λ j. CondArm j t M r) (sym e ∙ ap cond_front first ∙ cond_known P.edition.width c s rest at.spelled) h)
 
     pub cond_equality : w ≡ 8 → Compared equal_word t M r → Judged s M r
     cond_equality e h = cond_arm equality (ap cond_front e) h

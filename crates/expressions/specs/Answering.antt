@@ -23,21 +23,22 @@ pub record IsValued (v l : ℕ) (r : Valued) : Type 0 where
 unfoldable pub answer : ℕ → ℕ → ℕ
 answer w left = w + 65536 * left
 
--- A scope of edition 1: constants up to 65,534, functions of one parameter.
+-- A scope of edition 1: constants up to 65,534, of one word each; functions of one parameter.
 pub record Plain (P : Scope) : Type 0 where
-  pub largest : P.top ≡ 65534
+  pub largest : P.edition.top ≡ 65534
+  pub one_word : P.edition.width ≡ 1
   pub one_parameter : P.arity ≡ (λ f. 1)
 
 -- s begins with a data expression (a condition) that is in scope P, and rest is after it.
 pub record DataAt (s : List ℕ) (P : Scope) (d : Data) (rest : List ℕ) : Type 0 where
   pub plain : Plain P
   pub in_scope : DataInScope d P
-  pub spelled : s ≡ data_words 1 d ++ rest
+  pub spelled : s ≡ data_words P.edition.width d ++ rest
 
 pub record CondAt (s : List ℕ) (P : Scope) (c : Cond) (rest : List ℕ) : Type 0 where
   pub plain : Plain P
   pub in_scope : CondInScope c P
-  pub spelled : s ≡ cond_words 1 c ++ rest
+  pub spelled : s ≡ cond_words P.edition.width c ++ rest
 
 -- The answer, whatever expression is at the front.
 abbrev pub Evaluated : List ℕ → List ℕ → Valued → Type 0

@@ -74,7 +74,7 @@ parted s front rest v l w e q h = record {
 
 module _ (s M : List ℕ) (x : Valued) (P : Scope) (rest : List ℕ) (f : Evaluated s M x) (a : Data) (h : DataAt s P a rest) where
   pub data_parted : Parted s rest x.value x.left (value_word (evaluate_data a (environment_in M)))
-  data_parted = parted s (data_words 1 a) rest _ _ _ h.spelled (f P a rest h).value (f P a rest h).left
+  data_parted = parted s (data_words P.edition.width a) rest _ _ _ h.spelled (f P a rest h).value (f P a rest h).left
 
   -- the word is the value's
   pub data_value : decode 65534 x.value ≡ evaluate_data a (environment_in M)
@@ -83,6 +83,6 @@ module _ (s M : List ℕ) (x : Valued) (P : Scope) (rest : List ℕ) (f : Evalua
 module _ (s M : List ℕ) (x : ℕ) (P : Scope) (rest : List ℕ) (f : Judged s M x) (c : Cond) (h : CondAt s P c rest) where
   pub cond_parted : Parted s rest (x % 65536) (x / 65536) (truth (evaluate_cond c (environment_in M)))
   cond_parted =
-      parted s (cond_words 1 c) rest _ _ _ h.spelled
+      parted s (cond_words P.edition.width c) rest _ _ _ h.spelled
       (ap (λ y. y % 65536) (f P c rest h) ∙ answer_word _ (length rest) (truth_word _))
       (ap (λ y. y / 65536) (f P c rest h) ∙ answer_left _ (length rest) (truth_word _))

@@ -49,12 +49,12 @@ pub record Fetched (t M : List ℕ) (r : Valued) : Type 0 where
 
 -- Two data.
 abbrev pub Paired : (Value → Value → ℕ) → List ℕ → List ℕ → Valued → Type 0
-Paired g t M r = (P : Scope) (a b : Data) (rest : List ℕ) → DataAt t P a (data_words 1 b ++ rest) → DataInScope b P
+Paired g t M r = (P : Scope) (a b : Data) (rest : List ℕ) → DataAt t P a (data_words P.edition.width b ++ rest) → DataInScope b P
     → IsValued (g (evaluate_data a (environment_in M)) (evaluate_data b (environment_in M))) (length rest) r
 
 -- A condition and two data.
 abbrev pub Selected : List ℕ → List ℕ → Valued → Type 0
-Selected t M r = (P : Scope) (c : Cond) (a b : Data) (rest : List ℕ) → CondAt t P c (data_words 1 a ++ (data_words 1 b ++ rest)) → DataInScope a P → DataInScope b P
+Selected t M r = (P : Scope) (c : Cond) (a b : Data) (rest : List ℕ) → CondAt t P c (data_words P.edition.width a ++ (data_words P.edition.width b ++ rest)) → DataInScope a P → DataInScope b P
     → IsValued (value_word (cond (evaluate_cond c (environment_in M)) (evaluate_data a (environment_in M)) (evaluate_data b (environment_in M)))) (length rest) r
 
 -- A function's number and its argument; its cells begin at a place.
@@ -64,12 +64,12 @@ Named at t M r = (P : Scope) (a : Data) (rest : List ℕ) → DataAt (drop 1 t) 
 
 -- Two data that are compared.
 abbrev pub Compared : (Value → Value → ℕ) → List ℕ → List ℕ → ℕ → Type 0
-Compared g t M r = (P : Scope) (a b : Data) (rest : List ℕ) → DataAt t P a (data_words 1 b ++ rest) → DataInScope b P
+Compared g t M r = (P : Scope) (a b : Data) (rest : List ℕ) → DataAt t P a (data_words P.edition.width b ++ rest) → DataInScope b P
     → r ≡ answer (g (evaluate_data a (environment_in M)) (evaluate_data b (environment_in M))) (length rest)
 
 -- Two conditions.
 abbrev pub Joined : (Bool → Bool → Bool) → List ℕ → List ℕ → ℕ → Type 0
-Joined g t M r = (P : Scope) (c d : Cond) (rest : List ℕ) → CondAt t P c (cond_words 1 d ++ rest) → CondInScope d P
+Joined g t M r = (P : Scope) (c d : Cond) (rest : List ℕ) → CondAt t P c (cond_words P.edition.width d ++ rest) → CondInScope d P
     → r ≡ answer (truth (g (evaluate_cond c (environment_in M)) (evaluate_cond d (environment_in M)))) (length rest)
 
 -- One condition.

@@ -67,20 +67,20 @@ parameters_of D f = get_or D.functions f 1
 -- In function i, for the empty trace and for a label of n parameters; in a guard under n variables.
 module _ (L : Edition) (D : Declared) where
   abbrev pub empty_trace_scope : ℕ → Scope
-  empty_trace_scope i = record { top = L.top; arity = parameters_of D; now = i; before = 0; variables = parameters_of D i }
+  empty_trace_scope i = record { edition = L; arity = parameters_of D; now = i; before = 0; variables = parameters_of D i }
 
   abbrev pub label_scope : ℕ → ℕ → Scope
-  label_scope i n = record { top = L.top; arity = parameters_of D; now = i; before = length D.functions; variables = parameters_of D i + n }
+  label_scope i n = record { edition = L; arity = parameters_of D; now = i; before = length D.functions; variables = parameters_of D i + n }
 
   abbrev pub guard_scope : ℕ → Scope
-  guard_scope n = record { top = L.top; arity = parameters_of D; now = length D.functions; before = 0; variables = n }
+  guard_scope n = record { edition = L; arity = parameters_of D; now = length D.functions; before = 0; variables = n }
 
 -- ── what a code has after it; none: no code there ──
 
 abbrev pub data_operands : Edition → Scope → ℕ → Option (List Due)
 data_operands L P c =
     pick (eqb c 0) (some [])
-    (pick (eqb c 1) (some (constant P.top L.width [] ∷ []))
+    (pick (eqb c 1) (some (constant P.edition.top L.width [] ∷ []))
     (pick (eqb c 2) (some (variable_number P ∷ []))
     (pick (eqb c 3) (some (data_code P ∷ data_code P ∷ []))
     (pick (eqb c 4) (some (data_code P ∷ data_code P ∷ []))

@@ -156,7 +156,7 @@ module _ (P : Scope) (s : List ℕ) (at rest : ℕ) (h : at < length s) (few : r
   unfolding then
   data_undefined e = (behind rest (omega arith), by_data DataKind.undefined (taken Undefined t) (ap (data_kind P) e) refl)
 
-  pub data_constant : (r : Result Front Refusal) → get_or s at 0 ≡ 1 → P.top ≡ 65534 → Operand Form 65535 s (at + 1) rest r → DataFront P s at rest r
+  pub data_constant : (r : Result Front Refusal) → get_or s at 0 ≡ 1 → P.edition.top ≡ 65534 → Operand Form 65535 s (at + 1) rest r → DataFront P s at rest r
   data_constant r e o = faced rd (repeat 1 rc) (rest + 2) s at rest rest Form 65535 r (omega (arith, few)) (by_data DataKind.constant (number_of 4 65535 t) (ap (data_kind P) e) (ap (λ m. forget (giving Constant (constant_of 1 m t))) o ∙ one_constant t))
 
   pub data_variable : (r : Result Front Refusal) → get_or s at 0 ≡ 2 → Operand Reference P.variables s (at + 1) rest r → DataFront P s at rest r

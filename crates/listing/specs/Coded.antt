@@ -44,7 +44,7 @@ module _ (P : Scope) (plain : Plain P) where
   pub shaped : Shaped 0 P
   shaped = record { now_arity = λ f h. ap (λ (a : ℕ → ℕ). a f) plain.one_parameter ∙ sym (one_parameter f); before_arity = λ f h. ap (λ (a : ℕ → ℕ). a f) plain.one_parameter ∙ sym (one_parameter f) }
 
-  arguments_fit : (xs : List ℕ) → All (λ x. x < 64) xs → All (λ v. v ≤ P.top) xs
+  arguments_fit : (xs : List ℕ) → All (λ x. x < 64) xs → All (λ v. v ≤ P.edition.top) xs
   arguments_fit [] h = tt
   arguments_fit (x ∷ xs) h = (omega (arith, plain.largest, h.0), arguments_fit xs h.1)
 

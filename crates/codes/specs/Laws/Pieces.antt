@@ -106,7 +106,7 @@ unfolding arguments_words data_words
 constants_spelled w [] = refl
 constants_spelled w (v ∷ vs) = ap (λ l. 1 ∷ (number_words w v ++ l)) (constants_spelled w vs)
 
-constants_fit : (P : Scope) (vs : List ℕ) → All (λ v. v ≤ P.top) vs → All (piece_fits P) (constants vs)
+constants_fit : (P : Scope) (vs : List ℕ) → All (λ v. v ≤ P.edition.top) vs → All (piece_fits P) (constants vs)
 constants_fit P [] h = tt
 constants_fit P (v ∷ vs) h = (h.0, constants_fit P vs h.1)
 

@@ -73,10 +73,10 @@ module _ (A : Attributes) where
 -- Two environments that differ only in what now reads, and not where the expression reads it.
 module _ (A : Attributes) (P : Scope) (xs : List ℕ) (now now' before : Reading) (alike : (g : ℕ) → g < P.now → (vs : List Value) → now g vs ≡ now' g vs) where
   abbrev e : Environment
-  e = environment A.top xs now before
+  e = environment A.edition.top xs now before
 
   abbrev e' : Environment
-  e' = environment A.top xs now' before
+  e' = environment A.edition.top xs now' before
 
   mutual
     unfolding evaluate_data
@@ -85,7 +85,7 @@ module _ (A : Attributes) (P : Scope) (xs : List ℕ) (now now' before : Reading
     data_cong Undefined w = refl
     data_cong (Constant n) w = refl
     data_cong (Variable n) w = refl
-    data_cong (Add a b) w = λ j. add A.top (data_cong a w.0 j) (data_cong b w.1 j)
+    data_cong (Add a b) w = λ j. add A.edition.top (data_cong a w.0 j) (data_cong b w.1 j)
     data_cong (Subtract a b) w = λ j. subtract (data_cong a w.0 j) (data_cong b w.1 j)
     data_cong (If c a b) w = λ j. cond (cond_in_cong c w.0 j) (data_cong a w.1 j) (data_cong b w.2 j)
     data_cong (Now f rs) w = ap (now f) (args_cong rs (P.arity f) w.1) ∙ alike f w.0 (evaluate_args rs e')
@@ -104,7 +104,7 @@ module _ (A : Attributes) (P : Scope) (xs : List ℕ) (now now' before : Reading
     cond_in_cong True w = refl
 
 -- A guard is evaluated as the functions' expressions are: the same largest number, no variables, nothing before.
-pub guard_evaluated : (A : Attributes) (now : Reading) (C : Cond) → guard_holds A now C ≡ evaluate_cond C (environment A.top [] now no_reading)
+pub guard_evaluated : (A : Attributes) (now : Reading) (C : Cond) → guard_holds A now C ≡ evaluate_cond C (environment A.edition.top [] now no_reading)
 unfolding guard_holds
 guard_evaluated A now C = refl
 
@@ -115,14 +115,14 @@ before_is A a H f vs = refl
 
 module _ (A : Attributes) (arity : ℕ → ℕ) (scoped : ExpressionsInScope A arity) (f : ℕ) (defined : f < number_of_functions A) (xs : List ℕ) where
   -- A function's value over T is its empty-trace expression if T is empty, now reading values over T;
-  pub value_empty : attribute_value A [] f xs ≡ evaluate_data (function A f).at_start (environment A.top xs (value_at A []) no_reading)
+  pub value_empty : attribute_value A [] f xs ≡ evaluate_data (function A f).at_start (environment A.edition.top xs (value_at A []) no_reading)
   unfolding attribute_value evaluate value_at before_values
   value_empty = data_cong A (start_scope A f) xs (now_below A none no_reading f) (value_at A []) no_reading
       (λ g h vs. now_below_is A none no_reading f g h vs) (function A f).at_start (scoped.at_start f defined)
 
   -- else its expression for T's last label, now reading values over T, before values over T without its last action.
   pub value_last : (a : VisibleAction) (H : Trace) → attribute_value A (a ∷ H) f xs
-      ≡ evaluate_data (get_or (function A f).at_label a.label Undefined) (environment A.top (xs ++ a.arguments) (value_at A (a ∷ H)) (value_at A H))
+      ≡ evaluate_data (get_or (function A f).at_label a.label Undefined) (environment A.edition.top (xs ++ a.arguments) (value_at A (a ∷ H)) (value_at A H))
   unfolding attribute_value evaluate value_at before_values
   value_last a H = data_cong A (label_scope A f (arity a.label)) (xs ++ a.arguments) (now_below A (some a) (value_at A H) f) (value_at A (a ∷ H)) (value_at A H)
       (λ g h vs. now_below_is A (some a) (value_at A H) f g h vs) (get_or (function A f).at_label a.label Undefined) (scoped.at_label f a.label defined)
@@ -160,59 +160,59 @@ apply_at_most top (n ∷ ns) h b (number x ∷ vs) = go (ltb x n) (λ t. apply_a
     go true r = r tt
     go false r = tt
 
-data_at_most : (P : Scope) (xs : List ℕ) (now before : Reading) → AllAtMost P.top xs → ReadingAtMost P.top now → ReadingAtMost P.top before
-    → (a : Data) → DataInScope a P → AtMost P.top (evaluate_data a (environment P.top xs now before))
+data_at_most : (P : Scope) (xs : List ℕ) (now before : Reading) → AllAtMost P.edition.top xs → ReadingAtMost P.edition.top now → ReadingAtMost P.edition.top before
+    → (a : Data) → DataInScope a P → AtMost P.edition.top (evaluate_data a (environment P.edition.top xs now before))
 unfolding evaluate_data
 data_at_most P xs now before h n b Undefined w = tt
 data_at_most P xs now before h n b (Constant v) w = w
-data_at_most P xs now before h n b (Variable i) w = variables_at_most P.top xs h i
-data_at_most P xs now before h n b (Add x y) w = add_at_most P.top _ _
-data_at_most P xs now before h n b (Subtract x y) w = subtract_at_most P.top _ _ (data_at_most P xs now before h n b x w.0)
+data_at_most P xs now before h n b (Variable i) w = variables_at_most P.edition.top xs h i
+data_at_most P xs now before h n b (Add x y) w = add_at_most P.edition.top _ _
+data_at_most P xs now before h n b (Subtract x y) w = subtract_at_most P.edition.top _ _ (data_at_most P xs now before h n b x w.0)
 data_at_most P xs now before h n b (If c x y) w =
-    cond_at_most P.top (evaluate_cond c (environment P.top xs now before)) _ _ (data_at_most P xs now before h n b x w.1) (data_at_most P xs now before h n b y w.2)
+    cond_at_most P.edition.top (evaluate_cond c (environment P.edition.top xs now before)) _ _ (data_at_most P xs now before h n b x w.1) (data_at_most P xs now before h n b y w.2)
 data_at_most P xs now before h n b (Now f rs) w = n f _
 data_at_most P xs now before h n b (Before f rs) w = b f _
 
 -- If constants and arguments are at most the largest number, so is every attribute value.
-module _ (A : Attributes) (arity : ℕ → ℕ) (scoped : ExpressionsInScope A arity) (small : (f : ℕ) (xs : List ℕ) → Within (domain A f) xs → AllAtMost A.top xs) where
+module _ (A : Attributes) (arity : ℕ → ℕ) (scoped : ExpressionsInScope A arity) (small : (f : ℕ) (xs : List ℕ) → Within (domain A f) xs → AllAtMost A.edition.top xs) where
   abbrev pub ActionAtMost : Option VisibleAction → Type 0
   ActionAtMost none = Unit
-  ActionAtMost (some a) = AllAtMost A.top a.arguments
+  ActionAtMost (some a) = AllAtMost A.edition.top a.arguments
 
-  pub evaluate_at_most : (o : Option VisibleAction) (now before : Reading) → ActionAtMost o → ReadingAtMost A.top now → ReadingAtMost A.top before
-      → (f : ℕ) → f < number_of_functions A → (xs : List ℕ) → AllAtMost A.top xs → AtMost A.top (evaluate A o now before f xs)
+  pub evaluate_at_most : (o : Option VisibleAction) (now before : Reading) → ActionAtMost o → ReadingAtMost A.edition.top now → ReadingAtMost A.edition.top before
+      → (f : ℕ) → f < number_of_functions A → (xs : List ℕ) → AllAtMost A.edition.top xs → AtMost A.edition.top (evaluate A o now before f xs)
   unfolding evaluate
   evaluate_at_most none now before u n b f d xs h = data_at_most (start_scope A f) xs now before h n b (function A f).at_start (scoped.at_start f d)
   evaluate_at_most (some a) now before u n b f d xs h =
-      data_at_most (label_scope A f (arity a.label)) (xs ++ a.arguments) now before (append_at_most A.top xs a.arguments h u) n b
+      data_at_most (label_scope A f (arity a.label)) (xs ++ a.arguments) now before (append_at_most A.edition.top xs a.arguments h u) n b
       (get_or (function A f).at_label a.label Undefined) (scoped.at_label f a.label d)
 
-  applied_at_most : (o : Option VisibleAction) (now before : Reading) → ActionAtMost o → ReadingAtMost A.top now → ReadingAtMost A.top before
-      → (f : ℕ) (vs : List Value) → AtMost A.top (apply_in_domain (domain A f) (evaluate A o now before f) vs)
+  applied_at_most : (o : Option VisibleAction) (now before : Reading) → ActionAtMost o → ReadingAtMost A.edition.top now → ReadingAtMost A.edition.top before
+      → (f : ℕ) (vs : List Value) → AtMost A.edition.top (apply_in_domain (domain A f) (evaluate A o now before f) vs)
   applied_at_most o now before u n b f vs = go (dec_lt f (number_of_functions A))
     where
-      go : Dec (f < number_of_functions A) → AtMost A.top (apply_in_domain (domain A f) (evaluate A o now before f) vs)
-      go (yes d) = apply_at_most A.top (domain A f) _ (λ xs w. evaluate_at_most o now before u n b f d xs (small f xs w)) vs
-      go (no d) = subst (AtMost A.top) (sym (ap (λ ns. apply_in_domain ns (evaluate A o now before f) vs) (no_domain_beyond A f (omega arith)) ∙ apply_empty_domain _ vs)) tt
+      go : Dec (f < number_of_functions A) → AtMost A.edition.top (apply_in_domain (domain A f) (evaluate A o now before f) vs)
+      go (yes d) = apply_at_most A.edition.top (domain A f) _ (λ xs w. evaluate_at_most o now before u n b f d xs (small f xs w)) vs
+      go (no d) = subst (AtMost A.edition.top) (sym (ap (λ ns. apply_in_domain ns (evaluate A o now before f) vs) (no_domain_beyond A f (omega arith)) ∙ apply_empty_domain _ vs)) tt
 
-  now_at_most : (o : Option VisibleAction) (before : Reading) → ActionAtMost o → ReadingAtMost A.top before → (i : ℕ) → ReadingAtMost A.top (now_below A o before i)
+  now_at_most : (o : Option VisibleAction) (before : Reading) → ActionAtMost o → ReadingAtMost A.edition.top before → (i : ℕ) → ReadingAtMost A.edition.top (now_below A o before i)
   unfolding now_below
   now_at_most o before u b zero g vs = tt
   now_at_most o before u b (suc i) g vs =
-      cond_at_most A.top (eqb g i) _ _ (applied_at_most o (now_below A o before i) before u (now_at_most o before u b i) b i vs) (now_at_most o before u b i g vs)
+      cond_at_most A.edition.top (eqb g i) _ _ (applied_at_most o (now_below A o before i) before u (now_at_most o before u b i) b i vs) (now_at_most o before u b i g vs)
 
-  last_at_most : (H : Trace) → TraceAtMost A.top H → ActionAtMost (last_action H)
+  last_at_most : (H : Trace) → TraceAtMost A.edition.top H → ActionAtMost (last_action H)
   last_at_most [] h = tt
   last_at_most (a ∷ H) h = h.0
 
-  before_at_most : (H : Trace) → TraceAtMost A.top H → ReadingAtMost A.top (before_values A H)
+  before_at_most : (H : Trace) → TraceAtMost A.edition.top H → ReadingAtMost A.edition.top (before_values A H)
   unfolding before_values
   before_at_most [] h g vs = tt
   before_at_most (a ∷ H) h g vs =
       let b = before_at_most H h.1 in
       applied_at_most (last_action H) _ (before_values A H) (last_at_most H h.1) (now_at_most (last_action H) (before_values A H) (last_at_most H h.1) b g) b g vs
 
-  pub value_at_most : (H : Trace) → TraceAtMost A.top H → (f : ℕ) → f < number_of_functions A → (xs : List ℕ) → Within (domain A f) xs → AtMost A.top (attribute_value A H f xs)
+  pub value_at_most : (H : Trace) → TraceAtMost A.edition.top H → (f : ℕ) → f < number_of_functions A → (xs : List ℕ) → Within (domain A f) xs → AtMost A.edition.top (attribute_value A H f xs)
   unfolding attribute_value
   value_at_most H h f d xs w =
       let b = before_at_most H h in

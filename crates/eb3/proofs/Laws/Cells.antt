@@ -186,12 +186,12 @@ cells_counted A M a = (length_cells A none no_reading (number_of_functions A), l
 -- Document 01: at start the empty-trace expressions fill the cells; a visible action computes all anew, now reading new cells, before old ones.
 module _ (A : Attributes) (arity : ℕ → ℕ) (scoped : ExpressionsInScope A arity) (f : ℕ) (defined : f < number_of_functions A) (xs : List ℕ) (w : Within (domain A f) xs) where
   pub start_cell : get_or (initial_cells A) (offset A f + cell_index (domain A f) xs) undefined
-      ≡ evaluate_data (function A f).at_start (environment A.top xs (cell_at A (initial_cells A)) no_reading)
+      ≡ evaluate_data (function A f).at_start (environment A.edition.top xs (cell_at A (initial_cells A)) no_reading)
   unfolding initial_cells evaluate
   start_cell = finished_cell A none no_reading (number_of_functions A) f xs defined w (start_scope A f) (omega arith) (scoped.at_start f defined)
 
   pub renewed_cell : (cells : List Value) (a : VisibleAction) → get_or (renew A cells a) (offset A f + cell_index (domain A f) xs) undefined
-      ≡ evaluate_data (get_or (function A f).at_label a.label Undefined) (environment A.top (xs ++ a.arguments) (cell_at A (renew A cells a)) (cell_at A cells))
+      ≡ evaluate_data (get_or (function A f).at_label a.label Undefined) (environment A.edition.top (xs ++ a.arguments) (cell_at A (renew A cells a)) (cell_at A cells))
   unfolding renew evaluate
   renewed_cell cells a =
       finished_cell A (some a) (cell_at A cells) (number_of_functions A) f xs defined w (label_scope A f (arity a.label)) (omega arith) (scoped.at_label f a.label defined)
@@ -218,35 +218,35 @@ unfolding tabulate
 tabulate_at_most top [] h b = (b [] tt, tt)
 tabulate_at_most top (n ∷ ns) h b = concat_tabulate_at_most top n _ (λ x l. tabulate_at_most top ns (λ xs. h (x ∷ xs)) (λ xs w. b (x ∷ xs) (l, w)))
 
-module _ (A : Attributes) (arity : ℕ → ℕ) (scoped : ExpressionsInScope A arity) (small : (f : ℕ) (xs : List ℕ) → Within (domain A f) xs → AllAtMost A.top xs) where
-  up_to_at_most : (H : Trace) → TraceAtMost A.top H → (i : ℕ) → i ≤ number_of_functions A → ValuesAtMost A.top (values_up_to A H i)
+module _ (A : Attributes) (arity : ℕ → ℕ) (scoped : ExpressionsInScope A arity) (small : (f : ℕ) (xs : List ℕ) → Within (domain A f) xs → AllAtMost A.edition.top xs) where
+  up_to_at_most : (H : Trace) → TraceAtMost A.edition.top H → (i : ℕ) → i ≤ number_of_functions A → ValuesAtMost A.edition.top (values_up_to A H i)
   unfolding values_up_to
   up_to_at_most H h zero l = tt
-  up_to_at_most H h (suc i) l = values_append A.top (values_up_to A H i) _ (up_to_at_most H h i (omega arith))
-      (tabulate_at_most A.top (domain A i) (attribute_value A H i) (λ xs w. value_at_most A arity scoped small H h i l xs w))
+  up_to_at_most H h (suc i) l = values_append A.edition.top (values_up_to A H i) _ (up_to_at_most H h i (omega arith))
+      (tabulate_at_most A.edition.top (domain A i) (attribute_value A H i) (λ xs w. value_at_most A arity scoped small H h i l xs w))
 
-  pub values_at_most : (H : Trace) → TraceAtMost A.top H → ValuesAtMost A.top (all_values A H)
+  pub values_at_most : (H : Trace) → TraceAtMost A.edition.top H → ValuesAtMost A.edition.top (all_values A H)
   values_at_most H h = up_to_at_most H h (number_of_functions A) (omega arith)
 
   -- The same of cells renewed from any cells: Move's memory need not come from a run.
-  getD_at_most : (cells : List Value) → ValuesAtMost A.top cells → (k : ℕ) → AtMost A.top (get_or cells k undefined)
+  getD_at_most : (cells : List Value) → ValuesAtMost A.edition.top cells → (k : ℕ) → AtMost A.edition.top (get_or cells k undefined)
   getD_at_most [] h k = tt
   getD_at_most (v ∷ vs) h zero = h.0
   getD_at_most (v ∷ vs) h (suc k) = getD_at_most vs h.1 k
 
-  cell_at_most : (cells : List Value) → ValuesAtMost A.top cells → ReadingAtMost A.top (cell_at A cells)
+  cell_at_most : (cells : List Value) → ValuesAtMost A.edition.top cells → ReadingAtMost A.edition.top (cell_at A cells)
   unfolding cell_at
-  cell_at_most cells h f vs = apply_at_most A.top (domain A f) _ (λ xs w. getD_at_most cells h (offset A f + cell_index (domain A f) xs)) vs
+  cell_at_most cells h f vs = apply_at_most A.edition.top (domain A f) _ (λ xs w. getD_at_most cells h (offset A f + cell_index (domain A f) xs)) vs
 
-  cells_at_most : (o : Option VisibleAction) (before : Reading) → ActionAtMost A arity scoped small o → ReadingAtMost A.top before
-      → (i : ℕ) → i ≤ number_of_functions A → ValuesAtMost A.top (cells_up_to A o before i)
+  cells_at_most : (o : Option VisibleAction) (before : Reading) → ActionAtMost A arity scoped small o → ReadingAtMost A.edition.top before
+      → (i : ℕ) → i ≤ number_of_functions A → ValuesAtMost A.edition.top (cells_up_to A o before i)
   unfolding cells_up_to
   cells_at_most o before u b zero l = tt
   cells_at_most o before u b (suc i) l =
-      let h : ValuesAtMost A.top (cells_up_to A o before i) = cells_at_most o before u b i (omega arith) in
-      values_append A.top (cells_up_to A o before i) _ h
-      (tabulate_at_most A.top (domain A i) _ (λ xs w. evaluate_at_most A arity scoped small o _ before u (cell_at_most (cells_up_to A o before i) h) b i l xs (small i xs w)))
+      let h : ValuesAtMost A.edition.top (cells_up_to A o before i) = cells_at_most o before u b i (omega arith) in
+      values_append A.edition.top (cells_up_to A o before i) _ h
+      (tabulate_at_most A.edition.top (domain A i) _ (λ xs w. evaluate_at_most A arity scoped small o _ before u (cell_at_most (cells_up_to A o before i) h) b i l xs (small i xs w)))
 
-  pub renew_at_most : (cells : List Value) (a : VisibleAction) → ValuesAtMost A.top cells → AllAtMost A.top a.arguments → ValuesAtMost A.top (renew A cells a)
+  pub renew_at_most : (cells : List Value) (a : VisibleAction) → ValuesAtMost A.edition.top cells → AllAtMost A.edition.top a.arguments → ValuesAtMost A.edition.top (renew A cells a)
   unfolding renew
   renew_at_most cells a h u = cells_at_most (some a) (cell_at A cells) u (cell_at_most cells h) (number_of_functions A) (omega arith)

@@ -29,9 +29,9 @@ module _ (w : ℕ) (P : Scope) where
   abbrev ArgsScope : ℕ → Args → Type 0
   ArgsScope n rs = ArgsInScope rs P n
 
-  constant_sound : Sounds (number_words w) (λ v. v ≤ P.top) (constant_of w P.top)
+  constant_sound : Sounds (number_words w) (λ v. v ≤ P.edition.top) (constant_of w P.edition.top)
   unfolding constant_of
-  constant_sound t = judged_sound w (λ v. leb v P.top) (λ v. v ≤ P.top) Refusal.form [] (λ v. leb→le v P.top) t
+  constant_sound t = judged_sound w (λ v. leb v P.edition.top) (λ v. v ≤ P.edition.top) Refusal.form [] (λ v. leb→le v P.edition.top) t
 
   args_sound : (d : Reader Data) → Sounds (data_words w) DataScope d → (n : ℕ) → Sounds (args_words w) (ArgsScope n) (args_of d n)
   unfolding args_of args_words
@@ -65,7 +65,7 @@ module _ (w : ℕ) (P : Scope) where
     unfolding data_words
     data_at n =
         by_code DataAt n 0 _ _ (refl, tt)
-        (by_code DataAt n 1 _ _ (giving_sound (number_words w) (λ v. v ≤ P.top) (data_words w) DataScope (1 ∷ []) t Constant (constant_of w P.top t) (λ v. refl) (λ v h. h) (constant_sound t))
+        (by_code DataAt n 1 _ _ (giving_sound (number_words w) (λ v. v ≤ P.edition.top) (data_words w) DataScope (1 ∷ []) t Constant (constant_of w P.edition.top t) (λ v. refl) (λ v h. h) (constant_sound t))
         (by_code DataAt n 2 _ _ (giving_sound one_word (λ i. i < P.variables) (data_words w) DataScope (2 ∷ []) t Variable (number_of Refusal.reference P.variables t) (λ i. refl) (λ i h. h) (number_sound Refusal.reference P.variables t))
         (by_code DataAt n 3 _ _ (pair_at 3 Add (λ a b. refl) (λ a b p q. (p, q)))
         (by_code DataAt n 4 _ _ (pair_at 4 Subtract (λ a b. refl) (λ a b p q. (p, q)))
@@ -147,9 +147,9 @@ module _ (w : ℕ) (positive : 1 ≤ w) (P : Scope) where
   abbrev CondTo : ℕ → Cond → Type 0
   CondTo n c = CondInScope c P × (cond_size w c ≤ n)
 
-  constant_takes : Takes (number_words w) (λ v. v ≤ P.top) (constant_of w P.top)
+  constant_takes : Takes (number_words w) (λ v. v ≤ P.edition.top) (constant_of w P.edition.top)
   unfolding constant_of
-  constant_takes = judged_takes w (λ v. leb v P.top) (λ v. v ≤ P.top) Refusal.form positive (λ v. le→leb v P.top)
+  constant_takes = judged_takes w (λ v. leb v P.edition.top) (λ v. v ≤ P.edition.top) Refusal.form positive (λ v. le→leb v P.edition.top)
 
   args_takes : (n : ℕ) (d : Reader Data) → Takes (data_words w) (DataTo n) d → (k : ℕ) → Takes (args_words w) (ArgsTo n k) (args_of d k)
   unfolding args_of args_words args_size

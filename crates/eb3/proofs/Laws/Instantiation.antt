@@ -47,6 +47,6 @@ module _ (P : Scope) (σ : Valuation) (all : P.variables ≤ length σ) (top : �
     cond_instance True w = refl
 
 pub guard_instance : (A : Attributes) (now : Reading) (σ : Valuation) (C : Cond) → CondInScope C (guard_scope A (length σ))
-    → guard_holds A now (instantiate_cond C σ) ≡ evaluate_cond C (environment A.top σ now no_reading)
+    → guard_holds A now (instantiate_cond C σ) ≡ evaluate_cond C (environment A.edition.top σ now no_reading)
 unfolding guard_holds
-guard_instance A now σ C w = cond_instance (guard_scope A (length σ)) σ (omega arith) A.top now no_reading C w
+guard_instance A now σ C w = cond_instance (guard_scope A (length σ)) σ (omega arith) A.edition.top now no_reading C w

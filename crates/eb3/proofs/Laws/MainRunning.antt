@@ -18,9 +18,9 @@ use Rattle.eb3.specs.WellFormedness.{WellFormedTerm, Running, Allowed, Form, Wel
 use Rattle.eb3.proofs.Laws.Editions.{form_proper}
 
 -- With constants for its variables, a guard's condition needs none.
-module _ (P : Scope) (σ : Valuation) (small : (i : ℕ) → i < P.variables → get_or σ i 0 ≤ P.top) where
+module _ (P : Scope) (σ : Valuation) (small : (i : ℕ) → i < P.variables → get_or σ i 0 ≤ P.edition.top) where
   abbrev closed_scope : Scope
-  closed_scope = record { top = P.top; arity = P.arity; now = P.now; before = P.before; variables = 0 }
+  closed_scope = record { edition = P.edition; arity = P.arity; now = P.now; before = P.before; variables = 0 }
 
   mutual
     unfolding instantiate_cond

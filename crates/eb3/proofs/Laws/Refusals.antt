@@ -126,7 +126,7 @@ constant_refuses w top t = then_refuses _ (λ v u. picked Refuses (leb v top) (t
 module _ (w : ℕ) (P : Scope) (e : Readers) (d : AllRefuse e.datum) (c : AllRefuse e.condition) where
   data_by_refuses : (k : DataKind) → AllRefuse (data_by w P e k)
   data_by_refuses DataKind.undefined t = tt
-  data_by_refuses DataKind.constant t = giving_refuses _ (constant_of w P.top t) (constant_refuses w P.top t)
+  data_by_refuses DataKind.constant t = giving_refuses _ (constant_of w P.edition.top t) (constant_refuses w P.edition.top t)
   data_by_refuses DataKind.variable t = giving_refuses _ (number_of Refusal.reference P.variables t) (number_refuses Refusal.reference P.variables by_reference t)
   data_by_refuses (DataKind.pair k) t = giving_refuses _ (both e.datum e.datum t) (both_refuses e.datum e.datum d d t)
   data_by_refuses DataKind.select t = giving_refuses _ (both e.condition (both e.datum e.datum) t) (both_refuses e.condition (both e.datum e.datum) c (both_refuses e.datum e.datum d d) t)

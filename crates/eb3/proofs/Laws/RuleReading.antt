@@ -139,10 +139,10 @@ module _ (R : RuleSet) (counts : List ℕ) (counted : length counts ≡ length R
   arities_are = fun_ext arity_is
 
   start_scope_is : (f : ℕ) → at_start_scope R.edition counts f ≡ start_scope (attributes R) f
-  start_scope_is f = λ i. record { top = R.edition.top; arity = arities_are i; now = f; before = 0; variables = arities_are i f }
+  start_scope_is f = λ i. record { edition = R.edition; arity = arities_are i; now = f; before = 0; variables = arities_are i f }
 
   label_scope_is : (f n : ℕ) → at_label_scope R.edition counts f n ≡ label_scope (attributes R) f n
-  label_scope_is f n = λ i. record { top = R.edition.top; arity = arities_are i; now = f; before = (counted ∙ sym (functions_counted R)) i; variables = arities_are i f + n }
+  label_scope_is f n = λ i. record { edition = R.edition; arity = arities_are i; now = f; before = (counted ∙ sym (functions_counted R)) i; variables = arities_are i f + n }
 
   function_fits : (f : ℕ) → f < length R.functions → (1 ≤ count_for counts f) × (count_for counts f ≤ R.edition.function_parameters) → FunctionFits R f
   function_fits f l c = record {

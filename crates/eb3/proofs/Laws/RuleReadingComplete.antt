@@ -256,12 +256,12 @@ module _ (L : Edition) (domains : List ℕ) (labels : List (List ℕ)) (function
           go (no h) = ap length (no_domain_beyond A f (omega (arith, functions_counted (rules all)))) ∙ sym (get_or-eq_default counts 1 (omega (arith, counts_counted)))
 
       start_scope_is : (f : ℕ) → start_scope A f ≡ at_start_scope L counts f
-      start_scope_is f = λ i. record { top = L.top; arity = λ g. arity_is g i; now = f; before = 0; variables = arity_is f i }
+      start_scope_is f = λ i. record { edition = L; arity = λ g. arity_is g i; now = f; before = 0; variables = arity_is f i }
 
       label_scope_is : (f n : ℕ) → label_scope A f n ≡ at_label_scope L counts f n
       label_scope_is f n =
           let b : number_of_functions A ≡ length counts = functions_counted (rules all) ∙ sym counts_counted in
-          λ i. record { top = L.top; arity = λ g. arity_is g i; now = f; before = b i; variables = arity_is f i + n }
+          λ i. record { edition = L; arity = λ g. arity_is g i; now = f; before = b i; variables = arity_is f i + n }
 
       -- What function f has to be for its reader.
       abbrev Parameters : ℕ → List ℕ → Type 0

@@ -251,7 +251,7 @@ module _ (L : Edition) (one : 1 ≤ L.function_parameters) where
       same_scope ps qs m =
           let R : RuleSet = rules L domains labels Fs ps counts qs in
           let a : count_for counts ≡ arities (attributes R) = arities_are R counts c.0 c.1 in
-          λ i. record { top = L.top; arity = a i; now = (c.0 ∙ sym (functions_counted R)) i; before = 0; variables = m }
+          λ i. record { edition = L; arity = a i; now = (c.0 ∙ sym (functions_counted R)) i; before = 0; variables = m }
 
       abbrev heads : List Process → List (List ℕ)
       heads ps = map (λ (P : Process). P.parameters) ps

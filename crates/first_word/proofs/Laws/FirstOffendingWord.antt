@@ -149,11 +149,11 @@ module _ {A : Type 0} (L : Edition) (D : Declared) (due : ℕ → List ℕ → D
 -- ── data expressions and conditions ──
 
 module _ (L : Edition) (D : Declared) (P : Scope) where
-  constant_follows : (n : ℕ) → Follows L D n (constant_of L.width P.top) (λ gs. constant P.top L.width [] ∷ gs)
+  constant_follows : (n : ℕ) → Follows L D n (constant_of L.width P.edition.top) (λ gs. constant P.edition.top L.width [] ∷ gs)
   unfolding constant_of verdict judge followed
-  constant_follows n = number_follows_in L D (constant P.top) (λ v x. pick (leb v P.top) x (some Refusal.form)) (λ v u. pick (leb v P.top) (taken v u) (refused Refusal.form))
+  constant_follows n = number_follows_in L D (constant P.edition.top) (λ v x. pick (leb v P.edition.top) x (some Refusal.form)) (λ v u. pick (leb v P.edition.top) (taken v u) (refused Refusal.form))
       (λ allowed_zeros vs w t gs. refl) (λ allowed_zeros vs w t gs. refl) (λ allowed_zeros m vs w t gs. refl)
-      (λ v u g x h. ap (λ y. pick (leb v P.top) y (some Refusal.form)) (h v) ∙ sym (followed_pick (leb v P.top) (taken v u) (refused Refusal.form) g)) L.width n
+      (λ v u g x h. ap (λ y. pick (leb v P.edition.top) y (some Refusal.form)) (h v) ∙ sym (followed_pick (leb v P.edition.top) (taken v u) (refused Refusal.form) g)) L.width n
 
   module _ (n : ℕ) (e : Readers) (d : Follows L D n e.datum (λ gs. data_code P ∷ gs)) (c : Follows L D n e.condition (λ gs. condition_code P ∷ gs)) where
     args_follow : (k : ℕ) → Follows L D n (args_of e.datum k) (λ gs. replicate k (data_code P) ++ gs)
@@ -185,7 +185,7 @@ module _ (L : Edition) (D : Declared) (P : Scope) where
       unfolding coded followed verdict judge
       data_at g h w =
           alike Q (eqb w 0) _ _ _ _ (h Undefined t l)
-          (alike Q (eqb w 1) _ _ _ _ (giving_follows L D n Constant (constant_of L.width P.top) (λ gs. constant P.top L.width [] ∷ gs) (constant_follows n) allowed_zeros gs g t l h)
+          (alike Q (eqb w 1) _ _ _ _ (giving_follows L D n Constant (constant_of L.width P.edition.top) (λ gs. constant P.edition.top L.width [] ∷ gs) (constant_follows n) allowed_zeros gs g t l h)
           (alike Q (eqb w 2) _ _ _ _ (giving_follows L D n Variable (number_of Refusal.reference P.variables) (λ gs. variable_number P ∷ gs) (number_follows L D n P.variables (variable_number P) (λ allowed_zeros w t gs. refl)) allowed_zeros gs g t l h)
           (alike Q (eqb w 3) _ _ _ _ (two_data Add allowed_zeros gs g t l h)
           (alike Q (eqb w 4) _ _ _ _ (two_data Subtract allowed_zeros gs g t l h)

@@ -43,7 +43,7 @@ same_scope : (R : RuleSet) (n : ℕ) → guard_scope R.edition (declared_by R) n
 same_scope R n =
     let a : parameters_of (declared_by R) ≡ arities (attributes R) = counts_are R in
     let c : length (declared_by R).functions ≡ number_of_functions (attributes R) = length-map R.functions (λ (F : Function). length F.parameters) ∙ sym (length-map R.functions (attribute_function R)) in
-    λ i. record { top = R.edition.top; arity = a i; now = c i; before = 0; variables = n }
+    λ i. record { edition = R.edition; arity = a i; now = c i; before = 0; variables = n }
 
 module _ (R : RuleSet) where
   abbrev L : Edition
