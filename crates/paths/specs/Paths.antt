@@ -90,22 +90,24 @@ path_by n l r nowhere = []
 abbrev pub path_in_turn : ℕ → ℕ → ℕ → (ℕ → List ℕ) → (ℕ → List ℕ) → ℕ → List ℕ
 path_in_turn c n m l r k = pick (ltb k m) (c ∷ l k) ((c + 1) ∷ n ∷ r (k - m))
 
--- Of the k-th move that shows below masks that hide the labels of x. At a parallel whose mask hides more, and one of whose sides can never move, the other
--- side's moves are those that show below that mask too.
-unfoldable pub path : ℕ → (Cond → Bool) → Term → ℕ → List ℕ
-path x g Done k = []
-path x g Internal k = []
-path x g (Perform a) k = []
-path x g (Sequence E F) k = cond (done? E) (path x g F k) (path x g E k)
-path x g (Choice E F) k = path_in_turn 0 (size 1 E) (length (shown x g E)) (path x g E) (path x g F) k
-path x g (Star E) k = pick (eqb k 0) (0 ∷ []) (1 ∷ path x g E (k - 1))
-path x g (Parallel Δ E F) k =
-    cond (done? E && done? F) (0 ∷ [])
-    (cond (has_all x (mask_set Δ)) (path_in_turn 1 (size 1 E) (length (shown x g E)) (path x g E) (path x g F) k)
-    (cond (idle E) (2 ∷ size 1 E ∷ path (bit_or x (mask_set Δ)) g F k)
-    (cond (idle F) (1 ∷ path (bit_or x (mask_set Δ)) g E k)
-    (path_by (size 1 E) (path 0 g E) (path 0 g F) (locate (alone x (mask_set Δ)) (paired x (mask_set Δ)) (numbers g E) (numbers g F) k)))))
-path x g (Guard C E) k = path x g E k
+-- A constant has `width` words; sizes are counted in words.
+module _ (width : ℕ) where
+  -- Of the k-th move that shows below masks that hide the labels of x. At a parallel whose mask hides more, and one of whose sides can never move, the other
+  -- side's moves are those that show below that mask too.
+  unfoldable pub path : ℕ → (Cond → Bool) → Term → ℕ → List ℕ
+  path x g Done k = []
+  path x g Internal k = []
+  path x g (Perform a) k = []
+  path x g (Sequence E F) k = cond (done? E) (path x g F k) (path x g E k)
+  path x g (Choice E F) k = path_in_turn 0 (size width E) (length (shown x g E)) (path x g E) (path x g F) k
+  path x g (Star E) k = pick (eqb k 0) (0 ∷ []) (1 ∷ path x g E (k - 1))
+  path x g (Parallel Δ E F) k =
+      cond (done? E && done? F) (0 ∷ [])
+      (cond (has_all x (mask_set Δ)) (path_in_turn 1 (size width E) (length (shown x g E)) (path x g E) (path x g F) k)
+      (cond (idle E) (2 ∷ size width E ∷ path (bit_or x (mask_set Δ)) g F k)
+      (cond (idle F) (1 ∷ path (bit_or x (mask_set Δ)) g E k)
+      (path_by (size width E) (path 0 g E) (path 0 g F) (locate (alone x (mask_set Δ)) (paired x (mask_set Δ)) (numbers g E) (numbers g F) k)))))
+  path x g (Guard C E) k = path x g E k
 
 -- ── where a path leads ──
 
@@ -139,17 +141,18 @@ follow (Parallel Δ E F) p =
     (followed (follow E (drop 2 p)).action (Parallel Δ (follow E (drop 2 p)).successor (follow F (follow E (drop 2 p)).rest).successor) (follow F (follow E (drop 2 p)).rest).rest)))
 follow (Guard C E) p = follow E p
 
--- Each size on the way is the left operand's.
-unfoldable pub marked : Term → List ℕ → Bool
-marked Done p = true
-marked Internal p = true
-marked (Perform a) p = true
-marked (Sequence E F) p = cond (done? E) (marked F p) (marked E p)
-marked (Choice E F) p = pick (eqb (decision p) 0) (marked E (drop 1 p)) (eqb (get_or p 1 0) (size 1 E) && marked F (drop 2 p))
-marked (Star E) p = pick (eqb (decision p) 0) true (marked E (drop 1 p))
-marked (Parallel Δ E F) p =
-    pick (eqb (decision p) 0) true
-    (pick (eqb (decision p) 1) (marked E (drop 1 p))
-    (pick (eqb (decision p) 2) (eqb (get_or p 1 0) (size 1 E) && marked F (drop 2 p))
-    (eqb (get_or p 1 0) (size 1 E) && (marked E (drop 2 p) && marked F (follow E (drop 2 p)).rest))))
-marked (Guard C E) p = marked E p
+module _ (width : ℕ) where
+  -- Each size on the way is the left operand's.
+  unfoldable pub marked : Term → List ℕ → Bool
+  marked Done p = true
+  marked Internal p = true
+  marked (Perform a) p = true
+  marked (Sequence E F) p = cond (done? E) (marked F p) (marked E p)
+  marked (Choice E F) p = pick (eqb (decision p) 0) (marked E (drop 1 p)) (eqb (get_or p 1 0) (size width E) && marked F (drop 2 p))
+  marked (Star E) p = pick (eqb (decision p) 0) true (marked E (drop 1 p))
+  marked (Parallel Δ E F) p =
+      pick (eqb (decision p) 0) true
+      (pick (eqb (decision p) 1) (marked E (drop 1 p))
+      (pick (eqb (decision p) 2) (eqb (get_or p 1 0) (size width E) && marked F (drop 2 p))
+      (eqb (get_or p 1 0) (size width E) && (marked E (drop 2 p) && marked F (follow E (drop 2 p)).rest))))
+  marked (Guard C E) p = marked E p
