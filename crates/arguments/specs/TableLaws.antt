@@ -107,9 +107,9 @@ module _ (T : List ℕ) where
           ∙ ap (λ (F : Function). length F.parameters) (function_declared f h)
       go (no h) = ap length (no_domain_beyond (attributes (declared T)) f (omega (arith, functions_declared)))
 
-  pub guard_declared : (n : ℕ) → guard_scope (attributes (declared T)) n ≡ record { top = 65534; arity = λ f. 1; now = get_or T 210 0; before = 0; variables = n }
+  pub guard_declared : (n : ℕ) → guard_scope (attributes (declared T)) n ≡ record { edition = (declared T).edition; arity = λ f. 1; now = get_or T 210 0; before = 0; variables = n }
   unfolding declared
-  guard_declared n = λ i. record { top = 65534; arity = λ f. arity_one f i; now = functions_declared i; before = 0; variables = n }
+  guard_declared n = λ i. record { edition = (declared T).edition; arity = λ f. arity_one f i; now = functions_declared i; before = 0; variables = n }
 
 -- ── masks ──
 

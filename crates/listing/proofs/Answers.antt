@@ -81,14 +81,14 @@ lists_after {o} {p} {a} {left} {n} {entry} f g = record {
 
 pub two_lost : {x : ℕ} (t M : List ℕ) (n : ℕ) (entry : List ℕ) (k : ℕ) (mid : List ℕ) → ShownListed x t M n entry k mid None → TwoListed x t M n entry k mid None
 two_lost t M n entry k mid h = record {
-  has_room = λ P E F rest s z. h.has_room P E (words 1 F ++ rest) s.first (omega arith);
+  has_room = λ P E F rest s z. h.has_room P E (words P.edition.width F ++ rest) s.first (omega arith);
   right = λ P E F rest s. tt;
 }
 
 -- l words are left after the first, where the second begins
 module _ {x : ℕ} (t M : List ℕ) (n : ℕ) (entry : List ℕ) (k : ℕ) (mid : List ℕ) (l : ℕ) (first : ShownListed x t M n entry k mid (Some l)) where
-  pub first_lists : {P : Scope} {E F : Term} {rest : List ℕ} → TwoAt t P E F rest → Lists (shown x (holding M) E) (length (words 1 F ++ rest)) n entry k mid l
-  first_lists {P} {E} {F} {rest} s = first.right P E (words 1 F ++ rest) s.first
+  pub first_lists : {P : Scope} {E F : Term} {rest : List ℕ} → TwoAt t P E F rest → Lists (shown x (holding M) E) (length (words P.edition.width F ++ rest)) n entry k mid l
+  first_lists {P} {E} {F} {rest} s = first.right P E (words P.edition.width F ++ rest) s.first
 
   pub second_here : (u : List ℕ) → u ≡ last_of l t → {P : Scope} {E F : Term} {rest : List ℕ} → TwoAt t P E F rest → TermAt u P F rest
   second_here u isu s = second_at l u s (first_lists s).left_over isu

@@ -69,7 +69,7 @@ module _ {x : ℕ} (t M : List ℕ) (n : ℕ) (entry : List ℕ) (m : ℕ) (exit
   sequence_lost h = listed_of (sequence_cases t (Told x M n entry m exit None)
       (λ P E F rest s.
       let d = first_other s other in
-      (λ k. h.has_room P E (words 1 F ++ rest) s.first (rw (room_sequence (holding M) E F d) at k), tt)))
+      (λ k. h.has_room P E (words P.edition.width F ++ rest) s.first (rw (room_sequence (holding M) E F d) at k), tt)))
 
   -- l words are left after the left term, and b after the right one
   pub sequence_left : (l : ℕ) (u : List ℕ) (b : ℕ) → ShownListed x t M n entry m exit (Some l) → u ≡ last_of l t → ((P : Scope) (E : Term) (rest : List ℕ) → TermAt u P E rest → b ≡ length rest)
@@ -77,7 +77,7 @@ module _ {x : ℕ} (t M : List ℕ) (n : ℕ) (entry : List ℕ) (m : ℕ) (exit
   sequence_left l u b h isu f = listed_of (sequence_cases t (Told x M n entry m exit (Some b))
       (λ P E F rest s.
       let d = first_other s other in
-      let q : Lists (shown x (holding M) E) (length (words 1 F ++ rest)) n entry m exit l = h.right P E (words 1 F ++ rest) s.first in
+      let q : Lists (shown x (holding M) E) (length (words P.edition.width F ++ rest)) n entry m exit l = h.right P E (words P.edition.width F ++ rest) s.first in
       (λ k. refl, lists_to (shown_sequence x (holding M) E F d) (f P F rest (second_at l u s q.left_over isu)) q)))
 
 -- ── the code at the front ──

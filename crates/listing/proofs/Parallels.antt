@@ -40,13 +40,13 @@ joined_is x y d isy k = sym (isy ∙ ap (bit_or x) (set_is d k))
 module _ {x : ℕ} (d t M : List ℕ) (n : ℕ) (entry : List ℕ) (k : ℕ) (mid : List ℕ) (ist : t ≡ drop 4 d) where
   pub masked_lost_first : ShownListed x t M n entry k mid None → MaskedListed x d M n entry k mid None
   masked_lost_first h = record {
-    has_room = λ P Δ E F rest s z. h.has_room P E (words 1 F ++ rest) (sides d t ist s).first (omega arith);
+    has_room = λ P Δ E F rest s z. h.has_room P E (words P.edition.width F ++ rest) (sides d t ist s).first (omega arith);
     right = λ P Δ E F rest s. tt;
   }
 
   -- l words are left after the left side
   module _ (l : ℕ) (first : ShownListed x t M n entry k mid (Some l)) (same : length mid ≡ length entry) (u : List ℕ) (isu : u ≡ last_of l t) (j : ℕ) (back : List ℕ) where
-    left_lists : {P : Scope} {Δ : List ℕ} {E F : Term} {rest : List ℕ} → MaskedAt d P Δ E F rest → Lists (shown x (holding M) E) (length (words 1 F ++ rest)) n entry k mid l
+    left_lists : {P : Scope} {Δ : List ℕ} {E F : Term} {rest : List ℕ} → MaskedAt d P Δ E F rest → Lists (shown x (holding M) E) (length (words P.edition.width F ++ rest)) n entry k mid l
     left_lists s = first_lists t M n entry k mid l first (sides d t ist s)
 
     right_here : {P : Scope} {Δ : List ℕ} {E F : Term} {rest : List ℕ} → MaskedAt d P Δ E F rest → TermAt u P F rest
@@ -154,18 +154,18 @@ idle_is t b f e P E rest h = eqb→eq (breadth E) 0 (subst T (sym e ∙ f P E re
 module _ (x : ℕ) (d t u M : List ℕ) (n : ℕ) (entry : List ℕ) (m : ℕ) (exit : List ℕ) (ist : t ≡ drop 4 d) (l : ℕ) (skipped : (P : Scope) (E : Term) (rest : List ℕ) → TermAt t P E rest → l ≡ length rest) (isu : u ≡ last_of l t)
     (b : Bool) (y : ℕ) where
   right_at : {P : Scope} {Δ : List ℕ} {E F : Term} {rest : List ℕ} → MaskedAt d P Δ E F rest → TermAt u P F rest
-  right_at {P} {Δ} {E} {F} {rest} h = second_at l u (sides d t ist h) (skipped P E (words 1 F ++ rest) (sides d t ist h).first) isu
+  right_at {P} {Δ} {E} {F} {rest} h = second_at l u (sides d t ist h) (skipped P E (words P.edition.width F ++ rest) (sides d t ist h).first) isu
 
   pub beside_left : (r : Option ℕ) → Tells t b → b ≡ true → ShownListed y u M n entry m exit r → y ≡ bit_or x (mask_set d) → MaskedListed x d M n entry m exit r
   beside_left r f e h isy = record {
     has_room = λ P Δ E F rest k z. h.has_room P F rest (right_at k) (omega arith);
     right = λ P Δ E F rest k. lists_as n entry m exit r
-        (beside_idle_left x (holding M) (mask_set Δ) E F (idle_is t b f e P E (words 1 F ++ rest) (sides d t ist k).first) ∙ ap (λ v. shown v (holding M) F) (joined_is x y d isy k))
+        (beside_idle_left x (holding M) (mask_set Δ) E F (idle_is t b f e P E (words P.edition.width F ++ rest) (sides d t ist k).first) ∙ ap (λ v. shown v (holding M) F) (joined_is x y d isy k))
         refl (h.right P F rest (right_at k));
   }
 
   pub beside_lost : ShownListed y t M n entry m exit None → MaskedListed x d M n entry m exit None
-  beside_lost h = record { has_room = λ P Δ E F rest k z. h.has_room P E (words 1 F ++ rest) (sides d t ist k).first (omega arith); right = λ P Δ E F rest k. tt }
+  beside_lost h = record { has_room = λ P Δ E F rest k z. h.has_room P E (words P.edition.width F ++ rest) (sides d t ist k).first (omega arith); right = λ P Δ E F rest k. tt }
 
   -- `left` words come after the right side
   pub beside_right : (a left : ℕ) → Tells u b → b ≡ true → ((P : Scope) (E : Term) (rest : List ℕ) → TermAt u P E rest → left ≡ length rest)
@@ -173,7 +173,7 @@ module _ (x : ℕ) (d t u M : List ℕ) (n : ℕ) (entry : List ℕ) (m : ℕ) (
   beside_right a left f e g h isy = record {
     has_room = λ P Δ E F rest k z. refl;
     right = λ P Δ E F rest k.
-        let q : Lists (shown y (holding M) E) (length (words 1 F ++ rest)) n entry m exit a = h.right P E (words 1 F ++ rest) (sides d t ist k).first in
+        let q : Lists (shown y (holding M) E) (length (words P.edition.width F ++ rest)) n entry m exit a = h.right P E (words P.edition.width F ++ rest) (sides d t ist k).first in
         lists_to (beside_idle_right x (holding M) (mask_set Δ) E F (idle_is u b f e P F rest (right_at k)) ∙ ap (λ v. shown v (holding M) E) (joined_is x y d isy k)) (g P F rest (right_at k)) q;
   }
 

@@ -24,9 +24,9 @@ pub pieces_counted : (Es : List Term) → length (pieces Es) ≡ length Es
 pieces_counted [] = refl
 pieces_counted (E ∷ Es) = omega (arith, pieces_counted Es)
 
-spelled_alike : (Es : List Term) → terms_words Es ≡ row_words 1 (pieces Es)
-spelled_alike [] = refl
-spelled_alike (E ∷ Es) = ap (λ l. words 1 E ++ l) (spelled_alike Es)
+spelled_alike : (w : ℕ) (Es : List Term) → terms_words w Es ≡ row_words w (pieces Es)
+spelled_alike w [] = refl
+spelled_alike w (E ∷ Es) = ap (λ l. words w E ++ l) (spelled_alike w Es)
 
 all_terms : (Es : List Term) → All IsTerm (pieces Es)
 all_terms [] = tt
@@ -67,7 +67,7 @@ coded_row {s} {P} {Es} {rest} h = record {
   shaped = shaped P h.plain;
   fit = fit_alike P h.plain Es h.fit;
   ordered = in_order Es;
-  spelled = h.spelled ∙ ap (λ l. l ++ rest) (spelled_alike Es);
+  spelled = h.spelled ∙ ap (λ l. l ++ rest) (spelled_alike P.edition.width Es ∙ ap (λ w. row_words w (pieces Es)) h.plain.one_word);
   closed = closes Es rest h.closed;
 }
 
@@ -79,6 +79,6 @@ coded_condition {s} {P} {C} {rest} h = record {
   shaped = shaped P h.plain;
   fit = (h.in_scope, tt);
   ordered = tt;
-  spelled = h.spelled ∙ ap (λ l. l ++ rest) (sym (append-nil (cond_words 1 C)));
+  spelled = h.spelled ∙ ap (λ l. l ++ rest) (sym (append-nil (cond_words P.edition.width C)) ∙ ap (λ w. row_words w (of_cond C ∷ [])) h.plain.one_word);
   closed = tt;
 }

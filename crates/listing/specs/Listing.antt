@@ -26,7 +26,7 @@ Fits P (Guard C E) = CondInScope C P × Fits P E
 pub record TermAt (s : List ℕ) (P : Scope) (E : Term) (rest : List ℕ) : Type 0 where
   pub plain : Plain P
   pub fits : Fits P E
-  pub spelled : s ≡ words 1 E ++ rest
+  pub spelled : s ≡ words P.edition.width E ++ rest
   pub closed : Closed rest
 
 -- The conditions that hold at a store.

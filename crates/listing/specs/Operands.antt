@@ -50,17 +50,17 @@ other_test (Guard C E) h = refl
 
 module _ {t : List ℕ} {P : Scope} {E F : Term} {rest : List ℕ} (s : TwoAt t P E F rest) where
   pub first_done : get_or t 0 0 ≡ 30 → done? E ≡ true
-  first_done e = done_test E (sym e ∙ term_front t P E (words 1 F ++ rest) s.first)
+  first_done e = done_test E (sym e ∙ term_front t P E (words P.edition.width F ++ rest) s.first)
 
   pub first_other : (get_or t 0 0 ≡ 30 → ⊥) → done? E ≡ false
-  first_other h = other_test E (λ e. h (term_front t P E (words 1 F ++ rest) s.first ∙ e))
+  first_other h = other_test E (λ e. h (term_front t P E (words P.edition.width F ++ rest) s.first ∙ e))
 
   -- after a term that is done
-  behind_done : get_or t 0 0 ≡ 30 → drop 1 t ≡ words 1 F ++ rest
+  behind_done : get_or t 0 0 ≡ 30 → drop 1 t ≡ words P.edition.width F ++ rest
   unfolding words
   behind_done e =
-      let d : E ≡ Done = is_done E (sym e ∙ term_front t P E (words 1 F ++ rest) s.first) in
-      ap (drop 1) (s.first.spelled ∙ ap (λ X. words 1 X ++ (words 1 F ++ rest)) d)
+      let d : E ≡ Done = is_done E (sym e ∙ term_front t P E (words P.edition.width F ++ rest) s.first) in
+      ap (drop 1) (s.first.spelled ∙ ap (λ X. words P.edition.width X ++ (words P.edition.width F ++ rest)) d)
 
   pub second_behind : (u : List ℕ) → get_or t 0 0 ≡ 30 → u ≡ drop 1 t → TermAt u P F rest
   second_behind u e f = record { plain = s.second.plain; fits = s.second.fits; spelled = f ∙ behind_done e; closed = s.second.closed }
@@ -87,9 +87,9 @@ both_second t u w v a e f i P E F rest s =
 pub both_first : (t : List ℕ) (w : ℕ) → w ≡ get_or t 0 0 → (w ≡ 30 → ⊥) → BothDone t false
 both_first t w a h P E F rest s = ap (λ x. x && done? F) (sym (first_other s (λ e. h (a ∙ e))))
 
-both_words : (t : List ℕ) (E F : Term) (rest : List ℕ) → t ≡ words 1 E ++ (words 1 F ++ rest) → E ≡ Done → F ≡ Done → drop 1 (drop 1 t) ≡ rest
+both_words : (w : ℕ) (t : List ℕ) (E F : Term) (rest : List ℕ) → t ≡ words w E ++ (words w F ++ rest) → E ≡ Done → F ≡ Done → drop 1 (drop 1 t) ≡ rest
 unfolding words
-both_words t E F rest e f g = ap (λ x. drop 1 (drop 1 x)) (e ∙ (λ i. words 1 (f i) ++ (words 1 (g i) ++ rest)))
+both_words w t E F rest e f g = ap (λ x. drop 1 (drop 1 x)) (e ∙ (λ i. words w (f i) ++ (words w (g i) ++ rest)))
 
 when_done : (E : Term) → done? E ≡ true → E ≡ Done
 unfolding done?
@@ -111,7 +111,7 @@ and_second true b h = h
 and_second false b h = cc
 
 pub behind_both : {t : List ℕ} {P : Scope} {E F : Term} {rest : List ℕ} → TwoAt t P E F rest → (done? E && done? F) ≡ true → drop 1 (drop 1 t) ≡ rest
-behind_both {t} {P} {E} {F} {rest} s q = both_words t E F rest s.first.spelled (when_done E (and_first (done? E) (done? F) q)) (when_done F (and_second (done? E) (done? F) q))
+behind_both {t} {P} {E} {F} {rest} s q = both_words P.edition.width t E F rest s.first.spelled (when_done E (and_first (done? E) (done? F) q)) (when_done F (and_second (done? E) (done? F) q))
 
 -- ── a guard ──
 
@@ -127,16 +127,16 @@ truth_some false h = absurd (h refl)
 
 module _ (t M u : List ℕ) (c : ℕ) (judged : Judged t M c) (isu : u ≡ last_of (c / 65536) t) where
   module _ (P : Scope) (C : Cond) (E : Term) (rest : List ℕ) (s : GuardedAt t P C E rest) where
-    told : c ≡ answer (truth (holding M C)) (length (words 1 E ++ rest))
-    told = judged P C (words 1 E ++ rest) s.condition
+    told : c ≡ answer (truth (holding M C)) (length (words P.edition.width E ++ rest))
+    told = judged P C (words P.edition.width E ++ rest) s.condition
 
     pub holds : c % 65536 ≡ truth (holding M C)
-    holds = answered_left c (truth (holding M C)) (length (words 1 E ++ rest)) told (omega (arith, truth_word (holding M C)))
+    holds = answered_left c (truth (holding M C)) (length (words P.edition.width E ++ rest)) told (omega (arith, truth_word (holding M C)))
 
     pub guarded_here : TermAt u P E rest
     guarded_here =
-        let e : c / 65536 ≡ length (words 1 E ++ rest) = answered_count c (truth (holding M C)) (length (words 1 E ++ rest)) told (omega (arith, truth_word (holding M C))) in
-        let q : u ≡ words 1 E ++ rest = isu ∙ ap (λ n. last_of n t) e ∙ ap (last_of (length (words 1 E ++ rest))) s.condition.spelled ∙ last_behind (cond_words 1 C) (words 1 E ++ rest) in
+        let e : c / 65536 ≡ length (words P.edition.width E ++ rest) = answered_count c (truth (holding M C)) (length (words P.edition.width E ++ rest)) told (omega (arith, truth_word (holding M C))) in
+        let q : u ≡ words P.edition.width E ++ rest = isu ∙ ap (λ n. last_of n t) e ∙ ap (last_of (length (words P.edition.width E ++ rest))) s.condition.spelled ∙ last_behind (cond_words P.edition.width C) (words P.edition.width E ++ rest) in
         record { plain = s.guarded.plain; fits = s.guarded.fits; spelled = q; closed = s.guarded.closed }
 
 -- ── the code at the front ──

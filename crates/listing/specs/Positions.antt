@@ -8,7 +8,7 @@ use Rattle.std.proofs.Math.Seq.{take_at, drop_at}
 use Rattle.eb3.specs.Expressions.{Cond}
 use Rattle.eb3.specs.Scopes.{Scope}
 use Rattle.eb3.specs.Terms.{Term, Done, Internal, Perform, Sequence, Choice, Star, Parallel, Guard, VisibleAction}
-use Rattle.eb3.specs.Spelling.{cond_words, words}
+use Rattle.eb3.specs.Spelling.{arguments_words, cond_words, words}
 use Rattle.scan.specs.Checking.{last_of}
 use Rattle.scan.specs.Laws.{last_behind}
 use Rattle.expressions.specs.Answering.{Plain, CondAt}
@@ -27,16 +27,16 @@ code_in_front (Star E) = 24
 code_in_front (Parallel Δ E F) = 25
 code_in_front (Guard C E) = 26
 
-pub words_begin : (E : Term) (rest : List ℕ) → get_or (words 1 E ++ rest) 0 0 ≡ code_in_front E
+pub words_begin : (w : ℕ) (E : Term) (rest : List ℕ) → get_or (words w E ++ rest) 0 0 ≡ code_in_front E
 unfolding words code_in_front
-words_begin Done rest = refl
-words_begin Internal rest = refl
-words_begin (Perform a) rest = refl
-words_begin (Sequence E F) rest = refl
-words_begin (Choice E F) rest = refl
-words_begin (Star E) rest = refl
-words_begin (Parallel Δ E F) rest = refl
-words_begin (Guard C E) rest = refl
+words_begin w Done rest = refl
+words_begin w Internal rest = refl
+words_begin w (Perform a) rest = refl
+words_begin w (Sequence E F) rest = refl
+words_begin w (Choice E F) rest = refl
+words_begin w (Star E) rest = refl
+words_begin w (Parallel Δ E F) rest = refl
+words_begin w (Guard C E) rest = refl
 
 code_large : (E : Term) → 20 ≤ code_in_front E
 unfolding code_in_front
@@ -50,22 +50,22 @@ code_large (Parallel Δ E F) = omega arith
 code_large (Guard C E) = omega arith
 
 -- What begins with a term does not go on with an argument.
-pub term_closed : (E : Term) (rest : List ℕ) → Closed (words 1 E ++ rest)
-term_closed E rest e = omega (arith, e, words_begin E rest, code_large E)
+pub term_closed : (w : ℕ) (E : Term) (rest : List ℕ) → Closed (words w E ++ rest)
+term_closed w E rest e = omega (arith, e, words_begin w E rest, code_large E)
 
 pub term_front : (s : List ℕ) (P : Scope) (E : Term) (rest : List ℕ) → TermAt s P E rest → get_or s 0 0 ≡ code_in_front E
-term_front s P E rest h = ap (λ u. get_or u 0 0) h.spelled ∙ words_begin E rest
+term_front s P E rest h = ap (λ u. get_or u 0 0) h.spelled ∙ words_begin P.edition.width E rest
 
 -- ── operands ──
 
 -- t begins with two terms.
 pub record TwoAt (t : List ℕ) (P : Scope) (E F : Term) (rest : List ℕ) : Type 0 where
-  pub first : TermAt t P E (words 1 F ++ rest)
-  pub second : TermAt (words 1 F ++ rest) P F rest
+  pub first : TermAt t P E (words P.edition.width F ++ rest)
+  pub second : TermAt (words P.edition.width F ++ rest) P F rest
 
-pub two_at : (t : List ℕ) (P : Scope) (E F : Term) (rest : List ℕ) → Plain P → Fits P E → Fits P F → t ≡ (words 1 E ++ words 1 F) ++ rest → Closed rest → TwoAt t P E F rest
+pub two_at : (t : List ℕ) (P : Scope) (E F : Term) (rest : List ℕ) → Plain P → Fits P E → Fits P F → t ≡ (words P.edition.width E ++ words P.edition.width F) ++ rest → Closed rest → TwoAt t P E F rest
 two_at t P E F rest p e f h c = record {
-  first = record { plain = p; fits = e; spelled = h ∙ append_assoc (words 1 E) (words 1 F) rest; closed = term_closed F rest };
+  first = record { plain = p; fits = e; spelled = h ∙ append_assoc (words P.edition.width E) (words P.edition.width F) rest; closed = term_closed P.edition.width F rest };
   second = record { plain = p; fits = f; spelled = refl; closed = c };
 }
 
@@ -76,8 +76,8 @@ pub record MaskedAt (d : List ℕ) (P : Scope) (Δ : List ℕ) (E F : Term) (res
 
 -- t begins with a condition and a term.
 pub record GuardedAt (t : List ℕ) (P : Scope) (C : Cond) (E : Term) (rest : List ℕ) : Type 0 where
-  pub condition : CondAt t P C (words 1 E ++ rest)
-  pub guarded : TermAt (words 1 E ++ rest) P E rest
+  pub condition : CondAt t P C (words P.edition.width E ++ rest)
+  pub guarded : TermAt (words P.edition.width E ++ rest) P E rest
 
 behind_code : (k l : ℕ) (t u : List ℕ) → k ∷ t ≡ l ∷ u → t ≡ u
 behind_code k l t u e = ap (drop 1) e
@@ -85,7 +85,7 @@ behind_code k l t u e = ap (drop 1) e
 module _ (t : List ℕ) (P : Scope) (rest : List ℕ) where
   pub perform_at : (a : VisibleAction) → TermAt (21 ∷ t) P (Perform a) rest → ActionAt t a rest
   unfolding words
-  perform_at a h = record { small = h.fits; spelled = ap (drop 1) h.spelled; closed = h.closed }
+  perform_at a h = record { small = h.fits; spelled = ap (drop 1) h.spelled ∙ ap (λ w. a.label ∷ (arguments_words w a.arguments ++ rest)) h.plain.one_word; closed = h.closed }
 
   pub sequence_at : (E F : Term) → TermAt (22 ∷ t) P (Sequence E F) rest → TwoAt t P E F rest
   unfolding words
@@ -102,28 +102,28 @@ module _ (t : List ℕ) (P : Scope) (rest : List ℕ) where
   pub parallel_at : (Δ : List ℕ) (E F : Term) → TermAt (25 ∷ t) P (Parallel Δ E F) rest → MaskedAt t P Δ E F rest
   unfolding words
   parallel_at Δ E F h =
-      let e : t ≡ Δ ++ ((words 1 E ++ words 1 F) ++ rest) = ap (drop 1) h.spelled ∙ append_assoc Δ (words 1 E ++ words 1 F) rest in
+      let e : t ≡ Δ ++ ((words P.edition.width E ++ words P.edition.width F) ++ rest) = ap (drop 1) h.spelled ∙ append_assoc Δ (words P.edition.width E ++ words P.edition.width F) rest in
       record {
-        mask = ap (take 4) e ∙ take_at Δ ((words 1 E ++ words 1 F) ++ rest) 4 h.fits.0;
-        sides = two_at (drop 4 t) P E F rest h.plain h.fits.1 h.fits.2 (ap (drop 4) e ∙ drop_at Δ ((words 1 E ++ words 1 F) ++ rest) 4 h.fits.0) h.closed;
+        mask = ap (take 4) e ∙ take_at Δ ((words P.edition.width E ++ words P.edition.width F) ++ rest) 4 h.fits.0;
+        sides = two_at (drop 4 t) P E F rest h.plain h.fits.1 h.fits.2 (ap (drop 4) e ∙ drop_at Δ ((words P.edition.width E ++ words P.edition.width F) ++ rest) 4 h.fits.0) h.closed;
       }
 
   pub guard_at : (C : Cond) (E : Term) → TermAt (26 ∷ t) P (Guard C E) rest → GuardedAt t P C E rest
   unfolding words
   guard_at C E h = record {
-    condition = record { plain = h.plain; in_scope = h.fits.0; spelled = ap (drop 1) h.spelled ∙ append_assoc (cond_words 1 C) (words 1 E) rest };
+    condition = record { plain = h.plain; in_scope = h.fits.0; spelled = ap (drop 1) h.spelled ∙ append_assoc (cond_words P.edition.width C) (words P.edition.width E) rest };
     guarded = record { plain = h.plain; fits = h.fits.1; spelled = refl; closed = h.closed };
   }
 
 -- ── what comes after an operand ──
 
 pub behind_term : (t : List ℕ) (P : Scope) (E : Term) (rest : List ℕ) → TermAt t P E rest → last_of (length rest) t ≡ rest
-behind_term t P E rest h = ap (last_of (length rest)) h.spelled ∙ last_behind (words 1 E) rest
+behind_term t P E rest h = ap (last_of (length rest)) h.spelled ∙ last_behind (words P.edition.width E) rest
 
 pub behind_shorter : (t : List ℕ) (P : Scope) (E : Term) (rest : List ℕ) → TermAt t P E rest → length rest ≤ length t
-behind_shorter t P E rest h = omega (arith, ap length h.spelled, length-append (words 1 E) rest)
+behind_shorter t P E rest h = omega (arith, ap length h.spelled, length-append (words P.edition.width E) rest)
 
-pub second_at : {t : List ℕ} {P : Scope} {E F : Term} {rest : List ℕ} (n : ℕ) (u : List ℕ) → TwoAt t P E F rest → n ≡ length (words 1 F ++ rest) → u ≡ last_of n t → TermAt u P F rest
+pub second_at : {t : List ℕ} {P : Scope} {E F : Term} {rest : List ℕ} (n : ℕ) (u : List ℕ) → TwoAt t P E F rest → n ≡ length (words P.edition.width F ++ rest) → u ≡ last_of n t → TermAt u P F rest
 second_at {t} {P} {E} {F} {rest} n u h e f =
-    let q : u ≡ words 1 F ++ rest = f ∙ ap (λ k. last_of k t) e ∙ behind_term t P E (words 1 F ++ rest) h.first in
+    let q : u ≡ words P.edition.width F ++ rest = f ∙ ap (λ k. last_of k t) e ∙ behind_term t P E (words P.edition.width F ++ rest) h.first in
     record { plain = h.second.plain; fits = h.second.fits; spelled = q; closed = h.second.closed }
