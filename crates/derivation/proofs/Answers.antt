@@ -42,7 +42,7 @@ sound_of h = record { bounded = h.bounded; place_bounded = h.place_bounded; pass
 -- of what is known of every term that may stand there
 pub derived_of : {x : ℕ} {s M : List ℕ} {k : ℕ} {entry exit : List ℕ} {n r : ℕ} → Sound (length s) k (length entry) r
     → ((P : Scope) (E : Term) (rest : List ℕ) → TermAt s P E rest
-    → (size 1 E ≤ length entry → room (holding M) E ≤ n → r < full) × (r < full → Outcome (shown_count x M E) (path x (holding M) E k) (length rest) k exit r))
+    → (size P.edition.width E ≤ length entry → room (holding M) E ≤ n → r < full) × (r < full → Outcome (shown_count x M E) (path P.edition.width x (holding M) E k) (length rest) k exit r))
     → DerivedShown x s M k entry exit n r
 derived_of h f = record {
   bounded = h.bounded;
@@ -54,7 +54,7 @@ derived_of h f = record {
 }
 
 pub outcome_of : {x : ℕ} {s M : List ℕ} {k : ℕ} {entry exit : List ℕ} {n r : ℕ} → DerivedShown x s M k entry exit n r → (P : Scope) (E : Term) (rest : List ℕ) → TermAt s P E rest → r < full
-    → Outcome (shown_count x M E) (path x (holding M) E k) (length rest) k exit r
+    → Outcome (shown_count x M E) (path P.edition.width x (holding M) E k) (length rest) k exit r
 outcome_of h P E rest t z = record { found = h.found P E rest t z; none_found = h.none_found P E rest t z }
 
 -- of a store that is the same
@@ -122,6 +122,6 @@ module _ {o : List ℕ} {r q : ℕ} {mid exit : List ℕ} (h : Decided o r mid e
 
 -- there is room in front of the path of a term that is so much shorter than the array
 pub derived_room : {x : ℕ} {s M : List ℕ} {k : ℕ} {entry exit : List ℕ} {n r : ℕ} → DerivedShown x s M k entry exit n r → length exit ≡ length entry → (P : Scope) (E : Term) (rest : List ℕ) → TermAt s P E rest
-    → (w : ℕ) → w + size 1 E ≤ length entry → r < passed → w ≤ r
+    → (w : ℕ) → w + size P.edition.width E ≤ length entry → r < passed → w ≤ r
 derived_room {x} {s} {M} {k} {entry} {exit} {n} {r} h e P E rest t w l z =
-    place_room w r exit (path x (holding M) E k) (omega (arith, h.place_bounded z)) (outcome_place (outcome_of h P E rest t (omega arith)) z).1 (omega (arith, path_length x (holding M) E k))
+    place_room w r exit (path P.edition.width x (holding M) E k) (omega (arith, h.place_bounded z)) (outcome_place (outcome_of h P E rest t (omega arith)) z).1 (omega (arith, path_length P.edition.width x (holding M) E k))

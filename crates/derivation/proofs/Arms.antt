@@ -32,7 +32,7 @@ use Rattle.derivation.proofs.Counts.{count_moves, count_done, count_internal, co
 
 -- What is shown of every term that may stand there.
 abbrev pub Told : ℕ → List ℕ → ℕ → List ℕ → List ℕ → ℕ → ℕ → Scope → Term → List ℕ → Type 0
-Told x M k entry exit n r P E rest = (size 1 E ≤ length entry → room (holding M) E ≤ n → r < full) × (r < full → Outcome (shown_count x M E) (path x (holding M) E k) (length rest) k exit r)
+Told x M k entry exit n r P E rest = (size P.edition.width E ≤ length entry → room (holding M) E ≤ n → r < full) × (r < full → Outcome (shown_count x M E) (path P.edition.width x (holding M) E k) (length rest) k exit r)
 
 -- ── one move ──
 
@@ -45,7 +45,7 @@ module _ (x : ℕ) (t M entry : List ℕ) (k n left r : ℕ) (f : k ≡ 0 → r 
 
   pub internal_derived : left ≡ length t → DerivedShown x (20 ∷ t) M k entry entry n r
   internal_derived e = derived_of (single_sound 20) (internal_cases t (Told x M k entry entry n r)
-      (λ P rest q. (λ a b. single_low, λ z. outcome_as _ _ _ (count_internal M x) (ap length (sym q) ∙ sym e) (λ l. path_internal M x k) (outcome_single k left r entry f g le))))
+      (λ P rest q. (λ a b. single_low, λ z. outcome_as _ _ _ (count_internal M x) (ap length (sym q) ∙ sym e) (λ l. path_internal M x P.edition.width k) (outcome_single k left r entry f g le))))
 
 -- b is the test whether the action's number is in the set y, which is x
 module _ (x : ℕ) (t : List ℕ) (k end left r code : ℕ) (numbered : (a : VisibleAction) (rest : List ℕ) → ActionAt t a rest → code ≡ action_code (visible a))
@@ -72,17 +72,17 @@ module _ (x : ℕ) (t : List ℕ) (k end left r code : ℕ) (numbered : (a : Vis
 
 pub perform_derived : (x : ℕ) (t M entry : List ℕ) (k n r : ℕ) → length entry ≤ 65535 → ActionDerived x t k (length entry) r → DerivedShown x (21 ∷ t) M k entry entry n r
 perform_derived x t M entry k n r le h = derived_of (sound_more (length (21 ∷ t)) k h.sound (omega arith) (omega arith)) (perform_cases t (Told x M k entry entry n r)
-    (λ P a rest q. (λ b d. h.low, λ z. go a rest q (in_set x (action_code (visible a))) refl)))
+    (λ P a rest q. (λ b d. h.low, λ z. go P.edition.width a rest q (in_set x (action_code (visible a))) refl)))
   where
-    go : (a : VisibleAction) (rest : List ℕ) → ActionAt t a rest → (b : Bool) → in_set x (action_code (visible a)) ≡ b
-        → Outcome (shown_count x M (Perform a)) (path x (holding M) (Perform a) k) (length rest) k entry r
-    go a rest q true e =
+    go : (w : ℕ) (a : VisibleAction) (rest : List ℕ) → ActionAt t a rest → (b : Bool) → in_set x (action_code (visible a)) ≡ b
+        → Outcome (shown_count x M (Perform a)) (path w x (holding M) (Perform a) k) (length rest) k entry r
+    go w a rest q true e =
         let none = count_hidden M x a e in
         let ke : k ≡ k - shown_count x M (Perform a) = omega (arith, none) in
         record { found = λ y. absurd (omega (arith, none)); none_found = λ y. h.hidden a rest q e ∙ ap (λ n. passed + answer (length rest) n) ke }
-    go a rest q false e =
+    go w a rest q false e =
         let s = h.shows a rest q e in
-        outcome_as _ _ _ (count_shows M x a e) refl (λ l. path_perform M x a k) (outcome_single k (length rest) r entry s.0 s.1 le)
+        outcome_as _ _ _ (count_shows M x a e) refl (λ l. path_perform M x w a k) (outcome_single k (length rest) r entry s.0 s.1 le)
 
 -- ── two operands ──
 
@@ -90,11 +90,11 @@ module _ (x c : ℕ) (t M : List ℕ) (k : ℕ) (entry mid : List ℕ) (n l : �
   pub two_left : l < passed → (exit : List ℕ) (q : ℕ) → Decided (c ∷ []) l mid exit q → TwoDerived x c t M k entry exit n q
   two_left f exit q h = record {
     sound = decided_sound h (length entry) (sound_of first);
-    has_room = λ P E F rest s a b. decided_room h (omega arith) (derived_room first same P E (words 1 F ++ rest) s.first 1 (omega (arith, a)));
+    has_room = λ P E F rest s a b. decided_room h (omega arith) (derived_room first same P E (words P.edition.width F ++ rest) s.first 1 (omega (arith, a)));
     right = λ P E F rest s z.
-        let o = outcome_of first P E (words 1 F ++ rest) s.first (omega arith) in
+        let o = outcome_of first P E (words P.edition.width F ++ rest) s.first (omega arith) in
         let j = (outcome_place o f).0 in
-        outcome_as _ _ _ refl refl (λ y. two_first M x E F c k j) (outcome_early (shown_count x M E + shown_count x M F) (length rest) j (omega arith) (decided_outcome h z o));
+        outcome_as _ _ _ refl refl (λ y. two_first M x P.edition.width E F c k j) (outcome_early (shown_count x M E + shown_count x M F) (length rest) j (omega arith) (decided_outcome h z o));
   }
 
   module _ (pl : passed ≤ l) (fl : l < full) where
@@ -102,17 +102,17 @@ module _ (x c : ℕ) (t M : List ℕ) (k : ℕ) (entry mid : List ℕ) (n l : �
     rest_count = omega (arith, first.passed_bounded pl fl, answer_is (length t) k)
 
     module _ (P : Scope) (E F : Term) (rest : List ℕ) (s : TwoAt t P E F rest) where
-      past : (shown_count x M E ≤ k) × (l ≡ passed + answer (length (words 1 F ++ rest)) (k - shown_count x M E))
-      past = outcome_passed (outcome_of first P E (words 1 F ++ rest) s.first fl) pl
+      past : (shown_count x M E ≤ k) × (l ≡ passed + answer (length (words P.edition.width F ++ rest)) (k - shown_count x M E))
+      past = outcome_passed (outcome_of first P E (words P.edition.width F ++ rest) s.first fl) pl
 
-      behind_short : length (words 1 F ++ rest) ≤ 65535
-      behind_short = omega (arith, behind_shorter t P E (words 1 F ++ rest) s.first)
+      behind_short : length (words P.edition.width F ++ rest) ≤ 65535
+      behind_short = omega (arith, behind_shorter t P E (words P.edition.width F ++ rest) s.first)
 
-      pub past_left : (l - passed) % 65536 ≡ length (words 1 F ++ rest)
-      past_left = answered_left (l - passed) (length (words 1 F ++ rest)) (k - shown_count x M E) (omega (arith, past.1)) behind_short
+      pub past_left : (l - passed) % 65536 ≡ length (words P.edition.width F ++ rest)
+      past_left = answered_left (l - passed) (length (words P.edition.width F ++ rest)) (k - shown_count x M E) (omega (arith, past.1)) behind_short
 
       pub past_count : (l - passed) / 65536 ≡ k - shown_count x M E
-      past_count = answered_count (l - passed) (length (words 1 F ++ rest)) (k - shown_count x M E) (omega (arith, past.1)) behind_short
+      past_count = answered_count (l - passed) (length (words P.edition.width F ++ rest)) (k - shown_count x M E) (omega (arith, past.1)) behind_short
 
       pub past_all : shown_count x M E ≤ k
       past_all = past.0
@@ -122,7 +122,7 @@ module _ (x c : ℕ) (t M : List ℕ) (k : ℕ) (entry mid : List ℕ) (n l : �
       second_here : (P : Scope) (E F : Term) (rest : List ℕ) → TwoAt t P E F rest → TermAt u P F rest
       second_here P E F rest s = second_at ((l - passed) % 65536) u s (past_left P E F rest s) isu
 
-      left_size : (P : Scope) (E F : Term) (rest : List ℕ) → TwoAt t P E F rest → length t - length u ≡ size 1 E
+      left_size : (P : Scope) (E F : Term) (rest : List ℕ) → TwoAt t P E F rest → length t - length u ≡ size P.edition.width E
       left_size P E F rest s = before_second t u s (second_here P E F rest s)
 
       second_sound : Sound (length t) k (length entry) r
@@ -133,12 +133,12 @@ module _ (x c : ℕ) (t M : List ℕ) (k : ℕ) (entry mid : List ℕ) (n l : �
         sound = decided_sound h (length entry) second_sound;
         has_room = λ P E F rest s a b.
             let v = second_here P E F rest s in
-            decided_room h (second.has_room P F rest v (omega (arith, a, same)) (omega (arith, b))) (derived_room second kept P F rest v 2 (omega (arith, a, same, size_pos 1 E)));
+            decided_room h (second.has_room P F rest v (omega (arith, a, same)) (omega (arith, b))) (derived_room second kept P F rest v 2 (omega (arith, a, same, size_pos P.edition.width E)));
         right = λ P E F rest s z.
             let v = second_here P E F rest s in
             let j = past_count P E F rest s in
             let o = outcome_of second P F rest v (before_full h z) in
-            outcome_as _ _ _ refl refl (λ y. (λ i. (c + 1) ∷ left_size P E F rest s i ∷ path x (holding M) F (j i)) ∙ two_second M x E F c k (past_all P E F rest s))
+            outcome_as _ _ _ refl refl (λ y. (λ i. (c + 1) ∷ left_size P E F rest s i ∷ path P.edition.width x (holding M) F (j i)) ∙ two_second M x P.edition.width E F c k (past_all P E F rest s))
             (outcome_later (shown_count x M E) k (past_all P E F rest s) j (decided_outcome h z o));
       }
 
@@ -149,7 +149,7 @@ choice_derived x c t M k entry exit n r two e =
     derived_of (sound_more (length (23 ∷ t)) k h.sound (omega arith) (omega arith)) (choice_cases t (Told x M k entry exit n r)
     (λ P E F rest s. (
       λ a b. h.has_room P E F rest s a (rw (room_choice (holding M) E F) at b),
-      λ z. outcome_as _ _ _ (count_choice M x E F) refl (λ y. path_choice M x E F k) (h.right P E F rest s z),
+      λ z. outcome_as _ _ _ (count_choice M x E F) refl (λ y. path_choice M x P.edition.width E F k) (h.right P E F rest s z),
     )))
 
 -- ── the first of two operands has no move k, and the second is passed over ──
@@ -168,11 +168,11 @@ module _ (x : ℕ) (t M : List ℕ) (k : ℕ) (entry exit : List ℕ) (n l : ℕ
 
   pub behind_outcome : (P : Scope) (E F : Term) (rest : List ℕ) → TwoAt t P E F rest → (p : List ℕ) → Outcome (shown_count x M E) p (length rest) k exit r
   behind_outcome P E F rest s p =
-      let w = outcome_passed (outcome_of h P E (words 1 F ++ rest) s.first fl) pl in
-      let sh : length (words 1 F ++ rest) ≤ 65535 = omega (arith, behind_shorter t P E (words 1 F ++ rest) s.first) in
-      let a : l - passed ≡ answer (length (words 1 F ++ rest)) (k - shown_count x M E) = omega (arith, w.1) in
-      let le = answered_left (l - passed) (length (words 1 F ++ rest)) (k - shown_count x M E) a sh in
-      let co = answered_count (l - passed) (length (words 1 F ++ rest)) (k - shown_count x M E) a sh in
+      let w = outcome_passed (outcome_of h P E (words P.edition.width F ++ rest) s.first fl) pl in
+      let sh : length (words P.edition.width F ++ rest) ≤ 65535 = omega (arith, behind_shorter t P E (words P.edition.width F ++ rest) s.first) in
+      let a : l - passed ≡ answer (length (words P.edition.width F ++ rest)) (k - shown_count x M E) = omega (arith, w.1) in
+      let le = answered_left (l - passed) (length (words P.edition.width F ++ rest)) (k - shown_count x M E) a sh in
+      let co = answered_count (l - passed) (length (words P.edition.width F ++ rest)) (k - shown_count x M E) a sh in
       let be = f P F rest (second_at ((l - passed) % 65536) u s le isu) in
       record { found = λ y. absurd (omega (arith, w.0)); none_found = λ y. e ∙ (λ i. passed + answer (be i) (co i)) }
 
@@ -186,7 +186,7 @@ module _ (x : ℕ) (t M : List ℕ) (k : ℕ) (entry exit : List ℕ) (n : ℕ) 
       let d = first_done s e in
       let b = second_behind s u e f in (
         λ v y. h.has_room P F rest b (omega (arith, v)) (rw (room_after_done (holding M) E F d) at y),
-        λ z. outcome_as _ _ _ (count_after_done M x E F d) refl (λ y. path_after_done M x E F k d) (outcome_of h P F rest b z),
+        λ z. outcome_as _ _ _ (count_after_done M x E F d) refl (λ y. path_after_done M x P.edition.width E F k d) (outcome_of h P F rest b z),
       )))
 
   module _ (l : ℕ) (h : DerivedShown x t M k entry exit n l) (o : get_or t 0 0 ≡ 30 → ⊥) where
@@ -195,7 +195,7 @@ module _ (x : ℕ) (t M : List ℕ) (k : ℕ) (entry exit : List ℕ) (n : ℕ) 
     sequence_lost f = derived_of (sound_lost (length (22 ∷ t)) k (length entry)) (sequence_cases t (Told x M k entry exit n full)
         (λ P E F rest s.
         let d = first_other s o in (
-          λ v y. absurd (omega (arith, h.has_room P E (words 1 F ++ rest) s.first (omega (arith, v)) (rw (room_sequence (holding M) E F d) at y), f)),
+          λ v y. absurd (omega (arith, h.has_room P E (words P.edition.width F ++ rest) s.first (omega (arith, v)) (rw (room_sequence (holding M) E F d) at y), f)),
           λ z. never_full z,
         )))
 
@@ -205,8 +205,8 @@ module _ (x : ℕ) (t M : List ℕ) (k : ℕ) (entry exit : List ℕ) (n : ℕ) 
         let d = first_other s o in (
           λ v y. omega arith,
           λ z.
-              let w = outcome_of h P E (words 1 F ++ rest) s.first z in
-              outcome_as _ _ _ (count_sequence M x E F d) refl (λ y. path_sequence M x E F k d) (outcome_early (shown_count x M E) (length rest) (outcome_place w f).0 (omega arith) w),
+              let w = outcome_of h P E (words P.edition.width F ++ rest) s.first z in
+              outcome_as _ _ _ (count_sequence M x E F d) refl (λ y. path_sequence M x P.edition.width E F k d) (outcome_early (shown_count x M E) (length rest) (outcome_place w f).0 (omega arith) w),
         )))
 
     pub sequence_passed : (u : List ℕ) (b r : ℕ) → passed ≤ l → l < full → length t ≤ 65535 → k < 131072 → u ≡ last_of ((l - passed) % 65536) t → b ≤ length u
@@ -216,7 +216,7 @@ module _ (x : ℕ) (t M : List ℕ) (k : ℕ) (entry exit : List ℕ) (n : ℕ) 
         (λ P E F rest s. (
           λ v y. behind_low x t M k entry exit n l h u b r pl fl short small isu bu f e,
           λ z. outcome_as _ _ _ (count_sequence M x E F (first_other s o)) refl (λ y. refl)
-              (behind_outcome x t M k entry exit n l h u b r pl fl short small isu bu f e P E F rest s (path x (holding M) (Sequence E F) k)),
+              (behind_outcome x t M k entry exit n l h u b r pl fl short small isu bu f e P E F rest s (path P.edition.width x (holding M) (Sequence E F) k)),
         )))
 
 -- ── a star ──
@@ -230,7 +230,7 @@ module _ (x : ℕ) (t M : List ℕ) (k : ℕ) (entry exit : List ℕ) (n q : ℕ
       derived_of (sound_more (length (24 ∷ t)) k (decided_sound h (length entry) sd) (omega arith) (omega arith)) (star_cases t (Told x M k entry exit n q)
       (λ P E rest s. (
         λ v y. decided_room h (omega arith) (λ z. omega (arith, v)),
-        λ z. outcome_as _ _ _ (count_star M x E) refl (λ y. path_end M x E k e)
+        λ z. outcome_as _ _ _ (count_star M x E) refl (λ y. path_end M x P.edition.width E k e)
             (outcome_early (1 + shown_count x M E) (length rest) (omega arith) (omega arith) (decided_outcome h z (outcome_single k 0 (length entry) entry (λ y. refl) nk few))),
       )))
 
@@ -241,7 +241,7 @@ module _ (x : ℕ) (t M : List ℕ) (k : ℕ) (entry exit : List ℕ) (n q : ℕ
       derived_of (sound_more (length (24 ∷ t)) k (decided_sound w (length entry) (sound_of h)) (omega arith) (omega arith)) (star_cases t (Told x M k entry exit n q)
       (λ P E rest s. (
         λ v y. decided_room w (h.has_room P E rest s (omega (arith, v)) (omega (arith, y, room_star (holding M) E))) (derived_room h same P E rest s 1 v),
-        λ z. outcome_as _ _ _ (count_star M x E) refl (λ y. path_round M x E k e) (outcome_later 1 k (omega arith) refl (decided_outcome w z (outcome_of h P E rest s (before_full w z)))),
+        λ z. outcome_as _ _ _ (count_star M x E) refl (λ y. path_round M x P.edition.width E k e) (outcome_later 1 k (omega arith) refl (decided_outcome w z (outcome_of h P E rest s (before_full w z)))),
       )))
 
 -- ── a guard ──
@@ -267,7 +267,7 @@ module _ (x : ℕ) (t M u : List ℕ) (c : ℕ) (judged : Judged t M c) (isu : u
       let b = truth_some (holding M C) (λ e. o (holds t M u c judged isu P C E rest s ∙ e)) in
       let v = guarded_here t M u c judged isu P C E rest s in (
         λ w y. h.has_room P E rest v (omega (arith, w)) (rw (room_guard (holding M) C E b) at y),
-        λ z. outcome_as _ _ _ (count_guard M x C E b) refl (λ y. path_guard M x C E k) (outcome_of h P E rest v z),
+        λ z. outcome_as _ _ _ (count_guard M x C E b) refl (λ y. path_guard M x P.edition.width C E k) (outcome_of h P E rest v z),
       )))
 
 -- ── the code in front ──

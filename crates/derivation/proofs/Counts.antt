@@ -98,47 +98,47 @@ module _ (M : List ℕ) (x : ℕ) where
   unfolding outside
   count_shut C E h = count_of (Guard C E) [] (codes_shut g C E h)
 
-  pub path_after_done : (E F : Term) (k : ℕ) → done? E ≡ true → path x g F k ≡ path x g (Sequence E F) k
+  pub path_after_done : (w : ℕ) (E F : Term) (k : ℕ) → done? E ≡ true → path w x g F k ≡ path w x g (Sequence E F) k
   unfolding path
-  path_after_done E F k h = ap (λ b. cond b (path x g F k) (path x g E k)) (sym h)
+  path_after_done w E F k h = ap (λ b. cond b (path w x g F k) (path w x g E k)) (sym h)
 
-  pub path_sequence : (E F : Term) (k : ℕ) → done? E ≡ false → path x g E k ≡ path x g (Sequence E F) k
+  pub path_sequence : (w : ℕ) (E F : Term) (k : ℕ) → done? E ≡ false → path w x g E k ≡ path w x g (Sequence E F) k
   unfolding path
-  path_sequence E F k h = ap (λ b. cond b (path x g F k) (path x g E k)) (sym h)
+  path_sequence w E F k h = ap (λ b. cond b (path w x g F k) (path w x g E k)) (sym h)
 
   -- c is the decision for the first of two operands
-  abbrev turn : ℕ → Term → Term → ℕ → List ℕ
-  turn c E F k = path_in_turn c (size 1 E) (shown_count x M E) (path x g E) (path x g F) k
+  abbrev turn : ℕ → ℕ → Term → Term → ℕ → List ℕ
+  turn w c E F k = path_in_turn c (size w E) (shown_count x M E) (path w x g E) (path w x g F) k
 
-  pub path_choice : (E F : Term) (k : ℕ) → turn 0 E F k ≡ path x g (Choice E F) k
+  pub path_choice : (w : ℕ) (E F : Term) (k : ℕ) → turn w 0 E F k ≡ path w x g (Choice E F) k
   unfolding path
-  path_choice E F k = refl
+  path_choice w E F k = refl
 
-  pub path_end : (E : Term) (k : ℕ) → k ≡ 0 → 0 ∷ [] ≡ path x g (Star E) k
+  pub path_end : (w : ℕ) (E : Term) (k : ℕ) → k ≡ 0 → 0 ∷ [] ≡ path w x g (Star E) k
   unfolding path
-  path_end E k e = ap (λ b. pick b (0 ∷ []) (1 ∷ path x g E (k - 1))) (sym (eq-eqb k 0 e))
+  path_end w E k e = ap (λ b. pick b (0 ∷ []) (1 ∷ path w x g E (k - 1))) (sym (eq-eqb k 0 e))
 
-  pub path_round : (E : Term) (k : ℕ) → (k ≡ 0 → ⊥) → 1 ∷ path x g E (k - 1) ≡ path x g (Star E) k
+  pub path_round : (w : ℕ) (E : Term) (k : ℕ) → (k ≡ 0 → ⊥) → 1 ∷ path w x g E (k - 1) ≡ path w x g (Star E) k
   unfolding path
-  path_round E k e = ap (λ b. pick b (0 ∷ []) (1 ∷ path x g E (k - 1))) (sym (ne_eqb k 0 e))
+  path_round w E k e = ap (λ b. pick b (0 ∷ []) (1 ∷ path w x g E (k - 1))) (sym (ne_eqb k 0 e))
 
-  pub path_guard : (C : Cond) (E : Term) (k : ℕ) → path x g E k ≡ path x g (Guard C E) k
+  pub path_guard : (w : ℕ) (C : Cond) (E : Term) (k : ℕ) → path w x g E k ≡ path w x g (Guard C E) k
   unfolding path
-  path_guard C E k = refl
+  path_guard w C E k = refl
 
-  pub path_internal : (k : ℕ) → [] ≡ path x g Internal k
+  pub path_internal : (w : ℕ) (k : ℕ) → [] ≡ path w x g Internal k
   unfolding path
-  path_internal k = refl
+  path_internal w k = refl
 
-  pub path_perform : (a : VisibleAction) (k : ℕ) → [] ≡ path x g (Perform a) k
+  pub path_perform : (w : ℕ) (a : VisibleAction) (k : ℕ) → [] ≡ path w x g (Perform a) k
   unfolding path
-  path_perform a k = refl
+  path_perform w a k = refl
 
-  pub two_first : (E F : Term) (c k : ℕ) → k < shown_count x M E → c ∷ path x g E k ≡ turn c E F k
-  two_first E F c k h = ap (λ b. pick b (c ∷ path x g E k) ((c + 1) ∷ size 1 E ∷ path x g F (k - shown_count x M E))) (sym (lt-ltb k (shown_count x M E) h))
+  pub two_first : (w : ℕ) (E F : Term) (c k : ℕ) → k < shown_count x M E → c ∷ path w x g E k ≡ turn w c E F k
+  two_first w E F c k h = ap (λ b. pick b (c ∷ path w x g E k) ((c + 1) ∷ size w E ∷ path w x g F (k - shown_count x M E))) (sym (lt-ltb k (shown_count x M E) h))
 
-  pub two_second : (E F : Term) (c k : ℕ) → shown_count x M E ≤ k → (c + 1) ∷ size 1 E ∷ path x g F (k - shown_count x M E) ≡ turn c E F k
-  two_second E F c k h = ap (λ b. pick b (c ∷ path x g E k) ((c + 1) ∷ size 1 E ∷ path x g F (k - shown_count x M E))) (sym (le-ltb k (shown_count x M E) h))
+  pub two_second : (w : ℕ) (E F : Term) (c k : ℕ) → shown_count x M E ≤ k → (c + 1) ∷ size w E ∷ path w x g F (k - shown_count x M E) ≡ turn w c E F k
+  two_second w E F c k h = ap (λ b. pick b (c ∷ path w x g E k) ((c + 1) ∷ size w E ∷ path w x g F (k - shown_count x M E))) (sym (le-ltb k (shown_count x M E) h))
 
   -- ── a parallel ──
 
@@ -215,21 +215,21 @@ module _ (M : List ℕ) (x : ℕ) where
           go true z = omega (arith, room_zero g Δ E F h z)
           go false z = omega (arith, room_masked g Δ E F h z)
 
-    opened : (k : ℕ) → path x g (Parallel Δ E F) k ≡ cond (done? E && done? F) (0 ∷ []) (cond (has_all x δ) (turn 1 E F k) (masked_path x δ M k E F))
+    opened : (w : ℕ) (k : ℕ) → path w x g (Parallel Δ E F) k ≡ cond (done? E && done? F) (0 ∷ []) (cond (has_all x δ) (turn w 1 E F k) (masked_path x δ M k w E F))
     unfolding path codes
-    opened k = refl
+    opened w k = refl
 
-    pub path_both_done : (k : ℕ) → (done? E && done? F) ≡ true → 0 ∷ [] ≡ path x g (Parallel Δ E F) k
-    path_both_done k h = sym (opened k ∙ ap (λ b. cond b (0 ∷ []) (cond (has_all x δ) (turn 1 E F k) (masked_path x δ M k E F))) h)
+    pub path_both_done : (w : ℕ) (k : ℕ) → (done? E && done? F) ≡ true → 0 ∷ [] ≡ path w x g (Parallel Δ E F) k
+    path_both_done w k h = sym (opened w k ∙ ap (λ b. cond b (0 ∷ []) (cond (has_all x δ) (turn w 1 E F k) (masked_path x δ M k w E F))) h)
 
-    other : (k : ℕ) → (done? E && done? F) ≡ false → path x g (Parallel Δ E F) k ≡ cond (has_all x δ) (turn 1 E F k) (masked_path x δ M k E F)
-    other k h = opened k ∙ ap (λ b. cond b (0 ∷ []) (cond (has_all x δ) (turn 1 E F k) (masked_path x δ M k E F))) h
+    other : (w : ℕ) (k : ℕ) → (done? E && done? F) ≡ false → path w x g (Parallel Δ E F) k ≡ cond (has_all x δ) (turn w 1 E F k) (masked_path x δ M k w E F)
+    other w k h = opened w k ∙ ap (λ b. cond b (0 ∷ []) (cond (has_all x δ) (turn w 1 E F k) (masked_path x δ M k w E F))) h
 
-    pub path_covered : (k : ℕ) → (done? E && done? F) ≡ false → has_all x δ ≡ true → turn 1 E F k ≡ path x g (Parallel Δ E F) k
-    path_covered k h z = sym (other k h ∙ ap (λ b. cond b (turn 1 E F k) (masked_path x δ M k E F)) z)
+    pub path_covered : (w : ℕ) (k : ℕ) → (done? E && done? F) ≡ false → has_all x δ ≡ true → turn w 1 E F k ≡ path w x g (Parallel Δ E F) k
+    path_covered w k h z = sym (other w k h ∙ ap (λ b. cond b (turn w 1 E F k) (masked_path x δ M k w E F)) z)
 
-    pub path_masked : (k : ℕ) → (done? E && done? F) ≡ false → has_all x δ ≡ false → masked_path x δ M k E F ≡ path x g (Parallel Δ E F) k
-    path_masked k h z = sym (other k h ∙ ap (λ b. cond b (turn 1 E F k) (masked_path x δ M k E F)) z)
+    pub path_masked : (w : ℕ) (k : ℕ) → (done? E && done? F) ≡ false → has_all x δ ≡ false → masked_path x δ M k w E F ≡ path w x g (Parallel Δ E F) k
+    path_masked w k h z = sym (other w k h ∙ ap (λ b. cond b (turn w 1 E F k) (masked_path x δ M k w E F)) z)
 
 -- Below no mask every move shows.
 module _ (M : List ℕ) where

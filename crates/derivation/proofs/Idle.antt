@@ -31,7 +31,7 @@ abbrev pub Skipped : List ℕ → ℕ → Type 0
 Skipped t b = (b ≤ length t) × ((P : Scope) (E : Term) (rest : List ℕ) → TermAt t P E rest → b ≡ length rest)
 
 pub skipped_at : {t u : List ℕ} {P : Scope} {E F : Term} {rest : List ℕ} {b : ℕ} → Skipped t b → u ≡ last_of b t → TwoAt t P E F rest → TermAt u P F rest
-skipped_at {t} {u} {P} {E} {F} {rest} {b} h isu s = second_at b u s (h.1 P E (words 1 F ++ rest) s.first) isu
+skipped_at {t} {u} {P} {E} {F} {rest} {b} h isu s = second_at b u s (h.1 P E (words P.edition.width F ++ rest) s.first) isu
 
 -- ── the right moves ──
 
@@ -41,10 +41,10 @@ right_derived y t u M k entry mid exit n b r q skipped isu walked same h = recor
   sound = decided_sound h (length entry) (sound_more (length t) k (sound_of walked) (last_len b t u isu) (omega arith));
   has_room = λ P E F rest s v w.
       let a = skipped_at skipped isu s in
-      decided_room h (walked.has_room P F rest a (omega (arith, v)) (omega (arith, w))) (derived_room walked same P F rest a 2 (omega (arith, v, size_pos 1 E)));
+      decided_room h (walked.has_room P F rest a (omega (arith, v)) (omega (arith, w))) (derived_room walked same P F rest a 2 (omega (arith, v, size_pos P.edition.width E)));
   right = λ P E F rest s z.
       let a = skipped_at skipped isu s in
-      outcome_as _ _ _ refl refl (λ j. ap (λ i. 2 ∷ i ∷ path y (holding M) F k) (before_second t u s a)) (decided_outcome h z (outcome_of walked P F rest a (before_full h z)));
+      outcome_as _ _ _ refl refl (λ j. ap (λ i. 2 ∷ i ∷ path P.edition.width y (holding M) F k) (before_second t u s a)) (decided_outcome h z (outcome_of walked P F rest a (before_full h z)));
 }
 
 -- ── the left moves ──
@@ -53,9 +53,9 @@ module _ (y : ℕ) (t M : List ℕ) (k : ℕ) (entry mid : List ℕ) (n l : ℕ)
   pub left_found : length mid ≡ length entry → l < passed → (exit : List ℕ) (q : ℕ) → Decided (1 ∷ []) l mid exit q → LeftDerived y t M k entry exit n q
   left_found same f exit q h = record {
     sound = decided_sound h (length entry) (sound_of walked);
-    has_room = λ P E F rest s v w. decided_room h (omega arith) (derived_room walked same P E (words 1 F ++ rest) s.first 1 (omega (arith, v)));
+    has_room = λ P E F rest s v w. decided_room h (omega arith) (derived_room walked same P E (words P.edition.width F ++ rest) s.first 1 (omega (arith, v)));
     right = λ P E F rest s z.
-        let o = outcome_of walked P E (words 1 F ++ rest) s.first (omega arith) in
+        let o = outcome_of walked P E (words P.edition.width F ++ rest) s.first (omega arith) in
         outcome_early _ (length rest) (outcome_place o f).0 (omega arith) (decided_outcome h z o);
   }
 
@@ -64,7 +64,7 @@ module _ (y : ℕ) (t M : List ℕ) (k : ℕ) (entry mid : List ℕ) (n l : ℕ)
   left_passed u b r pl fl short small isu skipped e = record {
     sound = behind_sound y t M k entry mid n l walked u b r pl fl short small isu skipped.0 skipped.1 e;
     has_room = λ P E F rest s v w. behind_low y t M k entry mid n l walked u b r pl fl short small isu skipped.0 skipped.1 e;
-    right = λ P E F rest s z. behind_outcome y t M k entry mid n l walked u b r pl fl short small isu skipped.0 skipped.1 e P E F rest s (1 ∷ path y (holding M) E k);
+    right = λ P E F rest s z. behind_outcome y t M k entry mid n l walked u b r pl fl short small isu skipped.0 skipped.1 e P E F rest s (1 ∷ path P.edition.width y (holding M) E k);
   }
 
 -- ── which of them ──
@@ -75,7 +75,7 @@ Idle t b = (P : Scope) (E : Term) (rest : List ℕ) → TermAt t P E rest → b 
 
 module _ (x δ : ℕ) (t M : List ℕ) (k : ℕ) (entry exit : List ℕ) (n r : ℕ) (a : Bool) (left : Idle t a) where
   left_is : {P : Scope} {E F : Term} {rest : List ℕ} → TwoAt t P E F rest → idle E ≡ a
-  left_is {P} {E} {F} {rest} s = sym (left P E (words 1 F ++ rest) s.first)
+  left_is {P} {E} {F} {rest} s = sym (left P E (words P.edition.width F ++ rest) s.first)
 
   pub masked_right : a ≡ true → (y : ℕ) → y ≡ bit_or x δ → RightDerived y t M k entry exit n r → MaskedDerived x δ t M k entry exit n r
   masked_right e y joined g =
@@ -86,7 +86,7 @@ module _ (x δ : ℕ) (t M : List ℕ) (k : ℕ) (entry exit : List ℕ) (n r : 
         right = λ P E F rest s z.
             let i : idle E ≡ true = left_is s ∙ e in
             outcome_as _ _ _ (both_right M x δ E F i) refl
-            (λ j. sym (ap (λ b. cond b (2 ∷ size 1 E ∷ path (bit_or x δ) (holding M) F k) (cond (idle F) (1 ∷ path (bit_or x δ) (holding M) E k) (listed_path x δ M k E F))) i))
+            (λ j. sym (ap (λ b. cond b (2 ∷ size P.edition.width E ∷ path P.edition.width (bit_or x δ) (holding M) F k) (cond (idle F) (1 ∷ path P.edition.width (bit_or x δ) (holding M) E k) (listed_path x δ M k P.edition.width E F))) i))
             (h.right P E F rest s z);
       }
 
@@ -94,10 +94,10 @@ module _ (x δ : ℕ) (t M : List ℕ) (k : ℕ) (entry exit : List ℕ) (n r : 
     right_is : {P : Scope} {E F : Term} {rest : List ℕ} → TwoAt t P E F rest → idle F ≡ b
     right_is {P} {E} {F} {rest} s = sym (right P F rest (skipped_at skipped isu s))
 
-    later : {P : Scope} {E F : Term} {rest : List ℕ} → TwoAt t P E F rest → masked_path x δ M k E F ≡ cond b (1 ∷ path (bit_or x δ) (holding M) E k) (listed_path x δ M k E F)
+    later : {P : Scope} {E F : Term} {rest : List ℕ} → TwoAt t P E F rest → masked_path x δ M k P.edition.width E F ≡ cond b (1 ∷ path P.edition.width (bit_or x δ) (holding M) E k) (listed_path x δ M k P.edition.width E F)
     later {P} {E} {F} {rest} s =
-        ap (λ i. cond i (2 ∷ size 1 E ∷ path (bit_or x δ) (holding M) F k) (cond (idle F) (1 ∷ path (bit_or x δ) (holding M) E k) (listed_path x δ M k E F))) (left_is s ∙ e)
-        ∙ ap (λ i. cond i (1 ∷ path (bit_or x δ) (holding M) E k) (listed_path x δ M k E F)) (right_is s)
+        ap (λ i. cond i (2 ∷ size P.edition.width E ∷ path P.edition.width (bit_or x δ) (holding M) F k) (cond (idle F) (1 ∷ path P.edition.width (bit_or x δ) (holding M) E k) (listed_path x δ M k P.edition.width E F))) (left_is s ∙ e)
+        ∙ ap (λ i. cond i (1 ∷ path P.edition.width (bit_or x δ) (holding M) E k) (listed_path x δ M k P.edition.width E F)) (right_is s)
 
     pub masked_left : b ≡ true → (y : ℕ) → y ≡ bit_or x δ → LeftDerived y t M k entry exit n r → MaskedDerived x δ t M k entry exit n r
     masked_left f y joined g =
@@ -106,7 +106,7 @@ module _ (x δ : ℕ) (t M : List ℕ) (k : ℕ) (entry exit : List ℕ) (n r : 
           sound = h.sound;
           has_room = λ P E F rest s v w. h.has_room P E F rest s (omega (arith, v)) w;
           right = λ P E F rest s z. outcome_as _ _ _ (both_left M x δ E F (right_is s ∙ f)) refl
-              (λ j. sym (later s ∙ ap (λ i. cond i (1 ∷ path (bit_or x δ) (holding M) E k) (listed_path x δ M k E F)) f)) (h.right P E F rest s z);
+              (λ j. sym (later s ∙ ap (λ i. cond i (1 ∷ path P.edition.width (bit_or x δ) (holding M) E k) (listed_path x δ M k P.edition.width E F)) f)) (h.right P E F rest s z);
         }
 
     pub masked_listed : b ≡ false → ListedDerived x δ t M k entry exit n r → MaskedDerived x δ t M k entry exit n r
@@ -114,5 +114,5 @@ module _ (x δ : ℕ) (t M : List ℕ) (k : ℕ) (entry exit : List ℕ) (n r : 
       sound = h.sound;
       has_room = h.has_room;
       right = λ P E F rest s z. outcome_as _ _ _ refl refl
-          (λ j. sym (later s ∙ ap (λ i. cond i (1 ∷ path (bit_or x δ) (holding M) E k) (listed_path x δ M k E F)) f)) (h.right P E F rest s z);
+          (λ j. sym (later s ∙ ap (λ i. cond i (1 ∷ path P.edition.width (bit_or x δ) (holding M) E k) (listed_path x δ M k P.edition.width E F)) f)) (h.right P E F rest s z);
     }

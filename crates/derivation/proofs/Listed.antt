@@ -31,8 +31,8 @@ module _ (t M acts mid : List ℕ) (l : Moves) (first : Listed t M acts mid (Som
   first_fits = omega (arith, first.count_bounded, first.same_length)
 
   module _ (P : Scope) (E F : Term) (rest : List ℕ) (s : TwoAt t P E F rest) where
-    first_right : Right (holding M) E (words 1 F ++ rest) mid l
-    first_right = first.right P E (words 1 F ++ rest) s.first
+    first_right : Right (holding M) E (words P.edition.width F ++ rest) mid l
+    first_right = first.right P E (words P.edition.width F ++ rest) s.first
 
     first_listed : take l.count mid ≡ codes (holding M) E
     first_listed = ap (λ n. take n mid) first_right.counted ∙ first_right.listed
@@ -103,7 +103,7 @@ module _ (t M acts mid : List ℕ) (l : Moves) (first : Listed t M acts mid (Som
 
         left_at : TermAt t P E u
         left_at =
-            let e : words 1 F ++ rest ≡ u = sym (second_here P E F rest s).spelled in
+            let e : words P.edition.width F ++ rest ≡ u = sym (second_here P E F rest s).spelled in
             subst (TermAt t P E) e s.first
 
         behind_right : (v : List ℕ) → v ≡ last_of r.left u → v ≡ rest
@@ -141,7 +141,7 @@ module _ (t M acts mid : List ℕ) (l : Moves) (first : Listed t M acts mid (Som
                 found = λ y. (
                   omega (arith, h.placed i),
                   h.found P E F rest (left_at P E F rest s) (second_here P E F rest s) (within_is P E F rest s (sides_of w) (loc.found pw).1) i
-                      ∙ ap (sides_path M E F) (sym (loc.found pw).2 ∙ locate_is P E F rest s x δ k),
+                      ∙ ap (sides_path M P.edition.width E F) (sym (loc.found pw).2 ∙ locate_is P E F rest s x δ k),
                 );
                 none_found = λ y. absurd (omega (arith, (loc.found pw).0, e));
               };

@@ -51,7 +51,7 @@ module _ (x : ℕ) (d t M : List ℕ) (k : ℕ) (entry exit : List ℕ) (n : ℕ
         λ w y. by_order k 1
             (λ z. let o : q ≡ length entry = a (omega arith) in decided_room h (omega arith) (λ i. omega (arith, w, o)))
             (λ z. decided_room h (omega (arith, c z, answer_is (length v) (k - 1), done_short v f)) (λ i. absurd (omega (arith, c z, i)))),
-        λ z. outcome_as _ _ _ (count_both_done M x Δ E F o) (ap length (sym (f ∙ behind_both (sides s) o))) (λ y. path_both_done M x Δ E F k o) (decided_outcome h z (outcome_single k (length v) q entry a c few)),
+        λ z. outcome_as _ _ _ (count_both_done M x Δ E F o) (ap length (sym (f ∙ behind_both (sides s) o))) (λ y. path_both_done M x Δ E F P.edition.width k o) (decided_outcome h z (outcome_single k (length v) q entry a c few)),
       )))
 
   module _ (e : b ≡ false) (δ : ℕ) (isδ : δ ≡ mask_set d) (y : ℕ) (joined : y ≡ bit_or x δ) where
@@ -70,7 +70,7 @@ module _ (x : ℕ) (d t M : List ℕ) (k : ℕ) (entry exit : List ℕ) (n : ℕ
         let a : has_all x (mask_set Δ) ≡ true = all_is s ∙ eq-eqb y x f in
         let w = sides s in (
           λ v m. h.has_room P E F rest w (omega (arith, v)) (omega (arith, m, room_sides M x Δ E F (other s))),
-          λ i. outcome_as _ _ _ (count_covered M x Δ E F (other s) P a w.first.fits w.second.fits) refl (λ j. path_covered M x Δ E F k (other s) a) (h.right P E F rest w i),
+          λ i. outcome_as _ _ _ (count_covered M x Δ E F (other s) P a w.first.fits w.second.fits) refl (λ j. path_covered M x Δ E F P.edition.width k (other s) a) (h.right P E F rest w i),
         )))
 
     pub parallel_masked : (y ≡ x → ⊥) → MaskedDerived x δ t M k entry exit n r → DerivedShown x (25 ∷ d) M k entry exit n r
@@ -80,5 +80,5 @@ module _ (x : ℕ) (d t M : List ℕ) (k : ℕ) (entry exit : List ℕ) (n : ℕ
         let w = sides s in
         let g : MaskedDerived x (mask_set Δ) t M k entry exit n r = subst (λ v. MaskedDerived x v t M k entry exit n r) (mask_is s) h in (
           λ v m. g.has_room P E F rest w (omega (arith, v)) (omega (arith, m, room_sides M x Δ E F (other s))),
-          λ i. outcome_as _ _ _ (count_masked M x Δ E F (other s) P w.first.fits w.second.fits) refl (λ j. path_masked M x Δ E F k (other s) a) (g.right P E F rest w i),
+          λ i. outcome_as _ _ _ (count_masked M x Δ E F (other s) P w.first.fits w.second.fits) refl (λ j. path_masked M x Δ E F P.edition.width k (other s) a) (g.right P E F rest w i),
         )))

@@ -39,11 +39,11 @@ module _ (t u M : List ℕ) (i j : ℕ) (entry mid : List ℕ) (n q : ℕ) (righ
     front_is = length-take-le q mid place_in
 
     module _ (P : Scope) (F : Term) (rest : List ℕ) (y : TermAt u P F rest) (jF : j < shown_count 0 M F) where
-      right_path : drop q mid ≡ path 0 (holding M) F j
+      right_path : drop q mid ≡ path P.edition.width 0 (holding M) F j
       right_path = (right.found P F rest y (omega arith) jF).1
 
-      left_room : (e : ℕ) → 2 + e + size 1 F ≤ length entry → 2 + e ≤ length (take q mid)
-      left_room e h = omega (arith, front_is, same, ap length right_path, length-drop q mid, path_length 0 (holding M) F j)
+      left_room : (e : ℕ) → 2 + e + size P.edition.width F ≤ length entry → 2 + e ≤ length (take q mid)
+      left_room e h = omega (arith, front_is, same, ap length right_path, length-drop q mid, path_length P.edition.width 0 (holding M) F j)
 
     module _ (back : List ℕ) (m p : ℕ) (ism : m ≡ n) (left : DerivedShown 0 t M i (take q mid) back m p) (kept : length back ≡ length (take q mid)) where
       pub both_none_left : passed ≤ p → (whole : List ℕ) → BothDerived t u M i j entry whole n full
@@ -51,7 +51,7 @@ module _ (t u M : List ℕ) (i j : ℕ) (entry mid : List ℕ) (n q : ℕ) (righ
         placed = λ z. never_full z;
         bounded = le_refl full;
         has_room = λ P E F rest x y iE jF sz rE rF.
-            absurd (omega (arith, pp, (left.found P E u x (left.has_room P E u x (omega (arith, left_room P F rest y jF (size 1 E) sz)) (omega (arith, rE))) iE).0));
+            absurd (omega (arith, pp, (left.found P E u x (left.has_room P E u x (omega (arith, left_room P F rest y jF (size P.edition.width E) sz)) (omega (arith, rE))) iE).0));
         found = λ P E F rest x y iE jF z. never_full z;
       }
 
@@ -62,7 +62,7 @@ module _ (t u M : List ℕ) (i j : ℕ) (entry mid : List ℕ) (n q : ℕ) (righ
       both_made pp whole exit r isw h = record {
         placed = λ z. omega (arith, (h.wrote pp z).0, left_placed pp, kept, front_is, place_in, same);
         bounded = h.bounded;
-        has_room = λ P E F rest x y iE jF sz rE rF. decided_room h (omega arith) (derived_room left kept P E u x 2 (left_room P F rest y jF (size 1 E) sz));
+        has_room = λ P E F rest x y iE jF sz rE rF. decided_room h (omega arith) (derived_room left kept P E u x 2 (left_room P F rest y jF (size P.edition.width E) sz));
         found = λ P E F rest x y iE jF z.
             (h.wrote pp z).1
             ∙ (λ o. 3 ∷ size_before x o
@@ -90,7 +90,7 @@ module _ (t u M : List ℕ) (x : ℕ) (entry mid : List ℕ) (n l : ℕ) (same :
       bounded = h.bounded;
       has_room = λ P E F rest y v w sz rE rF. decided_room h (omega arith) (derived_room walked same P E u y 1 (omega (arith, sz)));
       found = λ P E F rest y v w z.
-          (h.wrote pl z).1 ∙ ap (λ o. 1 ∷ o) (walked.found P E u y (omega arith) (left_within _ _ w)).1 ∙ ap (sides_path M E F) (sym (sides_left x lx));
+          (h.wrote pl z).1 ∙ ap (λ o. 1 ∷ o) (walked.found P E u y (omega arith) (left_within _ _ w)).1 ∙ ap (sides_path M P.edition.width E F) (sym (sides_left x lx));
     }
 
   module _ (walked : DerivedShown 0 u M (x - 131072) entry mid n l) (lx : 131072 ≤ x) (hx : x < 262144) where
@@ -111,7 +111,7 @@ module _ (t u M : List ℕ) (x : ℕ) (entry mid : List ℕ) (n l : ℕ) (same :
       bounded = h.bounded;
       has_room = λ P E F rest y v w sz rE rF. decided_room h (omega arith) (derived_room walked same P F rest v 2 (omega (arith, sz)));
       found = λ P E F rest y v w z.
-          (h.wrote pl z).1 ∙ (λ o. 2 ∷ size_before y o ∷ (walked.found P F rest v (omega arith) (right_within _ _ w)).1 o) ∙ ap (sides_path M E F) (sym (sides_right x lx hx));
+          (h.wrote pl z).1 ∙ (λ o. 2 ∷ size_before y o ∷ (walked.found P F rest v (omega arith) (right_within _ _ w)).1 o) ∙ ap (sides_path M P.edition.width E F) (sym (sides_right x lx hx));
     }
 
 pub sides_together : (t u M : List ℕ) (x : ℕ) (entry exit : List ℕ) (n r : ℕ) → 262144 ≤ x → BothDerived t u M ((x - 262144) / 131072) ((x - 262144) % 131072) entry exit n r → SidesDerived t u M x entry exit n r
@@ -125,7 +125,7 @@ sides_together t u M x entry exit n r lx h =
           h.has_room P E F rest y v i.0 i.1 sz rE rF;
       found = λ P E F rest y v w z.
           let i = subst (Within (shown_count 0 M E) (shown_count 0 M F)) e w in
-          h.found P E F rest y v i.0 i.1 z ∙ ap (sides_path M E F) (sym e);
+          h.found P E F rest y v i.0 i.1 z ∙ ap (sides_path M P.edition.width E F) (sym e);
     }
 
 pub sides_pair : (t u M : List ℕ) (i j : ℕ) (entry exit : List ℕ) (n r : ℕ) → j < 131072 → BothDerived t u M i j entry exit n r → SidesDerived t u M (262144 + (i * 131072 + j)) entry exit n r

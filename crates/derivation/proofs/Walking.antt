@@ -94,7 +94,7 @@ whole_back q mid back h l = omega (arith, h, length-append back (drop q mid), le
 pub derived_path : {x : ℕ} {s M : List ℕ} {k : ℕ} {entry mid exit : List ℕ} {n r : ℕ} → exit ≡ mid → DerivedShown x s M k entry mid n r → DerivedShown x s M k entry exit n r
 derived_path {x} {s} {M} {k} {entry} {mid} {exit} {n} {r} e h = subst (λ p. DerivedShown x s M k entry p n r) (sym e) h
 
-pub operands_path : {w : ℕ} {count : Term → Term → ℕ} {p : Term → Term → List ℕ} {t M : List ℕ} {k : ℕ} {entry mid exit : List ℕ} {n r : ℕ} → exit ≡ mid
+pub operands_path : {w : ℕ} {count : Term → Term → ℕ} {p : ℕ → Term → Term → List ℕ} {t M : List ℕ} {k : ℕ} {entry mid exit : List ℕ} {n r : ℕ} → exit ≡ mid
     → OperandsDerived w count p t M k entry mid n r → OperandsDerived w count p t M k entry exit n r
 operands_path {w} {count} {p} {t} {M} {k} {entry} {mid} {exit} {n} {r} e h = subst (λ o. OperandsDerived w count p t M k entry o n r) (sym e) h
 

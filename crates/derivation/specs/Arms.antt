@@ -41,42 +41,42 @@ pub record ActionDerived (x : ℕ) (t : List ℕ) (k end r : ℕ) : Type 0 where
   pub hidden : (a : VisibleAction) (rest : List ℕ) → ActionAt t a rest → in_set x (action_code (visible a)) ≡ true → r ≡ passed + answer (length rest) k
   pub shows : (a : VisibleAction) (rest : List ℕ) → ActionAt t a rest → in_set x (action_code (visible a)) ≡ false → (k ≡ 0 → r ≡ end) × (1 ≤ k → r ≡ passed + answer (length rest) (k - 1))
 
--- Two operands: how many of their moves show, and move k's path, which has at most w words more than both operands.
-pub record OperandsDerived (w : ℕ) (count : Term → Term → ℕ) (p : Term → Term → List ℕ) (t M : List ℕ) (k : ℕ) (entry exit : List ℕ) (n r : ℕ) : Type 0 where
+-- Two operands: how many of their moves show, and move k's path, over the words of a constant; it has at most w words more than both operands.
+pub record OperandsDerived (w : ℕ) (count : Term → Term → ℕ) (p : ℕ → Term → Term → List ℕ) (t M : List ℕ) (k : ℕ) (entry exit : List ℕ) (n r : ℕ) : Type 0 where
   pub sound : Sound (length t) k (length entry) r
-  pub has_room : (P : Scope) (E F : Term) (rest : List ℕ) → TwoAt t P E F rest → w + size 1 E + size 1 F ≤ length entry → two_room (holding M) E F ≤ n → r < full
-  pub right : (P : Scope) (E F : Term) (rest : List ℕ) → TwoAt t P E F rest → r < full → Outcome (count E F) (p E F) (length rest) k exit r
+  pub has_room : (P : Scope) (E F : Term) (rest : List ℕ) → TwoAt t P E F rest → w + size P.edition.width E + size P.edition.width F ≤ length entry → two_room (holding M) E F ≤ n → r < full
+  pub right : (P : Scope) (E F : Term) (rest : List ℕ) → TwoAt t P E F rest → r < full → Outcome (count E F) (p P.edition.width E F) (length rest) k exit r
 
 -- The second's moves behind the first's; c is the decision for the first, the one above it that for the second.
 abbrev pub TwoDerived : ℕ → ℕ → List ℕ → List ℕ → ℕ → List ℕ → List ℕ → ℕ → ℕ → Type 0
 TwoDerived x c t M k entry exit n r = OperandsDerived 1 (λ E F. shown_count x M E + shown_count x M F)
-    (λ E F. path_in_turn c (size 1 E) (shown_count x M E) (path x (holding M) E) (path x (holding M) F) k) t M k entry exit n r
+    (λ v E F. path_in_turn c (size v E) (shown_count x M E) (path v x (holding M) E) (path v x (holding M) F) k) t M k entry exit n r
 
 -- A parallel whose left side can never move: the right's moves that show below y.
 abbrev pub RightDerived : ℕ → List ℕ → List ℕ → ℕ → List ℕ → List ℕ → ℕ → ℕ → Type 0
-RightDerived y t M k entry exit n r = OperandsDerived 1 (λ E F. shown_count y M F) (λ E F. 2 ∷ size 1 E ∷ path y (holding M) F k) t M k entry exit n r
+RightDerived y t M k entry exit n r = OperandsDerived 1 (λ E F. shown_count y M F) (λ v E F. 2 ∷ size v E ∷ path v y (holding M) F k) t M k entry exit n r
 
 -- One whose right side can never move: the left's.
 abbrev pub LeftDerived : ℕ → List ℕ → List ℕ → ℕ → List ℕ → List ℕ → ℕ → ℕ → Type 0
-LeftDerived y t M k entry exit n r = OperandsDerived 1 (λ E F. shown_count y M E) (λ E F. 1 ∷ path y (holding M) E k) t M k entry exit n r
+LeftDerived y t M k entry exit n r = OperandsDerived 1 (λ E F. shown_count y M E) (λ v E F. 1 ∷ path v y (holding M) E k) t M k entry exit n r
 
 -- The path of a move of the sides found; each side's is one of all its moves.
-abbrev pub sides_path : List ℕ → Term → Term → Sides → List ℕ
-sides_path M E F s = path_by (size 1 E) (path 0 (holding M) E) (path 0 (holding M) F) s
+abbrev pub sides_path : List ℕ → ℕ → Term → Term → Sides → List ℕ
+sides_path M width E F s = path_by (size width E) (path width 0 (holding M) E) (path width 0 (holding M) F) s
 
 abbrev pub combined_count : ℕ → ℕ → List ℕ → Term → Term → ℕ
 combined_count x δ M E F = length (shown_combined x δ (codes (holding M) E) (codes (holding M) F))
 
-abbrev pub listed_path : ℕ → ℕ → List ℕ → ℕ → Term → Term → List ℕ
-listed_path x δ M k E F = sides_path M E F (locate (alone x δ) (paired x δ) (codes (holding M) E) (codes (holding M) F) k)
+abbrev pub listed_path : ℕ → ℕ → List ℕ → ℕ → ℕ → Term → Term → List ℕ
+listed_path x δ M k width E F = sides_path M width E F (locate (alone x δ) (paired x δ) (codes (holding M) E) (codes (holding M) F) k)
 
 -- Both sides may move: the sides are found among all their moves, δ is the mask's set.
 abbrev pub ListedDerived : ℕ → ℕ → List ℕ → List ℕ → ℕ → List ℕ → List ℕ → ℕ → ℕ → Type 0
 ListedDerived x δ t M k entry exit n r = OperandsDerived 2 (combined_count x δ M) (listed_path x δ M k) t M k entry exit n r
 
 -- A parallel whose mask hides more than x.
-abbrev pub masked_path : ℕ → ℕ → List ℕ → ℕ → Term → Term → List ℕ
-masked_path x δ M k E F = cond (idle E) (2 ∷ size 1 E ∷ path (bit_or x δ) (holding M) F k) (cond (idle F) (1 ∷ path (bit_or x δ) (holding M) E k) (listed_path x δ M k E F))
+abbrev pub masked_path : ℕ → ℕ → List ℕ → ℕ → ℕ → Term → Term → List ℕ
+masked_path x δ M k width E F = cond (idle E) (2 ∷ size width E ∷ path width (bit_or x δ) (holding M) F k) (cond (idle F) (1 ∷ path width (bit_or x δ) (holding M) E k) (listed_path x δ M k width E F))
 
 abbrev pub MaskedDerived : ℕ → ℕ → List ℕ → List ℕ → ℕ → List ℕ → List ℕ → ℕ → ℕ → Type 0
 MaskedDerived x δ t M k entry exit n r = OperandsDerived 2 (combined_count x δ M) (masked_path x δ M k) t M k entry exit n r
@@ -86,14 +86,14 @@ pub record SidesDerived (t u M : List ℕ) (z : ℕ) (entry exit : List ℕ) (n 
   pub placed : r < full → r ≤ length entry
   pub bounded : r ≤ full
   pub has_room : (P : Scope) (E F : Term) (rest : List ℕ) → TermAt t P E u → TermAt u P F rest → Within (shown_count 0 M E) (shown_count 0 M F) (sides_of z)
-      → 2 + size 1 E + size 1 F ≤ length entry → room (holding M) E ≤ n → room (holding M) F ≤ n → r < full
+      → 2 + size P.edition.width E + size P.edition.width F ≤ length entry → room (holding M) E ≤ n → room (holding M) F ≤ n → r < full
   pub found : (P : Scope) (E F : Term) (rest : List ℕ) → TermAt t P E u → TermAt u P F rest → Within (shown_count 0 M E) (shown_count 0 M F) (sides_of z)
-      → r < full → drop r exit ≡ sides_path M E F (sides_of z)
+      → r < full → drop r exit ≡ sides_path M P.edition.width E F (sides_of z)
 
 pub record BothDerived (t u M : List ℕ) (i j : ℕ) (entry exit : List ℕ) (n r : ℕ) : Type 0 where
   pub placed : r < full → r ≤ length entry
   pub bounded : r ≤ full
   pub has_room : (P : Scope) (E F : Term) (rest : List ℕ) → TermAt t P E u → TermAt u P F rest → i < shown_count 0 M E → j < shown_count 0 M F
-      → 2 + size 1 E + size 1 F ≤ length entry → room (holding M) E ≤ n → room (holding M) F ≤ n → r < full
+      → 2 + size P.edition.width E + size P.edition.width F ≤ length entry → room (holding M) E ≤ n → room (holding M) F ≤ n → r < full
   pub found : (P : Scope) (E F : Term) (rest : List ℕ) → TermAt t P E u → TermAt u P F rest → i < shown_count 0 M E → j < shown_count 0 M F
-      → r < full → drop r exit ≡ 3 ∷ size 1 E ∷ (path 0 (holding M) E i ++ path 0 (holding M) F j)
+      → r < full → drop r exit ≡ 3 ∷ size P.edition.width E ∷ (path P.edition.width 0 (holding M) E i ++ path P.edition.width 0 (holding M) F j)

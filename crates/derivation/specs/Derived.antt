@@ -24,8 +24,8 @@ pub record Derived (s M : List ℕ) (k : ℕ) (entry exit : List ℕ) (n r : ℕ
   pub bounded : r ≤ full
   pub place_bounded : r < passed → r ≤ length entry
   pub passed_bounded : passed ≤ r → r < full → r ≤ passed + answer (length s) k
-  pub has_room : (P : Scope) (E : Term) (rest : List ℕ) → TermAt s P E rest → size 1 E ≤ length entry → room (holding M) E ≤ n → r < full
-  pub found : (P : Scope) (E : Term) (rest : List ℕ) → TermAt s P E rest → r < full → k < move_count M E → (r < passed) × (drop r exit ≡ path 0 (holding M) E k)
+  pub has_room : (P : Scope) (E : Term) (rest : List ℕ) → TermAt s P E rest → size P.edition.width E ≤ length entry → room (holding M) E ≤ n → r < full
+  pub found : (P : Scope) (E : Term) (rest : List ℕ) → TermAt s P E rest → r < full → k < move_count M E → (r < passed) × (drop r exit ≡ path P.edition.width 0 (holding M) E k)
   pub none_found : (P : Scope) (E : Term) (rest : List ℕ) → TermAt s P E rest → r < full → move_count M E ≤ k → r ≡ passed + answer (length rest) (k - move_count M E)
 
 -- ── below masks that hide the labels of x, of the moves that show ──
@@ -37,6 +37,6 @@ pub record DerivedShown (x : ℕ) (s M : List ℕ) (k : ℕ) (entry exit : List 
   pub bounded : r ≤ full
   pub place_bounded : r < passed → r ≤ length entry
   pub passed_bounded : passed ≤ r → r < full → r ≤ passed + answer (length s) k
-  pub has_room : (P : Scope) (E : Term) (rest : List ℕ) → TermAt s P E rest → size 1 E ≤ length entry → room (holding M) E ≤ n → r < full
-  pub found : (P : Scope) (E : Term) (rest : List ℕ) → TermAt s P E rest → r < full → k < shown_count x M E → (r < passed) × (drop r exit ≡ path x (holding M) E k)
+  pub has_room : (P : Scope) (E : Term) (rest : List ℕ) → TermAt s P E rest → size P.edition.width E ≤ length entry → room (holding M) E ≤ n → r < full
+  pub found : (P : Scope) (E : Term) (rest : List ℕ) → TermAt s P E rest → r < full → k < shown_count x M E → (r < passed) × (drop r exit ≡ path P.edition.width x (holding M) E k)
   pub none_found : (P : Scope) (E : Term) (rest : List ℕ) → TermAt s P E rest → r < full → shown_count x M E ≤ k → r ≡ passed + answer (length rest) (k - shown_count x M E)

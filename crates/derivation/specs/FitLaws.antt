@@ -10,11 +10,11 @@ use Rattle.listing.specs.Listing.{Fits, TermAt}
 use Rattle.listing.specs.Positions.{TwoAt}
 use Rattle.paths.proofs.SmallLaws.{SmallActions}
 
-pub size_before : {t : List ℕ} {P : Scope} {E : Term} {u : List ℕ} → TermAt t P E u → length t - length u ≡ size 1 E
-size_before {t} {P} {E} {u} h = omega (arith, ap length h.spelled, length-append (words 1 E) u, fits_length P E h.fits)
+pub size_before : {t : List ℕ} {P : Scope} {E : Term} {u : List ℕ} → TermAt t P E u → length t - length u ≡ size P.edition.width E
+size_before {t} {P} {E} {u} h = omega (arith, ap length h.spelled, length-append (words P.edition.width E) u, fits_length P E h.fits)
 
 -- u is where the second of two terms was found
-pub before_second : (t u : List ℕ) {P : Scope} {E F : Term} {rest : List ℕ} → TwoAt t P E F rest → TermAt u P F rest → length t - length u ≡ size 1 E
+pub before_second : (t u : List ℕ) {P : Scope} {E F : Term} {rest : List ℕ} → TwoAt t P E F rest → TermAt u P F rest → length t - length u ≡ size P.edition.width E
 before_second t u s h = ap (λ n. length t - n) (ap length h.spelled) ∙ size_before s.first
 
 pub small_actions : (P : Scope) (E : Term) → Fits P E → SmallActions E
