@@ -82,10 +82,17 @@ pub record GuardedAt (t : List ℕ) (P : Scope) (C : Cond) (E : Term) (rest : Li
 behind_code : (k l : ℕ) (t u : List ℕ) → k ∷ t ≡ l ∷ u → t ≡ u
 behind_code k l t u e = ap (drop 1) e
 
+pub action_at : (s : List ℕ) (P : Scope) (a : VisibleAction) (rest : List ℕ) → TermAt s P (Perform a) rest → ActionAt (drop 1 s) a rest
+unfolding words
+action_at s P a rest h = record {
+  small = h.fits;
+  spelled = ap (drop 1) h.spelled ∙ ap (λ w. a.label ∷ (arguments_words w a.arguments ++ rest)) h.plain.one_word;
+  closed = h.closed;
+}
+
 module _ (t : List ℕ) (P : Scope) (rest : List ℕ) where
   pub perform_at : (a : VisibleAction) → TermAt (21 ∷ t) P (Perform a) rest → ActionAt t a rest
-  unfolding words
-  perform_at a h = record { small = h.fits; spelled = ap (drop 1) h.spelled ∙ ap (λ w. a.label ∷ (arguments_words w a.arguments ++ rest)) h.plain.one_word; closed = h.closed }
+  perform_at a h = action_at (21 ∷ t) P a rest h
 
   pub sequence_at : (E F : Term) → TermAt (22 ∷ t) P (Sequence E F) rest → TwoAt t P E F rest
   unfolding words

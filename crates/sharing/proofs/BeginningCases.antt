@@ -17,13 +17,13 @@ use Rattle.scan.specs.Laws.{Tail, part, last_behind}
 use Rattle.expressions.specs.Answering.{CondAt}
 use Rattle.actions.specs.Codes.{action_code, ActionAt}
 use Rattle.listing.specs.Listing.{TermAt}
-use Rattle.listing.specs.Positions.{code_in_front, term_front, TwoAt, behind_term}
+use Rattle.listing.specs.Positions.{action_at, code_in_front, term_front, TwoAt, behind_term}
 use Rattle.listing.specs.Operands.{is_done, other_test}
 use Rattle.paths.specs.Paths.{followed, within, follow, marked}
 use Rattle.sharing.specs.Shared.{PartAt}
 use Rattle.sharing.specs.SharedLaws.{size_some}
 use Rattle.sharing.specs.Beginning.{BeganRight, Beginning, ActionNumber, EndPut}
-use Rattle.successors.specs.TermLaws.{action_there, sequence_two, choice_two, star_first, guard_condition, guard_operand, right_there, left_within}
+use Rattle.successors.specs.TermLaws.{sequence_two, choice_two, star_first, guard_condition, guard_operand, right_there, left_within}
 use Rattle.successors.specs.FollowLaws.{leaf, choice_left_follows, choice_left_marked, choice_right_follows, choice_right_marked, star_end_follows, round_follows, round_marked}
 use Rattle.sharing.proofs.BeginningEnds.{Under, under_on, last_tail, part_at}
 use Rattle.sharing.proofs.BeginningGiven.{Skipped, lent, Given, begun, by_any, by_action, by_sequence, by_choice, by_star, by_guard, ended, then_began}
@@ -44,7 +44,7 @@ module _ (s p t : List ℕ) (behind : t ≡ drop 1 s) where
   unfolding follow size
   action_case x y at r a e f m =
       by_action m.same_length m.bounded e (λ u P rest v g k.
-      ended (visible v) p m k refl (f v rest (subst (λ z. ActionAt z v rest) (sym behind) (action_there s P rest v g.there))))
+      ended (visible v) p m k refl (f v rest (subst (λ z. ActionAt z v rest) (sym behind) (action_at s P v rest g.there))))
 
   -- ── a sequence ──
 

@@ -27,9 +27,9 @@ use Rattle.successors.proofs.Made.{bounded_within}
 
 -- ── one beginning out of another ──
 
-row_longer : (Es : List Term) (F : Term) (rest : List ℕ) → terms_words Es ++ (words 1 F ++ rest) ≡ terms_words (Es ++ (F ∷ [])) ++ rest
-row_longer Es F rest =
-    sym (append_assoc (terms_words Es) (words 1 F) rest) ∙ ap (λ l. l ++ rest) (sym (terms_append Es (F ∷ []) ∙ ap (λ l. terms_words Es ++ l) (append-nil (words 1 F))))
+row_longer : (w : ℕ) (Es : List Term) (F : Term) (rest : List ℕ) → terms_words w Es ++ (words w F ++ rest) ≡ terms_words w (Es ++ (F ∷ [])) ++ rest
+row_longer w Es F rest =
+    sym (append_assoc (terms_words w Es) (words w F) rest) ∙ ap (λ l. l ++ rest) (sym (terms_append w Es (F ∷ []) ∙ ap (λ l. terms_words w Es ++ l) (append-nil (words w F))))
 
 -- What goes on with the last words of an end of s goes on with those of s.
 pub begun_within : {P : Scope} {s u o rest : List ℕ} {a m : ℕ} {x y : List ℕ} {r : Built} → Tail u s → r.left ≤ length u → Begun P u o rest a m x y r → Begun P s o rest a m x y r
@@ -74,9 +74,9 @@ going_as {s} {a} {m} {x} {y} {r} o rest o' rest' e h g = record {
 }
 
 -- An operand F that stays behind the one that moves belongs to the successor.
-pub begun_longer : {P : Scope} {s rest : List ℕ} {a m : ℕ} {x y : List ℕ} {r : Built} (o : List ℕ) (F : Term) (w : List ℕ) → Fits P F → w ≡ o ++ words 1 F → Begun P s o (words 1 F ++ rest) a m x y r → Begun P s w rest a m x y (with_right r)
+pub begun_longer : {P : Scope} {s rest : List ℕ} {a m : ℕ} {x y : List ℕ} {r : Built} (o : List ℕ) (F : Term) (w : List ℕ) → Fits P F → w ≡ o ++ words P.edition.width F → Begun P s o (words P.edition.width F ++ rest) a m x y r → Begun P s w rest a m x y (with_right r)
 begun_longer {P} {s} {rest} {a} {m} {x} {y} {r} o F w fits e g =
-    let here = going_as w rest o (words 1 F ++ rest) (ap (λ z. z ++ rest) e ∙ append_assoc o (words 1 F) rest) (omega (arith, length-append (words 1 F) rest)) g.going in
+    let here = going_as w rest o (words P.edition.width F ++ rest) (ap (λ z. z ++ rest) e ∙ append_assoc o (words P.edition.width F) rest) (omega (arith, length-append (words P.edition.width F) rest)) g.going in
     record {
       going = record {
         has_room = here.has_room;
@@ -91,7 +91,7 @@ begun_longer {P} {s} {rest} {a} {m} {x} {y} {r} o F w fits e g =
             standing = f.standing ++ (F ∷ []);
             due = omega (arith, d, length-append f.standing (F ∷ []));
             fit = all_append (Fits P) f.standing (F ∷ []) f.fit (fits, tt);
-            there = f.there ∙ row_longer f.standing F rest;
+            there = f.there ∙ row_longer P.edition.width f.standing F rest;
           };
     }
 
@@ -142,7 +142,7 @@ module _ (X : Built) (u p x : List ℕ) where
             let s : X.words ≡ length h = (M.right ok).size in
             record {
               going = record {
-                has_room = λ k. g.going.has_room (omega (arith, s, rest_length, same, length-append h (built_words E p)));
+                has_room = λ k. g.going.has_room (omega (arith, s, rest_length, same, length-append h (built_words P.edition.width E p)));
                 right = λ k.
                     let f = g.going.right k in
                     let y : Y.words ≡ length f.part = f.size in
@@ -152,7 +152,7 @@ module _ (X : Built) (u p x : List ℕ) where
                       path_left = f.path_left;
                       size = omega (arith, s, y, length-append h f.part);
                       behind = f.behind;
-                      onward = append_assoc h (built_words E p) rest ∙ (ap (λ l. h ++ l) f.onward ∙ sym (append_assoc h f.part (last_of Y.left u)));
+                      onward = append_assoc h (built_words P.edition.width E p) rest ∙ (ap (λ l. h ++ l) f.onward ∙ sym (append_assoc h f.part (last_of Y.left u)));
                       written_there = back_rest x z (2 * X.words) ∙ (ap (λ l. take (2 * X.words) x ++ l) f.written_there ∙ written_behind h f.part b x (2 * X.words) (omega (arith, s, room, same)) (omega (arith, s)) (M.right ok).written_there);
                     };
               };
@@ -190,21 +190,21 @@ built s p n l x y z X r U given C = record {
     A : After s n q x y X
     A = subst (λ c. After s n c x y X) (part l p) given
 
-    made : (P : Scope) (E : Term) (i : TermAt s P E []) (j : marked E p ≡ true)
-        → Made (built_words E p) (action_code (follow (U.ahead P E [] i j).operand q).action) 0 (length (follow (U.ahead P E [] i j).operand q).rest) x z r
+    made : (P : Scope) (E : Term) (i : TermAt s P E []) (j : marked P.edition.width E p ≡ true)
+        → Made (built_words P.edition.width E p) (action_code (follow (U.ahead P E [] i j).operand q).action) 0 (length (follow (U.ahead P E [] i j).operand q).rest) x z r
     made P E i j =
         let u = U.ahead P E [] i j in
         let h = take n s in
-        let o = built_words u.operand q in
-        let e : built_words E p ++ [] ≡ (h ++ o) ++ u.behind = u.stays ∙ sym (append_assoc h o u.behind) in
-        let g = going_as (built_words E p) [] (h ++ o) u.behind e (omega arith) (A.begun P u.operand u.behind u.there u.led).going in
-        C.made (built_words E p) [] x (action_code (follow u.operand q).action) (length (follow u.operand q).rest) A.bounds.same_length g (last_none s) refl
+        let o = built_words P.edition.width u.operand q in
+        let e : built_words P.edition.width E p ++ [] ≡ (h ++ o) ++ u.behind = u.stays ∙ sym (append_assoc h o u.behind) in
+        let g = going_as (built_words P.edition.width E p) [] (h ++ o) u.behind e (omega arith) (A.begun P u.operand u.behind u.there u.led).going in
+        C.made (built_words P.edition.width E p) [] x (action_code (follow u.operand q).action) (length (follow u.operand q).rest) A.bounds.same_length g (last_none s) refl
 
 -- ── the term known by its first word ──
 
 module _ (s p x y : List ℕ) (r : Built) (b : Bounded (length s) (length p) x y r) where
   abbrev Led : Scope → List ℕ → Term → Type 0
-  Led P rest G = TermAt s P G rest → marked G p ≡ true → BegunOf P s (follow G p) rest x y r
+  Led P rest G = TermAt s P G rest → marked P.edition.width G p ≡ true → BegunOf P s (follow G p) rest x y r
 
   pub by_action : get_or s 0 0 ≡ 21 → ((P : Scope) (rest : List ℕ) (a : VisibleAction) → Led P rest (Perform a)) → Beginning s p x y r
   by_action e f = record { bounds = b; begun = λ P G rest t. of_perform (Led P rest) (f P rest) G (sym e ∙ term_front s P G rest t) t }

@@ -53,25 +53,25 @@ module _ (s p : List ℕ) where
   unfolding follow marked words
   stays_sequence t behind e d =
       stays_by 1 0 (leads_none e) (omega arith) (omega arith)
-      (λ P G rest k. by_sequence (λ X. TermAt s P X rest → marked X p ≡ true → Moving s p 1 0 P X rest)
+      (λ P G rest k. by_sequence (λ X. TermAt s P X rest → marked P.edition.width X p ≡ true → Moving s p 1 0 P X rest)
       (λ E F k j.
-      let i : TermAt (drop 1 s) P E (words 1 F ++ rest) = (sequence_two s P rest E F k).first in
-      let n : done? E ≡ false = other_test E (λ z. d (ap (λ l. get_or l 0 0) behind ∙ (term_front (drop 1 s) P E (words 1 F ++ rest) i ∙ z))) in
+      let i : TermAt (drop 1 s) P E (words P.edition.width F ++ rest) = (sequence_two s P rest E F k).first in
+      let n : done? E ≡ false = other_test E (λ z. d (ap (λ l. get_or l 0 0) behind ∙ (term_front (drop 1 s) P E (words P.edition.width F ++ rest) i ∙ z))) in
       let f : follow (Sequence E F) p ≡ within (λ x. Sequence x F) (follow E p) = ap (λ b. cond b (follow F p) (within (λ x. Sequence x F) (follow E p))) n in
       let o : take 1 s ≡ 22 ∷ [] = ap (take 1) k.spelled in
       record {
         operand = E;
-        behind = words 1 F ++ rest;
+        behind = words P.edition.width F ++ rest;
         there = i;
-        led = sym (ap (λ b. cond b (marked F p) (marked E p)) n) ∙ j;
+        led = sym (ap (λ b. cond b (marked P.edition.width F p) (marked P.edition.width E p)) n) ∙ j;
         same_action = ap (λ x. x.action) f;
-        stays = ap (λ x. words 1 x.successor ++ rest) f
-            ∙ (ap (λ l. 22 ∷ l) (append_assoc (built_words E p) (words 1 F) rest) ∙ ap (λ h. h ++ (built_words E p ++ (words 1 F ++ rest))) (sym o));
+        stays = ap (λ x. words P.edition.width x.successor ++ rest) f
+            ∙ (ap (λ l. 22 ∷ l) (append_assoc (built_words P.edition.width E p) (words P.edition.width F) rest) ∙ ap (λ h. h ++ (built_words P.edition.width E p ++ (words P.edition.width F ++ rest))) (sym o));
       }) G (sym e ∙ term_front s P G rest k) k)
 
   module _ (e : get_or s 0 0 ≡ 25) where
-    by_code : (n l : ℕ) → ((P : Scope) (rest : List ℕ) (Δ : Mask) (E F : Term) → TermAt s P (Parallel Δ E F) rest → marked (Parallel Δ E F) p ≡ true → Moving s p n l P (Parallel Δ E F) rest) → Ahead s p n l
-    by_code n l f P G rest k = by_parallel (λ X. TermAt s P X rest → marked X p ≡ true → Moving s p n l P X rest) (f P rest) G (sym e ∙ term_front s P G rest k) k
+    by_code : (n l : ℕ) → ((P : Scope) (rest : List ℕ) (Δ : Mask) (E F : Term) → TermAt s P (Parallel Δ E F) rest → marked P.edition.width (Parallel Δ E F) p ≡ true → Moving s p n l P (Parallel Δ E F) rest) → Ahead s p n l
+    by_code n l f P G rest k = by_parallel (λ X. TermAt s P X rest → marked P.edition.width X p ≡ true → Moving s p n l P X rest) (f P rest) G (sym e ∙ term_front s P G rest k) k
 
     pub stays_left : get_or p 0 0 ≡ 1 → Staying s p 5
     unfolding words
@@ -79,16 +79,16 @@ module _ (s p : List ℕ) where
         stays_by 5 1 (leads_one (λ z. omega arith) d) (omega arith) (omega arith)
         (by_code 5 1 (λ P rest Δ E F k j.
         let f = parallel_left_follows p Δ E F d in
-        let b = built_words E (drop 1 p) in
+        let b = built_words P.edition.width E (drop 1 p) in
         record {
           operand = E;
-          behind = words 1 F ++ rest;
+          behind = words P.edition.width F ++ rest;
           there = (parallel_two s P rest Δ E F k).first;
-          led = parallel_left_marked p Δ E F d j;
+          led = parallel_left_marked p Δ E F P.edition.width d j;
           same_action = ap (λ x. x.action) f;
-          stays = ap (λ x. words 1 x.successor ++ rest) f
-              ∙ (append_assoc (25 ∷ Δ) (b ++ words 1 F) rest
-              ∙ (ap (λ l. (25 ∷ Δ) ++ l) (append_assoc b (words 1 F) rest) ∙ ap (λ h. h ++ (b ++ (words 1 F ++ rest))) (sym (parallel_head s P rest Δ E F k))));
+          stays = ap (λ x. words P.edition.width x.successor ++ rest) f
+              ∙ (append_assoc (25 ∷ Δ) (b ++ words P.edition.width F) rest
+              ∙ (ap (λ l. (25 ∷ Δ) ++ l) (append_assoc b (words P.edition.width F) rest) ∙ ap (λ h. h ++ (b ++ (words P.edition.width F ++ rest))) (sym (parallel_head s P rest Δ E F k))));
         }))
 
     pub stays_right : (n : ℕ) → n ≡ get_or p 1 0 → n < 65536 → get_or p 0 0 ≡ 2 → Staying s p (5 + n)
@@ -97,18 +97,18 @@ module _ (s p : List ℕ) where
         stays_by (5 + n) 2 (leads_two (λ z. omega arith) (λ z. omega arith)) (omega arith) (omega arith)
         (by_code (5 + n) 2 (λ P rest Δ E F k j.
         let f = parallel_right_follows p Δ E F d in
-        let m = parallel_right_marked p Δ E F d j in
-        let b = built_words F (drop 2 p) in
+        let m = parallel_right_marked p Δ E F P.edition.width d j in
+        let b = built_words P.edition.width F (drop 2 p) in
         record {
           operand = F;
           behind = rest;
           there = right_there s p n is P rest Δ E F k m.0;
           led = m.1;
           same_action = ap (λ x. x.action) f;
-          stays = ap (λ x. words 1 x.successor ++ rest) f
-              ∙ (append_assoc (25 ∷ Δ) (words 1 E ++ b) rest
-              ∙ (ap (λ l. (25 ∷ Δ) ++ l) (append_assoc (words 1 E) b rest)
-              ∙ (sym (append_assoc (25 ∷ Δ) (words 1 E) (b ++ rest)) ∙ ap (λ h. h ++ (b ++ rest)) (sym (head_there s p n is P rest Δ E F k m.0)))));
+          stays = ap (λ x. words P.edition.width x.successor ++ rest) f
+              ∙ (append_assoc (25 ∷ Δ) (words P.edition.width E ++ b) rest
+              ∙ (ap (λ l. (25 ∷ Δ) ++ l) (append_assoc (words P.edition.width E) b rest)
+              ∙ (sym (append_assoc (25 ∷ Δ) (words P.edition.width E) (b ++ rest)) ∙ ap (λ h. h ++ (b ++ rest)) (sym (head_there s p n is P rest Δ E F k m.0)))));
         }))
 
 -- ── the steps one behind another ──
@@ -141,12 +141,12 @@ module _ (s p : List ℕ) (at used : ℕ) (g : Passed s p at used) where
           let u = g.ahead P E rest t j in
           let v = further P u.operand u.behind u.there u.led in
           let q : drop l (drop used p) ≡ drop (used + l) p = drop-drop l used p in
-          let o : List ℕ → List ℕ = λ c. built_words v.operand c ++ v.behind in
+          let o : List ℕ → List ℕ = λ c. built_words P.edition.width v.operand c ++ v.behind in
           record {
             operand = v.operand;
             behind = v.behind;
             there = subst (λ c. TermAt c P v.operand v.behind) (drop-drop n at s) v.there;
-            led = subst (λ c. marked v.operand c ≡ true) q v.led;
+            led = subst (λ c. marked P.edition.width v.operand c ≡ true) q v.led;
             same_action = u.same_action ∙ (v.same_action ∙ ap (λ c. (follow v.operand c).action) q);
             stays = u.stays
                 ∙ (ap (λ c. take at s ++ c) v.stays

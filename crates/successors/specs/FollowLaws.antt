@@ -69,9 +69,9 @@ module _ (p : List ℕ) where
     unfolding follow
     choice_left_follows E F = rw (eq-eqb (get_or p 0 0) 0 z)
 
-    pub choice_left_marked : (E F : Term) → marked (Choice E F) p ≡ true → marked E (drop 1 p) ≡ true
+    pub choice_left_marked : (w : ℕ) (E F : Term) → marked w (Choice E F) p ≡ true → marked w E (drop 1 p) ≡ true
     unfolding marked
-    choice_left_marked E F h = sym (ap (λ b. pick b (marked E (drop 1 p)) (eqb (get_or p 1 0) (size 1 E) && marked F (drop 2 p))) (eq-eqb (get_or p 0 0) 0 z)) ∙ h
+    choice_left_marked w E F h = sym (ap (λ b. pick b (marked w E (drop 1 p)) (eqb (get_or p 1 0) (size w E) && marked w F (drop 2 p))) (eq-eqb (get_or p 0 0) 0 z)) ∙ h
 
     pub star_end_follows : (E : Term) → follow (Star E) p ≡ followed internal Done (drop 1 p)
     unfolding follow
@@ -86,48 +86,48 @@ module _ (p : List ℕ) where
     unfolding follow
     choice_right_follows E F = rw (ne_eqb (get_or p 0 0) 0 z)
 
-    pub choice_right_marked : (E F : Term) → marked (Choice E F) p ≡ true → (get_or p 1 0 ≡ size 1 E) × (marked F (drop 2 p) ≡ true)
+    pub choice_right_marked : (w : ℕ) (E F : Term) → marked w (Choice E F) p ≡ true → (get_or p 1 0 ≡ size w E) × (marked w F (drop 2 p) ≡ true)
     unfolding marked
-    choice_right_marked E F h =
-        size_true (get_or p 1 0) (size 1 E) (marked F (drop 2 p))
-        (sym (ap (λ b. pick b (marked E (drop 1 p)) (eqb (get_or p 1 0) (size 1 E) && marked F (drop 2 p))) (ne_eqb (get_or p 0 0) 0 z)) ∙ h)
+    choice_right_marked w E F h =
+        size_true (get_or p 1 0) (size w E) (marked w F (drop 2 p))
+        (sym (ap (λ b. pick b (marked w E (drop 1 p)) (eqb (get_or p 1 0) (size w E) && marked w F (drop 2 p))) (ne_eqb (get_or p 0 0) 0 z)) ∙ h)
 
     pub round_follows : (E : Term) → follow (Star E) p ≡ within (λ x. Sequence x (Star E)) (follow E (drop 1 p))
     unfolding follow
     round_follows E = rw (ne_eqb (get_or p 0 0) 0 z)
 
-    pub round_marked : (E : Term) → marked (Star E) p ≡ true → marked E (drop 1 p) ≡ true
+    pub round_marked : (w : ℕ) (E : Term) → marked w (Star E) p ≡ true → marked w E (drop 1 p) ≡ true
     unfolding marked
-    round_marked E h = sym (ap (λ b. pick b true (marked E (drop 1 p))) (ne_eqb (get_or p 0 0) 0 z)) ∙ h
+    round_marked w E h = sym (ap (λ b. pick b true (marked w E (drop 1 p))) (ne_eqb (get_or p 0 0) 0 z)) ∙ h
 
   module _ (Δ : Mask) (E F : Term) where
-    right_marked : Bool
-    right_marked = eqb (get_or p 1 0) (size 1 E) && marked F (drop 2 p)
+    right_marked : ℕ → Bool
+    right_marked w = eqb (get_or p 1 0) (size w E) && marked w F (drop 2 p)
 
-    both_marked : Bool
-    both_marked = eqb (get_or p 1 0) (size 1 E) && (marked E (drop 2 p) && marked F (follow E (drop 2 p)).rest)
+    both_marked : ℕ → Bool
+    both_marked w = eqb (get_or p 1 0) (size w E) && (marked w E (drop 2 p) && marked w F (follow E (drop 2 p)).rest)
 
-    marks : (a b c : Bool) → eqb (get_or p 0 0) 0 ≡ a → eqb (get_or p 0 0) 1 ≡ b → eqb (get_or p 0 0) 2 ≡ c → marked (Parallel Δ E F) p ≡ true
-        → pick a true (pick b (marked E (drop 1 p)) (pick c right_marked both_marked)) ≡ true
+    marks : (w : ℕ) (a b c : Bool) → eqb (get_or p 0 0) 0 ≡ a → eqb (get_or p 0 0) 1 ≡ b → eqb (get_or p 0 0) 2 ≡ c → marked w (Parallel Δ E F) p ≡ true
+        → pick a true (pick b (marked w E (drop 1 p)) (pick c (right_marked w) (both_marked w))) ≡ true
     unfolding marked right_marked both_marked
-    marks a b c e f g h = rw (← e, ← f, ← g) h
+    marks w a b c e f g h = rw (← e, ← f, ← g) h
 
     pub parallel_left_follows : get_or p 0 0 ≡ 1 → follow (Parallel Δ E F) p ≡ within (λ x. Parallel Δ x F) (follow E (drop 1 p))
     unfolding follow
     parallel_left_follows e = rw (ne_eqb (get_or p 0 0) 0 (λ z. omega arith), eq-eqb (get_or p 0 0) 1 e)
 
-    pub parallel_left_marked : get_or p 0 0 ≡ 1 → marked (Parallel Δ E F) p ≡ true → marked E (drop 1 p) ≡ true
-    parallel_left_marked e h = marks false true (eqb (get_or p 0 0) 2) (ne_eqb (get_or p 0 0) 0 (λ z. omega arith)) (eq-eqb (get_or p 0 0) 1 e) refl h
+    pub parallel_left_marked : (w : ℕ) → get_or p 0 0 ≡ 1 → marked w (Parallel Δ E F) p ≡ true → marked w E (drop 1 p) ≡ true
+    parallel_left_marked w e h = marks w false true (eqb (get_or p 0 0) 2) (ne_eqb (get_or p 0 0) 0 (λ z. omega arith)) (eq-eqb (get_or p 0 0) 1 e) refl h
 
     pub parallel_right_follows : get_or p 0 0 ≡ 2 → follow (Parallel Δ E F) p ≡ within (λ y. Parallel Δ E y) (follow F (drop 2 p))
     unfolding follow
     parallel_right_follows e = rw (ne_eqb (get_or p 0 0) 0 (λ z. omega arith), ne_eqb (get_or p 0 0) 1 (λ z. omega arith), eq-eqb (get_or p 0 0) 2 e)
 
-    pub parallel_right_marked : get_or p 0 0 ≡ 2 → marked (Parallel Δ E F) p ≡ true → (get_or p 1 0 ≡ size 1 E) × (marked F (drop 2 p) ≡ true)
+    pub parallel_right_marked : (w : ℕ) → get_or p 0 0 ≡ 2 → marked w (Parallel Δ E F) p ≡ true → (get_or p 1 0 ≡ size w E) × (marked w F (drop 2 p) ≡ true)
     unfolding right_marked
-    parallel_right_marked e h =
-        size_true (get_or p 1 0) (size 1 E) (marked F (drop 2 p))
-        (marks false false true (ne_eqb (get_or p 0 0) 0 (λ z. omega arith)) (ne_eqb (get_or p 0 0) 1 (λ z. omega arith)) (eq-eqb (get_or p 0 0) 2 e) h)
+    parallel_right_marked w e h =
+        size_true (get_or p 1 0) (size w E) (marked w F (drop 2 p))
+        (marks w false false true (ne_eqb (get_or p 0 0) 0 (λ z. omega arith)) (ne_eqb (get_or p 0 0) 1 (λ z. omega arith)) (eq-eqb (get_or p 0 0) 2 e) h)
 
     module _ (a : get_or p 0 0 ≡ 0 → ⊥) (b : get_or p 0 0 ≡ 1 → ⊥) (c : get_or p 0 0 ≡ 2 → ⊥) where
       pub parallel_both_follows : follow (Parallel Δ E F) p
@@ -135,22 +135,22 @@ module _ (p : List ℕ) where
       unfolding follow
       parallel_both_follows = rw (ne_eqb (get_or p 0 0) 0 a, ne_eqb (get_or p 0 0) 1 b, ne_eqb (get_or p 0 0) 2 c)
 
-      pub parallel_both_marked : marked (Parallel Δ E F) p ≡ true → (get_or p 1 0 ≡ size 1 E) × (marked E (drop 2 p) ≡ true) × (marked F (follow E (drop 2 p)).rest ≡ true)
+      pub parallel_both_marked : (w : ℕ) → marked w (Parallel Δ E F) p ≡ true → (get_or p 1 0 ≡ size w E) × (marked w E (drop 2 p) ≡ true) × (marked w F (follow E (drop 2 p)).rest ≡ true)
       unfolding both_marked
-      parallel_both_marked h =
-          let w =
-          size_true (get_or p 1 0) (size 1 E) (marked E (drop 2 p) && marked F (follow E (drop 2 p)).rest)
-          (marks false false false (ne_eqb (get_or p 0 0) 0 a) (ne_eqb (get_or p 0 0) 1 b) (ne_eqb (get_or p 0 0) 2 c) h) in
-          let v = both_true (marked E (drop 2 p)) (marked F (follow E (drop 2 p)).rest) w.1 in
-          (w.0, v.0, v.1)
+      parallel_both_marked w h =
+          let k =
+          size_true (get_or p 1 0) (size w E) (marked w E (drop 2 p) && marked w F (follow E (drop 2 p)).rest)
+          (marks w false false false (ne_eqb (get_or p 0 0) 0 a) (ne_eqb (get_or p 0 0) 1 b) (ne_eqb (get_or p 0 0) 2 c) h) in
+          let v = both_true (marked w E (drop 2 p)) (marked w F (follow E (drop 2 p)).rest) k.1 in
+          (k.0, v.0, v.1)
 
     -- Whichever of them, the size is right.
-    size_by : (c : Bool) (a : get_or p 0 0 ≡ 0 → ⊥) (b : get_or p 0 0 ≡ 1 → ⊥) → eqb (get_or p 0 0) 2 ≡ c → marked (Parallel Δ E F) p ≡ true → get_or p 1 0 ≡ size 1 E
-    size_by true a b e h = (parallel_right_marked (eqb-true (get_or p 0 0) 2 e) h).0
-    size_by false a b e h = (parallel_both_marked a b (eqb-false (get_or p 0 0) 2 e) h).0
+    size_by : (w : ℕ) (c : Bool) (a : get_or p 0 0 ≡ 0 → ⊥) (b : get_or p 0 0 ≡ 1 → ⊥) → eqb (get_or p 0 0) 2 ≡ c → marked w (Parallel Δ E F) p ≡ true → get_or p 1 0 ≡ size w E
+    size_by w true a b e h = (parallel_right_marked w (eqb-true (get_or p 0 0) 2 e) h).0
+    size_by w false a b e h = (parallel_both_marked a b (eqb-false (get_or p 0 0) 2 e) w h).0
 
-    pub size_marked : (get_or p 0 0 ≡ 0 → ⊥) → (get_or p 0 0 ≡ 1 → ⊥) → marked (Parallel Δ E F) p ≡ true → get_or p 1 0 ≡ size 1 E
-    size_marked a b h = size_by (eqb (get_or p 0 0) 2) a b refl h
+    pub size_marked : (w : ℕ) → (get_or p 0 0 ≡ 0 → ⊥) → (get_or p 0 0 ≡ 1 → ⊥) → marked w (Parallel Δ E F) p ≡ true → get_or p 1 0 ≡ size w E
+    size_marked w a b h = size_by w (eqb (get_or p 0 0) 2) a b refl h
 
 -- What is left is no longer than the path.
 pub rest_short : (E : Term) (p : List ℕ) → length (follow E p).rest ≤ length p
@@ -159,14 +159,14 @@ rest_short E p = tail_short (follow E p).rest p (follow_tail E p)
 -- ── a term without operands ──
 
 -- Done and the internal action have one word and lead to Done.
-pub leaf : (G : Term) → (code_in_front G ≡ 21 → ⊥) → (code_in_front G ≡ 22 → ⊥) → (code_in_front G ≡ 23 → ⊥) → (code_in_front G ≡ 24 → ⊥) → (code_in_front G ≡ 25 → ⊥) → (code_in_front G ≡ 26 → ⊥)
-    → (p rest : List ℕ) → (follow G p ≡ followed internal Done p) × (drop 1 (words 1 G ++ rest) ≡ rest)
+pub leaf : (w : ℕ) (G : Term) → (code_in_front G ≡ 21 → ⊥) → (code_in_front G ≡ 22 → ⊥) → (code_in_front G ≡ 23 → ⊥) → (code_in_front G ≡ 24 → ⊥) → (code_in_front G ≡ 25 → ⊥) → (code_in_front G ≡ 26 → ⊥)
+    → (p rest : List ℕ) → (follow G p ≡ followed internal Done p) × (drop 1 (words w G ++ rest) ≡ rest)
 unfolding follow words code_in_front
-leaf Done a b c d e f p rest = (refl, refl)
-leaf Internal a b c d e f p rest = (refl, refl)
-leaf (Perform v) a b c d e f p rest = absurd (a refl)
-leaf (Sequence E F) a b c d e f p rest = absurd (b refl)
-leaf (Choice E F) a b c d e f p rest = absurd (c refl)
-leaf (Star E) a b c d e f p rest = absurd (d refl)
-leaf (Parallel Δ E F) a b c d e f p rest = absurd (e refl)
-leaf (Guard C E) a b c d e f p rest = absurd (f refl)
+leaf w Done a b c d e f p rest = (refl, refl)
+leaf w Internal a b c d e f p rest = (refl, refl)
+leaf w (Perform v) a b c d e f p rest = absurd (a refl)
+leaf w (Sequence E F) a b c d e f p rest = absurd (b refl)
+leaf w (Choice E F) a b c d e f p rest = absurd (c refl)
+leaf w (Star E) a b c d e f p rest = absurd (d refl)
+leaf w (Parallel Δ E F) a b c d e f p rest = absurd (e refl)
+leaf w (Guard C E) a b c d e f p rest = absurd (f refl)

@@ -86,37 +86,37 @@ pub record Standing (P : Scope) (s rest : List ℕ) (r : Built) : Type 0 where
   pub standing : List Term
   pub due : r.due ≡ length standing
   pub fit : All (Fits P) standing
-  pub there : last_of r.left s ≡ terms_words standing ++ rest
+  pub there : last_of r.left s ≡ terms_words P.edition.width standing ++ rest
 
 pub record Begun (P : Scope) (s o rest : List ℕ) (a m : ℕ) (entry exit : List ℕ) (r : Built) : Type 0 where
   pub going : Going s o rest a m entry exit r
   pub stands : r.ok ≡ true → Standing P s rest r
 
 abbrev pub BegunOf : Scope → List ℕ → Followed → List ℕ → List ℕ → List ℕ → Built → Type 0
-BegunOf P s f rest entry exit r = Begun P s (words 1 f.successor) rest (action_code f.action) (length f.rest) entry exit r
+BegunOf P s f rest entry exit r = Begun P s (words P.edition.width f.successor) rest (action_code f.action) (length f.rest) entry exit r
 
 pub record Beginning (s p entry exit : List ℕ) (r : Built) : Type 0 where
   pub bounds : Bounded (length s) (length p) entry exit r
-  pub begun : (P : Scope) (E : Term) (rest : List ℕ) → TermAt s P E rest → marked E p ≡ true → BegunOf P s (follow E p) rest entry exit r
+  pub begun : (P : Scope) (E : Term) (rest : List ℕ) → TermAt s P E rest → marked P.edition.width E p ≡ true → BegunOf P s (follow E p) rest entry exit r
 
 -- ── behind words that stand already ──
 
 -- Head words h, and the beginning of the successor of E behind them.
 abbrev pub BegunAfter : Scope → List ℕ → List ℕ → Term → List ℕ → List ℕ → List ℕ → List ℕ → Built → Type 0
-BegunAfter P s h E p rest entry exit r = Begun P s (h ++ built_words E p) rest (action_code (follow E p).action) (length (follow E p).rest) entry exit r
+BegunAfter P s h E p rest entry exit r = Begun P s (h ++ built_words P.edition.width E p) rest (action_code (follow E p).action) (length (follow E p).rest) entry exit r
 
 -- Behind the words that x wrote into a buffer b.
 pub record Behind (x : Built) (u p entry exit : List ℕ) (r : Built) : Type 0 where
   pub bounds : Bounded (length u) (length p) entry exit r
   pub before : r.ok ≡ true → x.ok ≡ true
   pub begun : (h b : List ℕ) (a n m : ℕ) → length entry ≡ length b → Made h a n m b entry x
-      → (P : Scope) (E : Term) (rest : List ℕ) → TermAt u P E rest → marked E p ≡ true → BegunAfter P u h E p rest b exit r
+      → (P : Scope) (E : Term) (rest : List ℕ) → TermAt u P E rest → marked P.edition.width E p ≡ true → BegunAfter P u h E p rest b exit r
 
 -- Behind the first n words of s.
 pub record After (s : List ℕ) (n : ℕ) (p entry exit : List ℕ) (r : Built) : Type 0 where
   pub bounds : Bounded (length s) (length p) entry exit r
   pub due_behind : r.due + n ≤ length s
-  pub begun : (P : Scope) (E : Term) (rest : List ℕ) → TermAt (drop n s) P E rest → marked E p ≡ true → BegunAfter P s (take n s) E p rest entry exit r
+  pub begun : (P : Scope) (E : Term) (rest : List ℕ) → TermAt (drop n s) P E rest → marked P.edition.width E p ≡ true → BegunAfter P s (take n s) E p rest entry exit r
 
 -- What the left operand's successor began, x, and the right operand, which stands behind it and stays.
 abbrev pub with_right : Built → Built
@@ -131,5 +131,5 @@ pub record Closed (t : List ℕ) (x : Built) (e : ℕ) (entry exit : List ℕ) (
 -- Both operands move, the left's path first: the left one stands behind 5 words, the right one behind n.
 pub record Both (s : List ℕ) (n : ℕ) (p entry exit : List ℕ) (r : Built) : Type 0 where
   pub bounds : Bounded (length s) (length p) entry exit r
-  pub begun : (P : Scope) (E F : Term) (rest : List ℕ) → TermAt (drop 5 s) P E (words 1 F ++ rest) → TermAt (drop n s) P F rest → marked E p ≡ true → marked F (follow E p).rest ≡ true
-      → Begun P s (take 5 s ++ (built_words E p ++ built_words F (follow E p).rest)) rest (action_code (follow E p).action) (length (follow F (follow E p).rest).rest) entry exit r
+  pub begun : (P : Scope) (E F : Term) (rest : List ℕ) → TermAt (drop 5 s) P E (words P.edition.width F ++ rest) → TermAt (drop n s) P F rest → marked P.edition.width E p ≡ true → marked P.edition.width F (follow E p).rest ≡ true
+      → Begun P s (take 5 s ++ (built_words P.edition.width E p ++ built_words P.edition.width F (follow E p).rest)) rest (action_code (follow E p).action) (length (follow F (follow E p).rest).rest) entry exit r

@@ -14,13 +14,13 @@ pub record Moving (s p : List ℕ) (n l : ℕ) (P : Scope) (E : Term) (rest : Li
   pub operand : Term
   pub behind : List ℕ
   pub there : TermAt (drop n s) P operand behind
-  pub led : marked operand (drop l p) ≡ true
+  pub led : marked P.edition.width operand (drop l p) ≡ true
   pub same_action : (follow E p).action ≡ (follow operand (drop l p)).action
-  pub stays : built_words E p ++ rest ≡ take n s ++ (built_words operand (drop l p) ++ behind)
+  pub stays : built_words P.edition.width E p ++ rest ≡ take n s ++ (built_words P.edition.width operand (drop l p) ++ behind)
 
 -- Whichever term stands there.
 abbrev pub Ahead : List ℕ → List ℕ → ℕ → ℕ → Type 0
-Ahead s p n l = (P : Scope) (E : Term) (rest : List ℕ) → TermAt s P E rest → marked E p ≡ true → Moving s p n l P E rest
+Ahead s p n l = (P : Scope) (E : Term) (rest : List ℕ) → TermAt s P E rest → marked P.edition.width E p ≡ true → Moving s p n l P E rest
 
 -- A sequence leaves no decision; where the right operand moves, the left one's size stands behind the decision.
 unfoldable pub leading_words : List ℕ → List ℕ → ℕ
