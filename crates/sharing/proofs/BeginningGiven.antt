@@ -34,14 +34,14 @@ pub record Given (u s : List ℕ) (P : Scope) (E : Term) (rest p : List ℕ) : T
   pub under : Under u s
   pub there : TermAt s P E rest
   pub bare : Unmasked E
-  pub led : marked E p ≡ true
+  pub led : marked P.edition.width E p ≡ true
   pub short : length p ≤ 65535
 
 -- ── the term known by its first word ──
 
 -- What holds of the successor of G, where there is room for it.
 abbrev Led : List ℕ → List ℕ → ℕ → List ℕ → List ℕ → ℕ → List ℕ → Scope → List ℕ → Term → Type 0
-Led s p at x y r u P rest G = Given u s P G rest p → at + size 1 (follow G p).successor ≤ length x → BeganRight u P (follow G p) at x y r
+Led s p at x y r u P rest G = Given u s P G rest p → at + size P.edition.width (follow G p).successor ≤ length x → BeganRight u P (follow G p) at x y r
 
 module _ {s p : List ℕ} {at : ℕ} {x y : List ℕ} {r : ℕ} where
   pub begun : Beginning s p at x y r → (u : List ℕ) (P : Scope) (rest : List ℕ) (G : Term) → Led s p at x y r u P rest G

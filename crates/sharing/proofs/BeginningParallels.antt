@@ -34,10 +34,10 @@ word_of v = cond (eqb (get_or v 0 0) 30) 30 (32 + length v)
 -- ── the left operand moves ──
 
 -- What a successor's words take is what its term takes at most, so its answer says where they end.
-module _ {u : List ℕ} {P : Scope} (E : Term) (p : List ℕ) {at : ℕ} {x y : List ℕ} {r : ℕ} (few : length x ≤ 65535) (short : length p ≤ 65535) (room : at + size 1 (follow E p).successor ≤ length x)
+module _ {u : List ℕ} {P : Scope} (E : Term) (p : List ℕ) {at : ℕ} {x y : List ℕ} {r : ℕ} (few : length x ≤ 65535) (short : length p ≤ 65535) (room : at + size P.edition.width (follow E p).successor ≤ length x)
     (b : BeganRight u P (follow E p) at x y r) where
-  words_fit : length (shared_words b.shared) ≤ size 1 (follow E p).successor
-  words_fit = subst (λ G. length (shared_words b.shared) ≤ size 1 G) b.is_successor (shared_short b.shared)
+  words_fit : length (shared_words b.shared) ≤ size P.edition.width (follow E p).successor
+  words_fit = subst (λ G. length (shared_words b.shared) ≤ size P.edition.width G) b.is_successor (shared_short P.edition.width b.shared)
 
   ends : r % 65536 ≡ at + length (shared_words b.shared)
   ends = began_at r (at + length (shared_words b.shared)) (length (follow E p).rest) (action_code (follow E p).action) b.answered (omega (arith, words_fit))
@@ -48,7 +48,7 @@ module _ {u : List ℕ} {P : Scope} (E : Term) (p : List ℕ) {at : ℕ} {x y : 
   number : r / 4294967296 ≡ action_code (follow E p).action
   number = began_action r (at + length (shared_words b.shared)) (length (follow E p).rest) (action_code (follow E p).action) b.answered (omega (arith, words_fit)) (omega (arith, short, rest_short E p))
 
-  where_ends : (r % 65536 ≡ at + length (shared_words b.shared)) × (r % 65536 ≤ at + size 1 (follow E p).successor)
+  where_ends : (r % 65536 ≡ at + length (shared_words b.shared)) × (r % 65536 ≤ at + size P.edition.width (follow E p).successor)
   where_ends = (ends, omega (arith, ends, words_fit))
 
   what_is_left : (r / 65536 % 65536 ≡ length (follow E p).rest) × (r / 4294967296 ≡ action_code (follow E p).action)
@@ -56,12 +56,12 @@ module _ {u : List ℕ} {P : Scope} (E : Term) (p : List ℕ) {at : ℕ} {x y : 
 
 module _ (e p x y : List ℕ) (at r : ℕ) (m : Beginning e p at x y r) (few : length x ≤ 65535) where
   -- What is known of the left operand.
-  left_given : {u rest : List ℕ} {P : Scope} {E F : Term} → length u ≤ 65503 → length e ≤ length u → e ≡ last_of (length e) u → TwoAt e P E F rest → Unmasked E → marked E p ≡ true → length p ≤ 65535
-      → Given u e P E (words 1 F ++ rest) p
+  left_given : {u rest : List ℕ} {P : Scope} {E F : Term} → length u ≤ 65503 → length e ≤ length u → e ≡ last_of (length e) u → TwoAt e P E F rest → Unmasked E → marked P.edition.width E p ≡ true → length p ≤ 65535
+      → Given u e P E (words P.edition.width F ++ rest) p
   left_given l a b t c d s = record { few = l; under = record { fewer = a; end = b }; there = t.first; bare = c; led = d; short = s }
 
   -- Where something is written the answer is not 0.
-  lost : {u rest : List ℕ} {P : Scope} (E : Term) → Given u e P E rest p → at + size 1 (follow E p).successor ≤ length x → r ≡ 0 → ⊥
+  lost : {u rest : List ℕ} {P : Scope} (E : Term) → Given u e P E rest p → at + size P.edition.width (follow E p).successor ≤ length x → r ≡ 0 → ⊥
   lost {u} {rest} {P} E g k z =
       let b = begun m u P rest E g k in
       let i : r % 65536 ≡ at + length (shared_words b.shared) = (where_ends E p few g.short k b).0 in
@@ -79,7 +79,7 @@ module _ (e p x y : List ℕ) (at r : ℕ) (m : Beginning e p at x y r) (few : l
     same_length = m.same_length;
     bounded = omega arith;
     right = λ u P E F rest l a b t c f d s k.
-        let g = begun m u P (words 1 F ++ rest) E (left_given l a b t c d s) (omega (arith, k)) in
+        let g = begun m u P (words P.edition.width F ++ rest) E (left_given l a b t c d s) (omega (arith, k)) in
         absurd (omega (arith, h, k, m.same_length, (where_ends E p few s (omega (arith, k)) g).1));
   }
 
@@ -89,11 +89,11 @@ module _ (e p x y : List ℕ) (at r : ℕ) (m : Beginning e p at x y r) (few : l
     same_length = length-set y (r % 65536) w ∙ m.same_length;
     bounded = omega (arith, m.bounded, h, few, m.same_length);
     right = λ u P E F rest l a b t c f d s k.
-        let z : at + size 1 (follow E p).successor ≤ length x = omega (arith, k) in
+        let z : at + size P.edition.width (follow E p).successor ≤ length x = omega (arith, k) in
         let given = left_given l a b t c d s in
-        let g = begun m u P (words 1 F ++ rest) E given z in
+        let g = begun m u P (words P.edition.width F ++ rest) E given z in
         let end : r % 65536 ≡ at + length (shared_words g.shared) = (where_ends E p few s z g).0 in
-        let o = one_word (under_on v given.under (last_tail n e v is)) (second_at n v t (skip.1 P E (words 1 F ++ rest) t.first) is) f in
+        let o = one_word (under_on v given.under (last_tail n e v is)) (second_at n v t (skip.1 P E (words P.edition.width F ++ rest) t.first) is) f in
         let q : shared_words o.shared ≡ w ∷ [] = o.word ∙ ap (λ j. j ∷ []) (sym fw) in
         let X = shared_words g.shared in
         let Y = shared_words o.shared in
@@ -144,9 +144,9 @@ module _ (e p q x y z : List ℕ) (n at r o : ℕ) (m : Beginning e p at x y r) 
     same_length = there.same_length ∙ m.same_length;
     bounded = omega (arith, m.bounded);
     right = λ u P E F rest l a b t isn c f d j s k.
-        let i : at + size 1 (follow E p).successor ≤ length x = omega (arith, k) in
-        let known : Given u e P E (words 1 F ++ rest) p = record { few = l; under = record { fewer = a; end = b }; there = t.first; bare = c; led = d; short = s } in
-        let g = begun m u P (words 1 F ++ rest) E known i in
+        let i : at + size P.edition.width (follow E p).successor ≤ length x = omega (arith, k) in
+        let known : Given u e P E (words P.edition.width F ++ rest) p = record { few = l; under = record { fewer = a; end = b }; there = t.first; bare = c; led = d; short = s } in
+        let g = begun m u P (words P.edition.width F ++ rest) E known i in
         let end = where_ends E p few s i g in
         let left = what_is_left E p few s i g in
         let on : q ≡ (follow E p).rest = is ∙ rest_of_path E p (r / 65536 % 65536) left.0 in
@@ -156,11 +156,11 @@ module _ (e p q x y z : List ℕ) (n at r o : ℕ) (m : Beginning e p at x y r) 
           under = under_on (drop n e) known.under (n, refl);
           there = right_there t n isn;
           bare = f;
-          led = subst (λ w. marked F w ≡ true) (sym on) j;
+          led = subst (λ w. marked P.edition.width F w ≡ true) (sym on) j;
           short = lq;
         } in
-        let room : r % 65536 + size 1 (follow F (follow E p).rest).successor ≤ length y = omega (arith, end.1, k, m.same_length) in
-        let roomq : r % 65536 + size 1 (follow F q).successor ≤ length y = subst (λ w. r % 65536 + size 1 (follow F w).successor ≤ length y) (sym on) room in
+        let room : r % 65536 + size P.edition.width (follow F (follow E p).rest).successor ≤ length y = omega (arith, end.1, k, m.same_length) in
+        let roomq : r % 65536 + size P.edition.width (follow F q).successor ≤ length y = subst (λ w. r % 65536 + size P.edition.width (follow F w).successor ≤ length y) (sym on) room in
         let h = begun there u P rest F known_right roomq in
         let fewy : length y ≤ 65535 = omega (arith, few, m.same_length) in
         let X = shared_words g.shared in
@@ -191,8 +191,8 @@ module _ (e p q x y z : List ℕ) (n at r o : ℕ) (m : Beginning e p at x y r) 
         let T = both_begun.right u P E F rest l a b t isn c f d j s k in
         let X = shared_words T.X in
         let Y = shared_words T.Y in
-        let fx : length X ≤ size 1 (follow E p).successor = subst (λ G. length X ≤ size 1 G) T.X_is (shared_short T.X) in
-        let fy : length Y ≤ size 1 (follow F (follow E p).rest).successor = subst (λ G. length Y ≤ size 1 G) T.Y_is (shared_short T.Y) in
+        let fx : length X ≤ size P.edition.width (follow E p).successor = subst (λ G. length X ≤ size P.edition.width G) T.X_is (shared_short P.edition.width T.X) in
+        let fy : length Y ≤ size P.edition.width (follow F (follow E p).rest).successor = subst (λ G. length Y ≤ size P.edition.width G) T.Y_is (shared_short P.edition.width T.Y) in
         absurd (omega (arith, T.answered, none, length-append X Y, shared_some T.X, fx, fy, k, few));
   }
 
@@ -231,9 +231,9 @@ beside {u} {P} {at} {x} {y} {r} Δ E F ρ rest bare room t =
     }
 
 -- Whatever moves, a parallel is left.
-moving_size : (p : List ℕ) (Δ : Mask) (E F : Term) → (get_or p 0 0 ≡ 0 → ⊥) → 5 ≤ size 1 (follow (Parallel Δ E F) p).successor
+moving_size : (width : ℕ) (p : List ℕ) (Δ : Mask) (E F : Term) → (get_or p 0 0 ≡ 0 → ⊥) → 5 ≤ size width (follow (Parallel Δ E F) p).successor
 unfolding follow size
-moving_size p Δ E F h = subst (λ b. 5 ≤ size 1 (pick b (followed internal Done (drop 1 p)) (other (eqb (get_or p 0 0) 1) (eqb (get_or p 0 0) 2))).successor) (sym (ne_eqb (get_or p 0 0) 0 h)) (go (eqb (get_or p 0 0) 1) (eqb (get_or p 0 0) 2))
+moving_size width p Δ E F h = subst (λ b. 5 ≤ size width (pick b (followed internal Done (drop 1 p)) (other (eqb (get_or p 0 0) 1) (eqb (get_or p 0 0) 2))).successor) (sym (ne_eqb (get_or p 0 0) 0 h)) (go (eqb (get_or p 0 0) 1) (eqb (get_or p 0 0) 2))
   where
     other : Bool → Bool → Followed
     other a b =
@@ -241,7 +241,7 @@ moving_size p Δ E F h = subst (λ b. 5 ≤ size 1 (pick b (followed internal Do
         (pick b (within (λ X. Parallel Δ E X) (follow F (drop 2 p)))
         (followed (follow E (drop 2 p)).action (Parallel Δ (follow E (drop 2 p)).successor (follow F (follow E (drop 2 p)).rest).successor) (follow F (follow E (drop 2 p)).rest).rest))
 
-    go : (a b : Bool) → 5 ≤ size 1 (other a b).successor
+    go : (a b : Bool) → 5 ≤ size width (other a b).successor
     go true b = omega arith
     go false true = omega arith
     go false false = omega arith
@@ -252,13 +252,13 @@ module _ (s p x : List ℕ) (at : ℕ) (code : get_or s 0 0 ≡ 25) where
   parallel_ends y q r on d m =
       by_parallel m.same_length m.bounded code (λ u P rest Δ E F g k.
       let f : follow (Parallel Δ E F) p ≡ followed internal Done q = parallel_end_follows p d Δ E F ∙ ap (followed internal Done) (sym on) in
-      subst (λ z. BeganRight u P z at x y r) (sym f) (ended internal q m (subst (λ z. at + size 1 z.successor ≤ length x) f k) refl refl))
+      subst (λ z. BeganRight u P z at x y r) (sym f) (ended internal q m (subst (λ z. at + size P.edition.width z.successor ≤ length x) f k) refl refl))
 
   pub parallel_short : length s < 5 → Beginning s p at x x 0
   parallel_short h = by_parallel refl (omega arith) code (λ u P rest Δ E F g k. absurd (omega (arith, h, parallel_long s P rest Δ E F g.there)))
 
   pub parallel_full : (get_or p 0 0 ≡ 0 → ⊥) → length x < at + 2 → Beginning s p at x x 0
-  parallel_full d h = by_parallel refl (omega arith) code (λ u P rest Δ E F g k. absurd (omega (arith, h, k, moving_size p Δ E F d)))
+  parallel_full d h = by_parallel refl (omega arith) code (λ u P rest Δ E F g k. absurd (omega (arith, h, k, moving_size P.edition.width p Δ E F d)))
 
   -- Its operands come after five words.
   module _ (e : List ℕ) (cut : e ≡ drop 5 s) where
@@ -276,10 +276,10 @@ module _ (s p x : List ℕ) (at : ℕ) (code : get_or s 0 0 ≡ 25) where
     parallel_left y q r on d room m =
         by_parallel (m.same_length ∙ length-set x at 25) m.bounded code (λ u P rest Δ E F g k.
         let f : follow (Parallel Δ E F) p ≡ within (λ X. Parallel Δ X F) (follow E q) = parallel_left_follows p Δ E F d ∙ ap (λ c. within (λ X. Parallel Δ X F) (follow E c)) (sym on) in
-        let l : at + size 1 (Parallel Δ (follow E q).successor F) ≤ length x = subst (λ z. at + size 1 z.successor ≤ length x) f k in
-        let c : marked E q ≡ true = subst (λ z. marked E z ≡ true) (sym on) (parallel_left_marked p Δ E F d g.led) in
+        let l : at + size P.edition.width (Parallel Δ (follow E q).successor F) ≤ length x = subst (λ z. at + size P.edition.width z.successor ≤ length x) f k in
+        let c : marked P.edition.width E q ≡ true = subst (λ z. marked P.edition.width E z ≡ true) (sym on) (parallel_left_marked p Δ E F P.edition.width d g.led) in
         let i = below g in
-        let t = m.right u P E F rest g.few i.fewer i.end (sides g) g.bare.1 g.bare.2 c (omega (arith, g.short, ap length on, length-drop 1 p)) (omega (arith, l, length-set x at 25, size_some F)) in
+        let t = m.right u P E F rest g.few i.fewer i.end (sides g) g.bare.1 g.bare.2 c (omega (arith, g.short, ap length on, length-drop 1 p)) (omega (arith, l, length-set x at 25, size_some P.edition.width F)) in
         subst (λ z. BeganRight u P z at x y r) (sym f) (beside Δ (follow E q).successor F (follow E q).action (follow E q).rest (no_label g) (omega (arith, room)) t))
 
     module _ (n : ℕ) (is : n ≡ get_or p 1 0) where
@@ -291,18 +291,18 @@ module _ (s p x : List ℕ) (at : ℕ) (code : get_or s 0 0 ≡ 25) where
           let h : at + 1 < length (set x at 25) = omega (arith, room, length-set x at 25) in
           by_parallel (m.same_length ∙ same) m.bounded code (λ u P rest Δ E F g k.
           let f : follow (Parallel Δ E F) p ≡ within (λ X. Parallel Δ E X) (follow F q) = parallel_right_follows p Δ E F d ∙ ap (λ c. within (λ X. Parallel Δ E X) (follow F c)) (sym on) in
-          let l : at + size 1 (Parallel Δ E (follow F q).successor) ≤ length x = subst (λ z. at + size 1 z.successor ≤ length x) f k in
-          let c = parallel_right_marked p Δ E F d g.led in
+          let l : at + size P.edition.width (Parallel Δ E (follow F q).successor) ≤ length x = subst (λ z. at + size P.edition.width z.successor ≤ length x) f k in
+          let c = parallel_right_marked p Δ E F P.edition.width d g.led in
           let i = below g in
           let known : Given u (drop n e) P F rest q = record {
             few = g.few;
             under = under_on (drop n e) i (n, refl);
             there = right_there (sides g) n (is ∙ c.0);
             bare = g.bare.2;
-            led = subst (λ z. marked F z ≡ true) (sym on) c.1;
+            led = subst (λ z. marked P.edition.width F z ≡ true) (sym on) c.1;
             short = omega (arith, g.short, ap length on, length-drop 2 p);
           } in
-          let b = begun m u P rest F known (omega (arith, l, same, size_some E)) in
+          let b = begun m u P rest F known (omega (arith, l, same, size_some P.edition.width E)) in
           let o = one_word i (sides g).first g.bare.1 in
           let v : shared_words o.shared ≡ w ∷ [] = o.word ∙ ap (λ j. j ∷ []) (sym fw) in
           let X = shared_words o.shared in
@@ -324,19 +324,19 @@ module _ (s p x : List ℕ) (at : ℕ) (code : get_or s 0 0 ≡ 25) where
         pub parallel_cut : length e < n → Beginning s p at x x 0
         parallel_cut h =
             by_parallel refl (omega arith) code (λ u P rest Δ E F g k.
-            absurd (omega (arith, h, left_within (sides g) n (is ∙ size_marked p Δ E F d0 d1 g.led))))
+            absurd (omega (arith, h, left_within (sides g) n (is ∙ size_marked p Δ E F P.edition.width d0 d1 g.led))))
 
         pub parallel_both : (y q : List ℕ) (r : ℕ) → q ≡ drop 2 p → (get_or p 0 0 ≡ 2 → ⊥) → at + 2 ≤ length x → BothBegun e n q (at + 1) (set x at 25) y r → Beginning s p at x y r
         unfolding size
         parallel_both y q r on d2 room m =
             by_parallel (m.same_length ∙ length-set x at 25) m.bounded code (λ u P rest Δ E F g k.
-            let c = parallel_both_marked p Δ E F d0 d1 d2 g.led in
+            let c = parallel_both_marked p Δ E F d0 d1 d2 P.edition.width g.led in
             let f : follow (Parallel Δ E F) p ≡ followed (follow E q).action (Parallel Δ (follow E q).successor (follow F (follow E q).rest).successor) (follow F (follow E q).rest).rest =
             parallel_both_follows p Δ E F d0 d1 d2
             ∙ ap (λ z. followed (follow E z).action (Parallel Δ (follow E z).successor (follow F (follow E z).rest).successor) (follow F (follow E z).rest).rest) (sym on) in
-            let l : at + size 1 (Parallel Δ (follow E q).successor (follow F (follow E q).rest).successor) ≤ length x = subst (λ z. at + size 1 z.successor ≤ length x) f k in
-            let mE : marked E q ≡ true = subst (λ z. marked E z ≡ true) (sym on) c.1 in
-            let mF : marked F (follow E q).rest ≡ true = subst (λ z. marked F (follow E z).rest ≡ true) (sym on) c.2 in
+            let l : at + size P.edition.width (Parallel Δ (follow E q).successor (follow F (follow E q).rest).successor) ≤ length x = subst (λ z. at + size P.edition.width z.successor ≤ length x) f k in
+            let mE : marked P.edition.width E q ≡ true = subst (λ z. marked P.edition.width E z ≡ true) (sym on) c.1 in
+            let mF : marked P.edition.width F (follow E q).rest ≡ true = subst (λ z. marked P.edition.width F (follow E z).rest ≡ true) (sym on) c.2 in
             let i = below g in
             let t = m.right u P E F rest g.few i.fewer i.end (sides g) (is ∙ c.0) g.bare.1 g.bare.2 mE mF (omega (arith, g.short, ap length on, length-drop 2 p)) (omega (arith, l, length-set x at 25)) in
             subst (λ z. BeganRight u P z at x y r) (sym f) (beside Δ (follow E q).successor (follow F (follow E q).rest).successor (follow E q).action (follow F (follow E q).rest).rest (no_label g) (omega (arith, room)) t))

@@ -23,18 +23,18 @@ head = 25 ∷ 0 ∷ 0 ∷ 0 ∷ 0 ∷ []
 -- What is said of two shared terms in parallel, spelled out from `at` on where there is room: the answer r, and what the array is then.
 abbrev BesideTells : List ℕ → List ℕ → List ℕ → List ℕ → ℕ → ℕ → Type 0
 BesideTells t u entry exit at r =
-    (P : Scope) (S T : Shared) (rest : List ℕ) → 25 ∷ t ≡ 25 ∷ ((shared_words S ++ shared_words T) ++ rest) → Stands u P S → Stands u P T → at + (5 + (length (words 1 (term_of S)) + length (words 1 (term_of T)))) ≤ length entry
-    → (r ≡ answer (length rest) (at + (5 + (length (words 1 (term_of S)) + length (words 1 (term_of T)))))) × (exit ≡ put_at at (head ++ (words 1 (term_of S) ++ words 1 (term_of T))) entry)
+    (P : Scope) (S T : Shared) (rest : List ℕ) → 25 ∷ t ≡ 25 ∷ ((shared_words S ++ shared_words T) ++ rest) → Stands u P S → Stands u P T → at + (5 + (length (words P.edition.width (term_of S)) + length (words P.edition.width (term_of T)))) ≤ length entry
+    → (r ≡ answer (length rest) (at + (5 + (length (words P.edition.width (term_of S)) + length (words P.edition.width (term_of T)))))) × (exit ≡ put_at at (head ++ (words P.edition.width (term_of S) ++ words P.edition.width (term_of T))) entry)
 
 module _ (t u entry exit : List ℕ) (at r : ℕ) (long : length exit ≡ length entry) (says : BesideTells t u entry exit at r) where
-  beside_tells : (P : Scope) (S : Shared) (rest : List ℕ) → 25 ∷ t ≡ shared_words S ++ rest → Stands u P S → Tells entry exit at r S rest
+  beside_tells : (P : Scope) (S : Shared) (rest : List ℕ) → 25 ∷ t ≡ shared_words S ++ rest → Stands u P S → Tells P.edition.width entry exit at r S rest
   unfolding shared_words term_of words
   beside_tells P Ended rest e st room = absurd (let z : ◌≡◌ {A = ℕ} 25 30 = ap (λ x. get_or x 0 0) e in omega (arith, z))
   beside_tells P (Part l E) rest e st room = absurd (let z : 25 ≡ 32 + l = ap (λ x. get_or x 0 0) e in omega (arith, z))
   beside_tells P (Then S l F) rest e st room = absurd (let z : ◌≡◌ {A = ℕ} 25 22 = ap (λ x. get_or x 0 0) e in omega (arith, z))
   beside_tells P (Beside S T) rest e st room =
-      let n : at + (5 + (length (words 1 (term_of S)) + length (words 1 (term_of T)))) ≡ at + length (head ++ (words 1 (term_of S) ++ words 1 (term_of T))) = omega (arith, length-append (words 1 (term_of S)) (words 1 (term_of T))) in
-      let k : at + (5 + (length (words 1 (term_of S)) + length (words 1 (term_of T)))) ≤ length entry = omega (arith, n, room) in
+      let n : at + (5 + (length (words P.edition.width (term_of S)) + length (words P.edition.width (term_of T)))) ≡ at + length (head ++ (words P.edition.width (term_of S) ++ words P.edition.width (term_of T))) = omega (arith, length-append (words P.edition.width (term_of S)) (words P.edition.width (term_of T))) in
+      let k : at + (5 + (length (words P.edition.width (term_of S)) + length (words P.edition.width (term_of T)))) ≤ length entry = omega (arith, n, room) in
       let m = says P S T rest e st.0 st.1 k in
       (m.0 ∙ ap (answer (length rest)) n, m.1)
 
@@ -49,15 +49,15 @@ module _ (t u entry : List ℕ) (at : ℕ) where
     beside_long : length mid ≡ length entry
     beside_long = h.same_length ∙ ap length f ∙ put_length at head entry free
 
-    module _ (P : Scope) (S T : Shared) (rest : List ℕ) (e : 25 ∷ t ≡ 25 ∷ ((shared_words S ++ shared_words T) ++ rest)) (s_stands : Stands u P S) (room : at + (5 + (length (words 1 (term_of S)) + length (words 1 (term_of T)))) ≤ length entry) where
+    module _ (P : Scope) (S T : Shared) (rest : List ℕ) (e : 25 ∷ t ≡ 25 ∷ ((shared_words S ++ shared_words T) ++ rest)) (s_stands : Stands u P S) (room : at + (5 + (length (words P.edition.width (term_of S)) + length (words P.edition.width (term_of T)))) ≤ length entry) where
       behind : t ≡ shared_words S ++ (shared_words T ++ rest)
       behind = ap (drop 1) e ∙ append_assoc (shared_words S) (shared_words T) rest
 
-      first : (a ≡ answer (length (shared_words T ++ rest)) (at + 5 + length (words 1 (term_of S)))) × (mid ≡ put_at (at + 5) (words 1 (term_of S)) front)
+      first : (a ≡ answer (length (shared_words T ++ rest)) (at + 5 + length (words P.edition.width (term_of S)))) × (mid ≡ put_at (at + 5) (words P.edition.width (term_of S)) front)
       first = h.right P S (shared_words T ++ rest) behind s_stands (omega (arith, ap length f, put_length at head entry free))
 
       some : 65536 ≤ a
-      some = omega (arith, first.0, answer_is (length (shared_words T ++ rest)) (at + 5 + length (words 1 (term_of S))))
+      some = omega (arith, first.0, answer_is (length (shared_words T ++ rest)) (at + 5 + length (words P.edition.width (term_of S))))
 
     -- There is no room for the first of the two.
     pub beside_lost : a ≡ 0 → Expanded (25 ∷ t) u at entry mid 0
@@ -68,12 +68,12 @@ module _ (t u entry : List ℕ) (at : ℕ) where
       g = subst (λ x. Expanded v x place mid exit r) same made
 
       module _ (P : Scope) (S T : Shared) (rest : List ℕ) (e : 25 ∷ t ≡ 25 ∷ ((shared_words S ++ shared_words T) ++ rest)) (s_stands : Stands u P S) (t_stands : Stands u P T)
-          (room : at + (5 + (length (words 1 (term_of S)) + length (words 1 (term_of T)))) ≤ length entry) where
+          (room : at + (5 + (length (words P.edition.width (term_of S)) + length (words P.edition.width (term_of T)))) ≤ length entry) where
         abbrev S_words : List ℕ
-        S_words = words 1 (term_of S)
+        S_words = words P.edition.width (term_of S)
 
         abbrev T_words : List ℕ
-        T_words = words 1 (term_of T)
+        T_words = words P.edition.width (term_of T)
 
         there : t ≡ shared_words S ++ (shared_words T ++ rest)
         there = behind P S T rest e s_stands room

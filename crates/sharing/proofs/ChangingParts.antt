@@ -100,8 +100,8 @@ began_is at left a = refl
 
 module _ (d : List ℕ) {u : List ℕ} {n i e w : ℕ} {p mid mid1 s : List ℕ} {r : ℕ} (within : n ≤ length d) (ie : i ≤ e) (en : e ≤ n) (short_u : length u ≤ 65503) (short_d : length d ≤ 65535)
     (short_p : length p ≤ 65535) (short_mid : length mid ≤ 65535) (is : s ≡ last_of (w - 32) u) (b : Beginning s p 0 mid mid1 r) where
-  module _ (P : Scope) (l : ℕ) (E : Term) (ρ : Action) (T : Term) (g : w ≡ part_word l) (a : PartAt u P l E) (f : follow E p ≡ followed ρ T []) (m : marked E p ≡ true)
-      (room : RoomFor T i (n - e) (length d) (length mid)) where
+  module _ (P : Scope) (l : ℕ) (E : Term) (ρ : Action) (T : Term) (g : w ≡ part_word l) (a : PartAt u P l E) (f : follow E p ≡ followed ρ T []) (m : marked P.edition.width E p ≡ true)
+      (room : RoomFor P.edition.width T i (n - e) (length d) (length mid)) where
     there : s ≡ last_of l u
     there =
         let z : w - 32 ≡ l = omega arith in
@@ -112,7 +112,7 @@ module _ (d : List ℕ) {u : List ℕ} {n i e w : ℕ} {p mid mid1 s : List ℕ}
 
     begun : BeganRight u P (follow E p) 0 mid mid1 r
     begun =
-        let fits : 0 + size 1 (follow E p).successor ≤ length mid = omega (arith, ap (λ (y : Followed). size 1 y.successor) f, room.spelled) in
+        let fits : 0 + size P.edition.width (follow E p).successor ≤ length mid = omega (arith, ap (λ (y : Followed). size P.edition.width y.successor) f, room.spelled) in
         b.right u P E a.rest short_u (omega (arith, many, a.within)) (there ∙ ap (λ j. last_of j u) (sym many)) (subst (λ z. TermAt z P E a.rest) (sym there) a.there) a.unmasked m short_p fits
 
     abbrev X : Shared

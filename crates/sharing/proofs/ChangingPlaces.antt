@@ -29,13 +29,13 @@ module _ (d : List ℕ) (n i : ℕ) (within : n ≤ length d) (here : i < n) (ws
       ap (λ j. get_or d j 0) (sym z) ∙ word_at 0 (omega arith)
 
 -- The same room, by other names.
-room_as : {T T' : Term} {i m m' space room : ℕ} → T' ≡ T → m' ≡ m → RoomFor T i m space room → RoomFor T' i m' space room
-room_as {T} {T'} {i} {m} {m'} {space} {room} t e h = subst (λ k. RoomFor T' i k space room) (sym e) (subst (λ z. RoomFor z i m space room) (sym t) h)
+room_as : {width : ℕ} {T T' : Term} {i m m' space room : ℕ} → T' ≡ T → m' ≡ m → RoomFor width T i m space room → RoomFor width T' i m' space room
+room_as {width} {T} {T'} {i} {m} {m'} {space} {room} t e h = subst (λ k. RoomFor width T' i k space room) (sym e) (subst (λ z. RoomFor width z i m space room) (sym t) h)
 
 module _ (u d : List ℕ) (n i : ℕ) (p : List ℕ) (within : n ≤ length d) (here : i < n) (f : get_or d i 0 ≡ 22) where
   -- What is behind done.
   then_words : (P : Scope) (z : Shared) (after : List ℕ) (ρ : Action) (T : Term) → slice i n d ≡ shared_words z ++ after → Changes u P p z ρ T
-      → (l : ℕ) × (E : Term) × (slice i n d ≡ (22 ∷ part_word l ∷ 30 ∷ []) ++ after) × PartAt u P l E × (follow E p ≡ followed ρ T []) × (marked E p ≡ true)
+      → (l : ℕ) × (E : Term) × (slice i n d ≡ (22 ∷ part_word l ∷ 30 ∷ []) ++ after) × PartAt u P l E × (follow E p ≡ followed ρ T []) × (marked P.edition.width E p ≡ true)
   unfolding shared_words
   then_words P z after ρ T e (part l E q a b c) =
       let s : slice i n d ≡ (part_word l ∷ []) ++ after = e ∙ ap (λ y. shared_words y ++ after) q in
@@ -58,7 +58,7 @@ then_short {u} {d} {n} {i} {p} within here f g = record {
 module _ {u d : List ℕ} {n i : ℕ} {p mid d' mid' : List ℕ} {r : ℕ} (within : n ≤ length d) (here : i < n) where
   -- A part moves in the place of the words ws.
   by_part : {e w : ℕ} → PartChanged u d n i e w p mid d' mid' r → (P : Scope) (l : ℕ) (E : Term) (ρ : Action) (T : Term) (ws after : List ℕ) → slice i n d ≡ ws ++ after → e ≡ i + length ws
-      → w ≡ part_word l → PartAt u P l E → follow E p ≡ followed ρ T [] → marked E p ≡ true → RoomFor T i (length after) (length d) (length mid) → ChangedRight u P ρ T (take i d) after d' r
+      → w ≡ part_word l → PartAt u P l E → follow E p ≡ followed ρ T [] → marked P.edition.width E p ≡ true → RoomFor P.edition.width T i (length after) (length d) (length mid) → ChangedRight u P ρ T (take i d) after d' r
   by_part {e} {w} h P l E ρ T ws after s f g a b c room =
       let m : n - e ≡ length after = omega (arith, f, words_fill d n i within here ws after s) in
       let q : slice e n d ≡ after = ap (λ k. slice k n d) f ∙ words_behind d n i within here ws after s in
@@ -70,7 +70,7 @@ module _ {u d : List ℕ} {n i : ℕ} {p mid d' mid' : List ℕ} {r : ℕ} (with
   part_changed {w} f no_beside no_then h = record { same_length = h.same_length; mid_same_length = h.mid_same_length; right = go }
     where
       go : (P : Scope) (z : Shared) (after : List ℕ) (ρ : Action) (T : Term) → slice i n d ≡ shared_words z ++ after → Changes u P p z ρ T
-          → RoomFor T i (length after) (length d) (length mid) → ChangedRight u P ρ T (take i d) after d' r
+          → RoomFor P.edition.width T i (length after) (length d) (length mid) → ChangedRight u P ρ T (take i d) after d' r
       go P z after ρ T e (part l E q a b c) room =
           let s : slice i n d ≡ (part_word l ∷ []) ++ after = e ∙ ap (λ y. shared_words y ++ after) q in
           by_part h P l E ρ T (part_word l ∷ []) after s refl (f ∙ word_here d n i within here (part_word l ∷ []) after s) a b c room
@@ -96,7 +96,7 @@ module _ {u d : List ℕ} {n i : ℕ} {p mid d' mid' : List ℕ} {r : ℕ} (with
   join_changed f h = record { same_length = h.same_length; mid_same_length = h.mid_same_length; right = go }
     where
       go : (P : Scope) (z : Shared) (after : List ℕ) (ρ : Action) (T : Term) → slice i n d ≡ shared_words z ++ after → Changes u P p z ρ T
-          → RoomFor T i (length after) (length d) (length mid) → ChangedRight u P ρ T (take i d) after d' r
+          → RoomFor P.edition.width T i (length after) (length d) (length mid) → ChangedRight u P ρ T (take i d) after d' r
       go P z after ρ T e (part l E q a b c) room =
           let s : slice i n d ≡ (part_word l ∷ []) ++ after = e ∙ ap (λ y. shared_words y ++ after) q in
           absurd (omega (arith, f, word_here d n i within here (part_word l ∷ []) after s))

@@ -20,16 +20,16 @@ use Rattle.sharing.proofs.BeginningPuts.{put_one, put_length, put_behind}
 
 -- ── a part ──
 
-pub words_some : (E : Term) → 1 ≤ length (words 1 E)
+pub words_some : (width : ℕ) (E : Term) → 1 ≤ length (words width E)
 unfolding words
-words_some Done = omega arith
-words_some Internal = omega arith
-words_some (Perform a) = omega arith
-words_some (Sequence E F) = omega arith
-words_some (Choice E F) = omega arith
-words_some (Star E) = omega arith
-words_some (Parallel Δ E F) = omega arith
-words_some (Guard C E) = omega arith
+words_some width Done = omega arith
+words_some width Internal = omega arith
+words_some width (Perform a) = omega arith
+words_some width (Sequence E F) = omega arith
+words_some width (Choice E F) = omega arith
+words_some width (Star E) = omega arith
+words_some width (Parallel Δ E F) = omega arith
+words_some width (Guard C E) = omega arith
 
 -- e are the words from the part's place on, of which k are left after the part.
 module _ (u e : List ℕ) (w k : ℕ) (high : 32 ≤ w) (is : e ≡ last_of (w - 32) u) (skipped : (k ≤ length e) × ((P : Scope) (E : Term) (rest : List ℕ) → TermAt e P E rest → k ≡ length rest)) where
@@ -39,11 +39,11 @@ module _ (u e : List ℕ) (w k : ℕ) (high : 32 ≤ w) (is : e ≡ last_of (w -
         let n : w - 32 ≡ l = omega (arith, q) in
         subst (λ v. TermAt v P E p.rest) (sym (is ∙ ap (λ j. last_of j u) n)) p.there
 
-    pub part_count : length e - k ≡ length (words 1 E)
-    part_count = omega (arith, skipped.1 P E p.rest there, ap length there.spelled, length-append (words 1 E) p.rest)
+    pub part_count : length e - k ≡ length (words P.edition.width E)
+    part_count = omega (arith, skipped.1 P E p.rest there, ap length there.spelled, length-append (words P.edition.width E) p.rest)
 
-    part_words : take (length e - k) e ≡ words 1 E
-    part_words = ap (take (length e - k)) there.spelled ∙ take_at (words 1 E) p.rest (length e - k) (sym part_count)
+    part_words : take (length e - k) e ≡ words P.edition.width E
+    part_words = ap (take (length e - k)) there.spelled ∙ take_at (words P.edition.width E) p.rest (length e - k) (sym part_count)
 
   pub part_made : (entry exit x : List ℕ) (left at : ℕ) → at ≤ length entry → length e - k ≤ length entry - at → x ≡ take (length e - k) e → exit ≡ put_at at x entry
       → PartExpanded u w left at entry exit (answer left (at + (length e - k)))
@@ -70,38 +70,38 @@ expand_front s t u entry exit w k at r a b e z h = subst (λ v. Expanded v u at 
 
 -- No term has no words.
 pub expand_none : (s u entry : List ℕ) (at : ℕ) → length entry ≤ at → Expanded s u at entry entry 0
-expand_none s u entry at h = record { same_length = refl; right = λ P S rest e st room. absurd (omega (arith, words_some (term_of S))) }
+expand_none s u entry at h = record { same_length = refl; right = λ P S rest e st room. absurd (omega (arith, words_some P.edition.width (term_of S))) }
 
 -- Two numbers of an answer, the first of which is small, are known by it.
 pub answered_same : (left left' n n' : ℕ) → answer left n ≡ answer left' n' → left ≤ 65535 → left' ≤ 65535 → (left ≡ left') × (n ≡ n')
 answered_same left left' n n' e h k = (omega (arith, e, answer_is left n, answer_is left' n'), omega (arith, e, answer_is left n, answer_is left' n'))
 
 -- What is said of a shared term, spelled out from `at` on where there is room: the answer r, and what the array is then.
-abbrev pub Tells : List ℕ → List ℕ → ℕ → ℕ → Shared → List ℕ → Type 0
-Tells entry exit at r S rest = at + length (words 1 (term_of S)) ≤ length entry → (r ≡ answer (length rest) (at + length (words 1 (term_of S)))) × (exit ≡ put_at at (words 1 (term_of S)) entry)
+abbrev pub Tells : ℕ → List ℕ → List ℕ → ℕ → ℕ → Shared → List ℕ → Type 0
+Tells width entry exit at r S rest = at + length (words width (term_of S)) ≤ length entry → (r ≡ answer (length rest) (at + length (words width (term_of S)))) × (exit ≡ put_at at (words width (term_of S)) entry)
 
 module _ (entry exit t : List ℕ) (at r : ℕ) where
-  done_tells : DoneExpanded (length t) at entry exit r → (S : Shared) (rest : List ℕ) → 30 ∷ t ≡ shared_words S ++ rest → Tells entry exit at r S rest
+  done_tells : (width : ℕ) → DoneExpanded (length t) at entry exit r → (S : Shared) (rest : List ℕ) → 30 ∷ t ≡ shared_words S ++ rest → Tells width entry exit at r S rest
   unfolding shared_words term_of words
-  done_tells h Ended rest e room = ((h.right room).0 ∙ ap (λ v. answer (length v) (at + 1)) (ap (drop 1) e), (h.right room).1)
-  done_tells h (Part l E) rest e room = absurd (let z : 30 ≡ 32 + l = ap (λ v. get_or v 0 0) e in omega (arith, z))
-  done_tells h (Then S l F) rest e room = absurd (let z : ◌≡◌ {A = ℕ} 30 22 = ap (λ v. get_or v 0 0) e in omega (arith, z))
-  done_tells h (Beside S T) rest e room = absurd (let z : ◌≡◌ {A = ℕ} 30 25 = ap (λ v. get_or v 0 0) e in omega (arith, z))
+  done_tells width h Ended rest e room = ((h.right room).0 ∙ ap (λ v. answer (length v) (at + 1)) (ap (drop 1) e), (h.right room).1)
+  done_tells width h (Part l E) rest e room = absurd (let z : 30 ≡ 32 + l = ap (λ v. get_or v 0 0) e in omega (arith, z))
+  done_tells width h (Then S l F) rest e room = absurd (let z : ◌≡◌ {A = ℕ} 30 22 = ap (λ v. get_or v 0 0) e in omega (arith, z))
+  done_tells width h (Beside S T) rest e room = absurd (let z : ◌≡◌ {A = ℕ} 30 25 = ap (λ v. get_or v 0 0) e in omega (arith, z))
 
   pub done_expanded : (u : List ℕ) → DoneExpanded (length t) at entry exit r → Expanded (30 ∷ t) u at entry exit r
-  done_expanded u h = record { same_length = h.same_length; right = λ P S rest e st. done_tells h S rest e }
+  done_expanded u h = record { same_length = h.same_length; right = λ P S rest e st. done_tells P.edition.width h S rest e }
 
 -- What is known of a word after the cases of what has begun: it is none of their codes.
 abbrev pub NotBegun : ℕ → Type 0
 NotBegun w = ((Unit {0} × (w ≡ 22 → ⊥)) × (w ≡ 25 → ⊥)) × (w ≡ 30 → ⊥)
 
 module _ (entry exit s t u : List ℕ) (w at r : ℕ) (a : w ≡ get_or s 0 0) (b : t ≡ drop 1 s) (h : PartExpanded u w (length t) at entry exit r) (other : NotBegun w) where
-  part_tells : (P : Scope) (S : Shared) (rest : List ℕ) → s ≡ shared_words S ++ rest → Stands u P S → Tells entry exit at r S rest
+  part_tells : (P : Scope) (S : Shared) (rest : List ℕ) → s ≡ shared_words S ++ rest → Stands u P S → Tells P.edition.width entry exit at r S rest
   unfolding shared_words term_of
   part_tells P Ended rest e st room = absurd (other.1 (a ∙ ap (λ v. get_or v 0 0) e))
   part_tells P (Part l E) rest e st room =
       let m = h.right P l E (a ∙ ap (λ v. get_or v 0 0) e) st.1 room in
-      (m.0 ∙ ap (λ v. answer (length v) (at + length (words 1 E))) (b ∙ ap (drop 1) e), m.1)
+      (m.0 ∙ ap (λ v. answer (length v) (at + length (words P.edition.width E))) (b ∙ ap (drop 1) e), m.1)
   part_tells P (Then S l F) rest e st room = absurd (other.0.0.1 (a ∙ ap (λ v. get_or v 0 0) e))
   part_tells P (Beside S T) rest e st room = absurd (other.0.1 (a ∙ ap (λ v. get_or v 0 0) e))
 
@@ -113,17 +113,17 @@ module _ (entry exit s t u : List ℕ) (w at r : ℕ) (a : w ≡ get_or s 0 0) (
 -- The same is said of a sequence: a shared term, and a part that follows it.
 abbrev ThenTells : List ℕ → List ℕ → List ℕ → List ℕ → ℕ → ℕ → Type 0
 ThenTells t u entry exit at r =
-    (P : Scope) (S : Shared) (l : ℕ) (F : Term) (rest : List ℕ) → 22 ∷ t ≡ 22 ∷ part_word l ∷ (shared_words S ++ rest) → Stands u P S → PartAt u P l F → at + (1 + (length (words 1 (term_of S)) + length (words 1 F))) ≤ length entry
-    → (r ≡ answer (length rest) (at + (1 + (length (words 1 (term_of S)) + length (words 1 F))))) × (exit ≡ put_at at (22 ∷ (words 1 (term_of S) ++ words 1 F)) entry)
+    (P : Scope) (S : Shared) (l : ℕ) (F : Term) (rest : List ℕ) → 22 ∷ t ≡ 22 ∷ part_word l ∷ (shared_words S ++ rest) → Stands u P S → PartAt u P l F → at + (1 + (length (words P.edition.width (term_of S)) + length (words P.edition.width F))) ≤ length entry
+    → (r ≡ answer (length rest) (at + (1 + (length (words P.edition.width (term_of S)) + length (words P.edition.width F))))) × (exit ≡ put_at at (22 ∷ (words P.edition.width (term_of S) ++ words P.edition.width F)) entry)
 
 module _ (t u entry exit : List ℕ) (at r : ℕ) (long : length exit ≡ length entry) (says : ThenTells t u entry exit at r) where
-  then_tells : (P : Scope) (S : Shared) (rest : List ℕ) → 22 ∷ t ≡ shared_words S ++ rest → Stands u P S → Tells entry exit at r S rest
+  then_tells : (P : Scope) (S : Shared) (rest : List ℕ) → 22 ∷ t ≡ shared_words S ++ rest → Stands u P S → Tells P.edition.width entry exit at r S rest
   unfolding shared_words term_of words
   then_tells P Ended rest e st room = absurd (let z : ◌≡◌ {A = ℕ} 22 30 = ap (λ x. get_or x 0 0) e in omega (arith, z))
   then_tells P (Part l E) rest e st room = absurd (let z : 22 ≡ 32 + l = ap (λ x. get_or x 0 0) e in omega (arith, z))
   then_tells P (Then S l F) rest e st room =
-      let n : at + (1 + (length (words 1 (term_of S)) + length (words 1 F))) ≡ at + length (22 ∷ (words 1 (term_of S) ++ words 1 F)) = omega (arith, length-append (words 1 (term_of S)) (words 1 F)) in
-      let k : at + (1 + (length (words 1 (term_of S)) + length (words 1 F))) ≤ length entry = omega (arith, n, room) in
+      let n : at + (1 + (length (words P.edition.width (term_of S)) + length (words P.edition.width F))) ≡ at + length (22 ∷ (words P.edition.width (term_of S) ++ words P.edition.width F)) = omega (arith, length-append (words P.edition.width (term_of S)) (words P.edition.width F)) in
+      let k : at + (1 + (length (words P.edition.width (term_of S)) + length (words P.edition.width F))) ≤ length entry = omega (arith, n, room) in
       let m = says P S l F rest e st.0 st.1 k in
       (m.0 ∙ ap (answer (length rest)) n, m.1)
   then_tells P (Beside S T) rest e st room = absurd (let z : ◌≡◌ {A = ℕ} 22 25 = ap (λ x. get_or x 0 0) e in omega (arith, z))
@@ -135,33 +135,33 @@ module _ (t v u entry mid : List ℕ) (at a : ℕ) (free : at < length entry) (v
   then_long : length mid ≡ length entry
   then_long = h.same_length ∙ length-set entry at 22
 
-  module _ (P : Scope) (S : Shared) (l n : ℕ) (rest : List ℕ) (e : 22 ∷ t ≡ 22 ∷ part_word l ∷ (shared_words S ++ rest)) (st : Stands u P S) (room : at + (1 + (length (words 1 (term_of S)) + n)) ≤ length entry) where
+  module _ (P : Scope) (S : Shared) (l n : ℕ) (rest : List ℕ) (e : 22 ∷ t ≡ 22 ∷ part_word l ∷ (shared_words S ++ rest)) (st : Stands u P S) (room : at + (1 + (length (words P.edition.width (term_of S)) + n)) ≤ length entry) where
     behind : t ≡ part_word l ∷ (shared_words S ++ rest)
     behind = ap (drop 1) e
 
-    first : (a ≡ answer (length rest) (at + 1 + length (words 1 (term_of S)))) × (mid ≡ put_at (at + 1) (words 1 (term_of S)) (set entry at 22))
+    first : (a ≡ answer (length rest) (at + 1 + length (words P.edition.width (term_of S)))) × (mid ≡ put_at (at + 1) (words P.edition.width (term_of S)) (set entry at 22))
     first = h.right P S rest (vt ∙ ap (drop 1) behind) st (omega (arith, length-set entry at 22))
 
     some : 65536 ≤ a
-    some = omega (arith, first.0, answer_is (length rest) (at + 1 + length (words 1 (term_of S))))
+    some = omega (arith, first.0, answer_is (length rest) (at + 1 + length (words P.edition.width (term_of S))))
 
   -- There is no room for what is followed.
   pub then_lost : a ≡ 0 → Expanded (22 ∷ t) u at entry mid 0
-  then_lost z = then_told t u entry mid at 0 then_long (λ P S l F rest e st p room. absurd (omega (arith, z, some P S l (length (words 1 F)) rest e st room)))
+  then_lost z = then_told t u entry mid at 0 then_long (λ P S l F rest e st p room. absurd (omega (arith, z, some P S l (length (words P.edition.width F)) rest e st room)))
 
   module _ (exit : List ℕ) (w left place r : ℕ) (is : a ≡ answer left place) (few : left ≤ 65535) (short : length t < 65535) (wt : w ≡ get_or t 0 0) (u' : List ℕ) (same : u' ≡ u) (made : PartExpanded u' w left place mid exit r) where
     g : PartExpanded u w left place mid exit r
     g = subst (λ x. PartExpanded x w left place mid exit r) same made
 
-    module _ (P : Scope) (S : Shared) (l : ℕ) (F : Term) (rest : List ℕ) (e : 22 ∷ t ≡ 22 ∷ part_word l ∷ (shared_words S ++ rest)) (st : Stands u P S) (p : PartAt u P l F) (room : at + (1 + (length (words 1 (term_of S)) + length (words 1 F))) ≤ length entry) where
+    module _ (P : Scope) (S : Shared) (l : ℕ) (F : Term) (rest : List ℕ) (e : 22 ∷ t ≡ 22 ∷ part_word l ∷ (shared_words S ++ rest)) (st : Stands u P S) (p : PartAt u P l F) (room : at + (1 + (length (words P.edition.width (term_of S)) + length (words P.edition.width F))) ≤ length entry) where
       abbrev E_words : List ℕ
-      E_words = words 1 (term_of S)
+      E_words = words P.edition.width (term_of S)
 
       behind_is : t ≡ part_word l ∷ (shared_words S ++ rest)
-      behind_is = behind P S l (length (words 1 F)) rest e st room
+      behind_is = behind P S l (length (words P.edition.width F)) rest e st room
 
       one : (a ≡ answer (length rest) (at + 1 + length E_words)) × (mid ≡ put_at (at + 1) E_words (set entry at 22))
-      one = first P S l (length (words 1 F)) rest e st room
+      one = first P S l (length (words P.edition.width F)) rest e st room
 
       rest_short : length rest ≤ 65535
       rest_short = omega (arith, ap length behind_is, length-append (shared_words S) rest)
@@ -172,16 +172,16 @@ module _ (t v u entry mid : List ℕ) (at a : ℕ) (free : at < length entry) (v
       place_is : place ≡ at + 1 + length E_words
       place_is = (answered_same left (length rest) place (at + 1 + length E_words) (sym is ∙ one.0) few rest_short).1
 
-      second : (r ≡ answer left (place + length (words 1 F))) × (exit ≡ put_at place (words 1 F) mid)
+      second : (r ≡ answer left (place + length (words P.edition.width F))) × (exit ≡ put_at place (words P.edition.width F) mid)
       second = g.right P l F (wt ∙ ap (λ x. get_or x 0 0) behind_is) p (omega (arith, place_is, then_long))
 
-      then_answer : r ≡ answer (length rest) (at + (1 + (length E_words + length (words 1 F))))
-      then_answer = omega (arith, second.0, left_is, place_is, answer_is left (place + length (words 1 F)), answer_is (length rest) (at + (1 + (length E_words + length (words 1 F)))))
+      then_answer : r ≡ answer (length rest) (at + (1 + (length E_words + length (words P.edition.width F))))
+      then_answer = omega (arith, second.0, left_is, place_is, answer_is left (place + length (words P.edition.width F)), answer_is (length rest) (at + (1 + (length E_words + length (words P.edition.width F)))))
 
-      then_written : exit ≡ put_at at (22 ∷ (E_words ++ words 1 F)) entry
+      then_written : exit ≡ put_at at (22 ∷ (E_words ++ words P.edition.width F)) entry
       then_written =
           let m : mid ≡ put_at at (22 ∷ E_words) entry = put_behind entry (22 ∷ []) E_words (set entry at 22) mid at (at + 1) (omega arith) refl (put_one entry at 22 free) one.1 in
-          put_behind entry (22 ∷ E_words) (words 1 F) mid exit at place (omega arith) (omega (arith, place_is)) m second.1
+          put_behind entry (22 ∷ E_words) (words P.edition.width F) mid exit at place (omega arith) (omega (arith, place_is)) m second.1
 
     pub then_expanded : Expanded (22 ∷ t) u at entry exit r
     then_expanded = then_told t u entry exit at r (g.same_length ∙ then_long) (λ P S l F rest e st p room. (then_answer P S l F rest e st p room, then_written P S l F rest e st p room))

@@ -22,8 +22,8 @@ use Rattle.sharing.specs.RoomLaws.{unmasked_room}
 use Rattle.sharing.specs.Seeking.{Sought, Outcome}
 use Rattle.sharing.specs.Finding.{PartFound}
 
-part_size : (u : List ℕ) (P : Scope) (l : ℕ) (E : Term) → PartAt u P l E → size 1 E ≤ length u
-part_size u P l E h = omega (arith, last_len l u (last_of l u) refl, ap length h.there.spelled, length-append (words 1 E) h.rest, fits_length P E h.there.fits)
+part_size : (u : List ℕ) (P : Scope) (l : ℕ) (E : Term) → PartAt u P l E → size P.edition.width E ≤ length u
+part_size u P l E h = omega (arith, last_len l u (last_of l u) refl, ap length h.there.spelled, length-append (words P.edition.width E) h.rest, fits_length P E h.there.fits)
 
 module _ (u s : List ℕ) (w here left : ℕ) (M : List ℕ) (k : ℕ) (entry exit : List ℕ) (n m r : ℕ) (wide : 32 ≤ w) (iss : s ≡ last_of (w - 32) u) (ism : m ≡ n) (h : Sought s M k entry exit m r)
     (few : here ≤ 65535) (behind : left ≤ here) (small : k < 131072) (short : length entry ≤ 65535) where
@@ -34,9 +34,9 @@ module _ (u s : List ℕ) (w here left : ℕ) (M : List ℕ) (k : ℕ) (entry ex
         subst (λ t. TermAt t P E a.rest) (sym (iss ∙ ap (λ i. last_of i u) e)) a.there
 
     has_room : r < full
-    has_room = h.has_room P E a.rest there a.unmasked (omega (arith, part_size u P l E a)) (omega (arith, part_size u P l E a, unmasked_room (holding M) E a.unmasked))
+    has_room = h.has_room P E a.rest there a.unmasked (omega (arith, part_size u P l E a)) (omega (arith, part_size u P l E a, unmasked_room P.edition.width (holding M) E a.unmasked))
 
-    outcome : Outcome (move_count M E) (path 0 (holding M) E k) k exit r
+    outcome : Outcome (move_count M E) (path P.edition.width 0 (holding M) E k) k exit r
     outcome = h.right P E a.rest there a.unmasked has_room
 
   -- there was no room, which is never so

@@ -82,15 +82,15 @@ module _ (t : List ℕ) where
     where
       guarded : (P : Scope) (C : Cond) (E : Term) (rest : List ℕ) → GuardedAt t P C E rest → TermAt u P E rest
       guarded P C E rest k =
-          let n : c ≡ length (words 1 E ++ rest) = j.1 P C (words 1 E ++ rest) k.condition in
-          let q : u ≡ words 1 E ++ rest = e ∙ ap (λ m. last_of m t) n ∙ ap (last_of (length (words 1 E ++ rest))) k.condition.spelled ∙ last_behind (cond_words 1 C) (words 1 E ++ rest) in
+          let n : c ≡ length (words P.edition.width E ++ rest) = j.1 P C (words P.edition.width E ++ rest) k.condition in
+          let q : u ≡ words P.edition.width E ++ rest = e ∙ ap (λ m. last_of m t) n ∙ ap (last_of (length (words P.edition.width E ++ rest))) k.condition.spelled ∙ last_behind (cond_words P.edition.width C) (words P.edition.width E ++ rest) in
           subst (λ v. TermAt v P E rest) (sym q) k.guarded
 
 -- What is known of a code behind the cases from 21 to 26.
 abbrev pub NoOperands : ℕ → Type 0
 NoOperands w = (((((Unit {0} × (w ≡ 21 → ⊥)) × (w ≡ 22 → ⊥)) × (w ≡ 23 → ⊥)) × (w ≡ 24 → ⊥)) × (w ≡ 25 → ⊥)) × (w ≡ 26 → ⊥)
 
-by_leaf : (w : ℕ) → NoOperands w → (s : List ℕ) (P : Scope) (X : Term) (rest : List ℕ) → s ≡ words 1 X ++ rest → w ≡ code_in_front X → (drop 1 s ≡ rest) × Unmasked X
+by_leaf : (w : ℕ) → NoOperands w → (s : List ℕ) (P : Scope) (X : Term) (rest : List ℕ) → s ≡ words P.edition.width X ++ rest → w ≡ code_in_front X → (drop 1 s ≡ rest) × Unmasked X
 unfolding code_in_front words
 by_leaf w h s P Done rest e f = (ap (drop 1) e, tt)
 by_leaf w h s P Internal rest e f = (ap (drop 1) e, tt)
@@ -115,7 +115,7 @@ pub two_bare : (t u : List ℕ) (l : ℕ) → Bare t l → u ≡ last_of l t →
 two_bare t u l h e n g = record {
   shorter = omega (arith, g.shorter, last_len l t u e);
   right = λ P E F rest k.
-      let a = h.right P E (words 1 F ++ rest) k.first in
+      let a = h.right P E (words P.edition.width F ++ rest) k.first in
       let b = g.right P F rest (second_at l u k a.0 e) in
       (b.0, a.1, b.1);
 }

@@ -36,7 +36,7 @@ bounded_single k l r f g a b = by_order k 1
 -- What is shown of every term that may stand there.
 abbrev pub Told : List ℕ → ℕ → List ℕ → List ℕ → ℕ → ℕ → Scope → Term → List ℕ → Type 0
 Told M k entry exit n r P E rest =
-    Unmasked E → (size 1 E ≤ length entry → room (holding M) E ≤ n → r < full) × (r < full → Outcome (move_count M E) (path 0 (holding M) E k) k exit r)
+    Unmasked E → (size P.edition.width E ≤ length entry → room (holding M) E ≤ n → r < full) × (r < full → Outcome (move_count M E) (path P.edition.width 0 (holding M) E k) k exit r)
 
 pub sought_of : {s M : List ℕ} {k : ℕ} {entry exit : List ℕ} {n r : ℕ} → length exit ≡ length entry → Bounded k (length entry) r
     → ((P : Scope) (E : Term) (rest : List ℕ) → TermAt s P E rest → Told M k entry exit n r P E rest) → Sought s M k entry exit n r
@@ -101,20 +101,20 @@ module _ {o : List ℕ} {r q : ℕ} {mid exit : List ℕ} (h : Decided o r mid e
   }
 
 -- there is room in front of the path of a term that is so much shorter than the array
-pub outcome_room : (M entry exit : List ℕ) (k r : ℕ) (E : Term) → Outcome (move_count M E) (path 0 (holding M) E k) k exit r → Bounded k (length entry) r → length exit ≡ length entry
-    → (w : ℕ) → w + size 1 E ≤ length entry → r < passed → w ≤ r
-outcome_room M entry exit k r E h b e w l z =
-    place_room w r exit (path 0 (holding M) E k) (omega (arith, b.place_bounded z)) (outcome_place h z).1 (omega (arith, path_length 0 (holding M) E k))
+pub outcome_room : (width : ℕ) (M entry exit : List ℕ) (k r : ℕ) (E : Term) → Outcome (move_count M E) (path width 0 (holding M) E k) k exit r → Bounded k (length entry) r → length exit ≡ length entry
+    → (w : ℕ) → w + size width E ≤ length entry → r < passed → w ≤ r
+outcome_room width M entry exit k r E h b e w l z =
+    place_room w r exit (path width 0 (holding M) E k) (omega (arith, b.place_bounded z)) (outcome_place h z).1 (omega (arith, path_length width 0 (holding M) E k))
 
 -- ── the left operand, whose end was looked for ──
 
 module _ {s M : List ℕ} {k : ℕ} {entry exit : List ℕ} {n r : ℕ} (h : Derived s M k entry exit n r) (P : Scope) (E : Term) (rest : List ℕ) (t : TermAt s P E rest) where
-  pub derived_place : r < passed → (k < move_count M E) × (drop r exit ≡ path 0 (holding M) E k)
+  pub derived_place : r < passed → (k < move_count M E) × (drop r exit ≡ path P.edition.width 0 (holding M) E k)
   derived_place z = by_order k (move_count M E) (λ l. (l, (h.found P E rest t (omega arith) l).1)) (λ l. absurd (omega (arith, h.none_found P E rest t (omega arith) l)))
 
-  pub derived_outcome : r < passed → (m : ℕ) → move_count M E ≤ m → Outcome m (path 0 (holding M) E k) k exit r
+  pub derived_outcome : r < passed → (m : ℕ) → move_count M E ≤ m → Outcome m (path P.edition.width 0 (holding M) E k) k exit r
   derived_outcome z m a = record { found = λ l. (z, (derived_place z).1); none_found = λ l. absurd (omega (arith, (derived_place z).0)) }
 
-  pub derived_room : length exit ≡ length entry → (w : ℕ) → w + size 1 E ≤ length entry → r < passed → w ≤ r
+  pub derived_room : length exit ≡ length entry → (w : ℕ) → w + size P.edition.width E ≤ length entry → r < passed → w ≤ r
   derived_room e w l z =
-      place_room w r exit (path 0 (holding M) E k) (omega (arith, h.place_bounded z)) (derived_place z).1 (omega (arith, path_length 0 (holding M) E k))
+      place_room w r exit (path P.edition.width 0 (holding M) E k) (omega (arith, h.place_bounded z)) (derived_place z).1 (omega (arith, path_length P.edition.width 0 (holding M) E k))

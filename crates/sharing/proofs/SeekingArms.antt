@@ -35,11 +35,11 @@ module _ (t M entry : List ℕ) (k n r : ℕ) (f : k ≡ 0 → r ≡ length entr
 
   pub internal_sought : Sought (20 ∷ t) M k entry entry n r
   internal_sought = sought_of refl (bounded_single k (length entry) r f g few small) (internal_cases t (Told M k entry entry n r)
-      (λ P rest q u. (λ a b. single_low, λ z. outcome_as _ _ (count_internal M) (λ l. path_internal M k) (outcome_single k r entry f g few))))
+      (λ P rest q u. (λ a b. single_low, λ z. outcome_as _ _ (count_internal M) (λ l. path_internal M P.edition.width k) (outcome_single k r entry f g few))))
 
   pub perform_sought : Sought (21 ∷ t) M k entry entry n r
   perform_sought = sought_of refl (bounded_single k (length entry) r f g few small) (perform_cases t (Told M k entry entry n r)
-      (λ P a rest q u. (λ b d. single_low, λ z. outcome_as _ _ (count_perform M a) (λ l. path_perform M a k) (outcome_single k r entry f g few))))
+      (λ P a rest q u. (λ b d. single_low, λ z. outcome_as _ _ (count_perform M a) (λ l. path_perform M P.edition.width a k) (outcome_single k r entry f g few))))
 
 -- ── two operands ──
 
@@ -49,10 +49,10 @@ module _ (c : ℕ) (t M : List ℕ) (k : ℕ) (entry mid : List ℕ) (n l : ℕ)
   two_left f exit q h = record {
     same_length = h.same_length ∙ same;
     bounds = decided_bounds h (length entry) (record { bounded = first.bounded; place_bounded = first.place_bounded; passed_bounded = λ y z. absurd (omega arith) });
-    has_room = λ P E F rest s u v a b d. decided_room h (omega arith) (derived_room first P E (words 1 F ++ rest) s.first same 1 (omega (arith, a)));
+    has_room = λ P E F rest s u v a b d. decided_room h (omega arith) (derived_room first P E (words P.edition.width F ++ rest) s.first same 1 (omega (arith, a)));
     right = λ P E F rest s u v z.
-        outcome_as _ _ refl (λ y. two_first M E F c k (derived_place first P E (words 1 F ++ rest) s.first f).0)
-        (decided_outcome h z (derived_outcome first P E (words 1 F ++ rest) s.first f (move_count M E + move_count M F) (omega arith)));
+        outcome_as _ _ refl (λ y. two_first M P.edition.width E F c k (derived_place first P E (words P.edition.width F ++ rest) s.first f).0)
+        (decided_outcome h z (derived_outcome first P E (words P.edition.width F ++ rest) s.first f (move_count M E + move_count M F) (omega arith)));
   }
 
   module _ (pl : passed ≤ l) (fl : l < full) where
@@ -61,26 +61,26 @@ module _ (c : ℕ) (t M : List ℕ) (k : ℕ) (entry mid : List ℕ) (n l : ℕ)
 
     module _ (P : Scope) (E F : Term) (rest : List ℕ) (s : TwoAt t P E F rest) where
       past_all : move_count M E ≤ k
-      past_all = by_order k (move_count M E) (λ y. absurd (omega (arith, (first.found P E (words 1 F ++ rest) s.first fl y).0))) (λ y. y)
+      past_all = by_order k (move_count M E) (λ y. absurd (omega (arith, (first.found P E (words P.edition.width F ++ rest) s.first fl y).0))) (λ y. y)
 
-      past : l ≡ passed + answer (length (words 1 F ++ rest)) (k - move_count M E)
-      past = first.none_found P E (words 1 F ++ rest) s.first fl past_all
+      past : l ≡ passed + answer (length (words P.edition.width F ++ rest)) (k - move_count M E)
+      past = first.none_found P E (words P.edition.width F ++ rest) s.first fl past_all
 
-      behind_short : length (words 1 F ++ rest) ≤ 65535
-      behind_short = omega (arith, behind_shorter t P E (words 1 F ++ rest) s.first)
+      behind_short : length (words P.edition.width F ++ rest) ≤ 65535
+      behind_short = omega (arith, behind_shorter t P E (words P.edition.width F ++ rest) s.first)
 
-      past_left : (l - passed) % 65536 ≡ length (words 1 F ++ rest)
-      past_left = answered_left (l - passed) (length (words 1 F ++ rest)) (k - move_count M E) (omega (arith, past)) behind_short
+      past_left : (l - passed) % 65536 ≡ length (words P.edition.width F ++ rest)
+      past_left = answered_left (l - passed) (length (words P.edition.width F ++ rest)) (k - move_count M E) (omega (arith, past)) behind_short
 
       past_count : (l - passed) / 65536 ≡ k - move_count M E
-      past_count = answered_count (l - passed) (length (words 1 F ++ rest)) (k - move_count M E) (omega (arith, past)) behind_short
+      past_count = answered_count (l - passed) (length (words P.edition.width F ++ rest)) (k - move_count M E) (omega (arith, past)) behind_short
 
     module _ (u back exit : List ℕ) (m r q : ℕ) (isu : u ≡ last_of ((l - passed) % 65536) t) (ism : m ≡ n) (second : Sought u M ((l - passed) / 65536) mid back m r)
         (h : Decided ((c + 1) ∷ (length t - length u) ∷ []) r back exit q) where
       second_here : (P : Scope) (E F : Term) (rest : List ℕ) → TwoAt t P E F rest → TermAt u P F rest
       second_here P E F rest s = second_at ((l - passed) % 65536) u s (past_left P E F rest s) isu
 
-      left_size : (P : Scope) (E F : Term) (rest : List ℕ) → TwoAt t P E F rest → length t - length u ≡ size 1 E
+      left_size : (P : Scope) (E F : Term) (rest : List ℕ) → TwoAt t P E F rest → length t - length u ≡ size P.edition.width E
       left_size P E F rest s = before_second t u s (second_here P E F rest s)
 
       pub two_right : TwoSought c t M k entry exit n q
@@ -91,12 +91,12 @@ module _ (c : ℕ) (t M : List ℕ) (k : ℕ) (entry mid : List ℕ) (n l : ℕ)
             let v = second_here P E F rest s in
             let low = second.has_room P F rest v y (omega (arith, a, same)) (omega (arith, d)) in
             decided_room h low
-            (outcome_room M mid back ((l - passed) / 65536) r F (second.right P F rest v y low) second.bounds second.same_length 2 (omega (arith, a, same, size_pos 1 E)));
+            (outcome_room P.edition.width M mid back ((l - passed) / 65536) r F (second.right P F rest v y low) second.bounds second.same_length 2 (omega (arith, a, same, size_pos P.edition.width E)));
         right = λ P E F rest s x y z.
             let v = second_here P E F rest s in
             let j = past_count P E F rest s in
             let o = second.right P F rest v y (before_full h z) in
-            outcome_as _ _ refl (λ w. (λ i. (c + 1) ∷ left_size P E F rest s i ∷ path 0 (holding M) F (j i)) ∙ two_second M E F c k (past_all P E F rest s))
+            outcome_as _ _ refl (λ w. (λ i. (c + 1) ∷ left_size P E F rest s i ∷ path P.edition.width 0 (holding M) F (j i)) ∙ two_second M P.edition.width E F c k (past_all P E F rest s))
             (outcome_later (move_count M E) k (past_all P E F rest s) j (decided_outcome h z o));
       }
 
@@ -107,7 +107,7 @@ choice_sought c t M k entry exit n r two e =
     sought_of h.same_length h.bounds (choice_cases t (Told M k entry exit n r)
     (λ P E F rest s u. (
       λ a b. h.has_room P E F rest s u.0 u.1 a (omega (arith, b, room_choice (holding M) E F)) (omega (arith, b, room_choice (holding M) E F)),
-      λ z. outcome_as _ _ (count_choice M E F) (λ y. path_choice M E F k) (h.right P E F rest s u.0 u.1 z),
+      λ z. outcome_as _ _ (count_choice M E F) (λ y. path_choice M P.edition.width E F k) (h.right P E F rest s u.0 u.1 z),
     )))
 
 -- ── a sequence ──
@@ -120,7 +120,7 @@ module _ (t M : List ℕ) (k : ℕ) (entry exit : List ℕ) (n r : ℕ) where
       let d = first_done s e in
       let b = second_behind s u e f in (
         λ v y. h.has_room P F rest b w.1 (omega (arith, v)) (rw (room_after_done (holding M) E F d) at y),
-        λ z. outcome_as _ _ (count_after_done M E F d) (λ y. path_after_done M E F k d) (h.right P F rest b w.1 z),
+        λ z. outcome_as _ _ (count_after_done M E F d) (λ y. path_after_done M P.edition.width E F k d) (h.right P F rest b w.1 z),
       )))
 
   pub sequence_left : (get_or t 0 0 ≡ 30 → ⊥) → Sought t M k entry exit n r → Sought (22 ∷ t) M k entry exit n r
@@ -128,8 +128,8 @@ module _ (t M : List ℕ) (k : ℕ) (entry exit : List ℕ) (n r : ℕ) where
   sequence_left o h = sought_of h.same_length h.bounds (sequence_cases t (Told M k entry exit n r)
       (λ P E F rest s w.
       let d = first_other s o in (
-        λ v y. h.has_room P E (words 1 F ++ rest) s.first w.0 (omega (arith, v)) (rw (room_sequence (holding M) E F d) at y),
-        λ z. outcome_as _ _ (count_sequence M E F d) (λ y. path_sequence M E F k d) (h.right P E (words 1 F ++ rest) s.first w.0 z),
+        λ v y. h.has_room P E (words P.edition.width F ++ rest) s.first w.0 (omega (arith, v)) (rw (room_sequence (holding M) E F d) at y),
+        λ z. outcome_as _ _ (count_sequence M E F d) (λ y. path_sequence M P.edition.width E F k d) (h.right P E (words P.edition.width F ++ rest) s.first w.0 z),
       )))
 
 -- ── a star ──
@@ -142,7 +142,7 @@ module _ (t M : List ℕ) (k : ℕ) (entry exit : List ℕ) (n q : ℕ) (few : l
       sought_of h.same_length (decided_bounds h (length entry) (bounded_single k (length entry) (length entry) (λ z. refl) nk few (omega arith))) (star_cases t (Told M k entry exit n q)
       (λ P E rest s u. (
         λ v y. decided_room h (omega arith) (λ z. omega (arith, v)),
-        λ z. outcome_as _ _ (count_star M E) (λ y. path_end M E k e)
+        λ z. outcome_as _ _ (count_star M E) (λ y. path_end M P.edition.width E k e)
             (outcome_early (1 + move_count M E) (omega arith) (omega arith) (decided_outcome h z (outcome_single k (length entry) entry (λ y. refl) nk few))),
       )))
 
@@ -154,8 +154,8 @@ module _ (t M : List ℕ) (k : ℕ) (entry exit : List ℕ) (n q : ℕ) (few : l
       (λ P E rest s u. (
         λ v y.
             let low = h.has_room P E rest s u (omega (arith, v)) (omega (arith, y, room_star (holding M) E)) in
-            decided_room w low (outcome_room M entry mid (k - 1) r E (h.right P E rest s u low) h.bounds h.same_length 1 v),
-        λ z. outcome_as _ _ (count_star M E) (λ y. path_round M E k e) (outcome_later 1 k (omega arith) refl (decided_outcome w z (h.right P E rest s u (before_full w z)))),
+            decided_room w low (outcome_room P.edition.width M entry mid (k - 1) r E (h.right P E rest s u low) h.bounds h.same_length 1 v),
+        λ z. outcome_as _ _ (count_star M E) (λ y. path_round M P.edition.width E k e) (outcome_later 1 k (omega arith) refl (decided_outcome w z (h.right P E rest s u (before_full w z)))),
       )))
 
 -- ── a parallel whose mask has no label ──
@@ -173,7 +173,7 @@ module _ (d t M : List ℕ) (k : ℕ) (entry exit : List ℕ) (n : ℕ) (ist : t
         λ w y. by_order k 1
             (λ z. let o : q ≡ length entry = a (omega arith) in decided_room h (omega arith) (λ i. omega (arith, w, o)))
             (λ z. decided_room h (omega (arith, c z)) (λ i. absurd (omega (arith, c z, i)))),
-        λ z. outcome_as _ _ (count_both_done M Δ E F o) (λ y. path_both_done M Δ E F k o) (decided_outcome h z (outcome_single k q entry a c few)),
+        λ z. outcome_as _ _ (count_both_done M Δ E F o) (λ y. path_both_done M P.edition.width Δ E F k o) (decided_outcome h z (outcome_single k q entry a c few)),
       )))
 
   pub parallel_beside : (c : ℕ) → b ≡ false → TwoSought c t M k entry exit n r → c ≡ 1 → Sought (25 ∷ d) M k entry exit n r
@@ -185,7 +185,7 @@ module _ (d t M : List ℕ) (k : ℕ) (entry exit : List ℕ) (n : ℕ) (ist : t
       let w = sides s in
       let m = room_zero (holding M) Δ E F o u.0 in (
         λ v y. h.has_room P E F rest w u.1 u.2 (omega (arith, v)) (omega (arith, y, m)) (omega (arith, y, m)),
-        λ i. outcome_as _ _ (count_beside M P Δ E F o u.0 w.first.fits w.second.fits) (λ j. path_beside M Δ E F k o u.0) (h.right P E F rest w u.1 u.2 i),
+        λ i. outcome_as _ _ (count_beside M P Δ E F o u.0 w.first.fits w.second.fits) (λ j. path_beside M P.edition.width Δ E F k o u.0) (h.right P E F rest w u.1 u.2 i),
       )))
 
 -- ── a guard ──
@@ -206,7 +206,7 @@ module _ (t M u : List ℕ) (c : ℕ) (judged : Judged t M c) (isu : u ≡ last_
       let b = truth_some (holding M C) (λ e. o (holds t M u c judged isu P C E rest s ∙ e)) in
       let v = guarded_here t M u c judged isu P C E rest s in (
         λ x y. h.has_room P E rest v w (omega (arith, x)) (rw (room_guard (holding M) C E b) at y),
-        λ z. outcome_as _ _ (count_guard M C E b) (λ y. path_guard M C E k) (h.right P E rest v w z),
+        λ z. outcome_as _ _ (count_guard M C E b) (λ y. path_guard M P.edition.width C E k) (h.right P E rest v w z),
       )))
 
 -- ── the code in front ──

@@ -81,76 +81,77 @@ module _ (M : List ℕ) where
     count_codes (Parallel Δ E F),
   )
 
-  -- ── paths ──
+  module _ (width : ℕ) where
+    -- ── paths ──
 
-  pub path_after_done : (E F : Term) (k : ℕ) → done? E ≡ true → path 0 g F k ≡ path 0 g (Sequence E F) k
-  unfolding path
-  path_after_done E F k h = ap (λ b. cond b (path 0 g F k) (path 0 g E k)) (sym h)
-
-  pub path_sequence : (E F : Term) (k : ℕ) → done? E ≡ false → path 0 g E k ≡ path 0 g (Sequence E F) k
-  unfolding path
-  path_sequence E F k h = ap (λ b. cond b (path 0 g F k) (path 0 g E k)) (sym h)
-
-  -- c is the decision for the first of two operands
-  abbrev turn : ℕ → Term → Term → ℕ → List ℕ
-  turn c E F k = path_in_turn c (size 1 E) (move_count M E) (path 0 g E) (path 0 g F) k
-
-  -- below no mask every move shows
-  all_shown : (E : Term) → move_count M E ≡ length (shown 0 g E)
-  all_shown E = ap length (sym (shown_all g E))
-
-  pub path_choice : (E F : Term) (k : ℕ) → turn 0 E F k ≡ path 0 g (Choice E F) k
-  unfolding path
-  path_choice E F k = ap (λ m. path_in_turn 0 (size 1 E) m (path 0 g E) (path 0 g F) k) (all_shown E)
-
-  pub path_end : (E : Term) (k : ℕ) → k ≡ 0 → 0 ∷ [] ≡ path 0 g (Star E) k
-  unfolding path
-  path_end E k e = ap (λ b. pick b (0 ∷ []) (1 ∷ path 0 g E (k - 1))) (sym (eq-eqb k 0 e))
-
-  pub path_round : (E : Term) (k : ℕ) → (k ≡ 0 → ⊥) → 1 ∷ path 0 g E (k - 1) ≡ path 0 g (Star E) k
-  unfolding path
-  path_round E k e = ap (λ b. pick b (0 ∷ []) (1 ∷ path 0 g E (k - 1))) (sym (ne_eqb k 0 e))
-
-  pub path_guard : (C : Cond) (E : Term) (k : ℕ) → path 0 g E k ≡ path 0 g (Guard C E) k
-  unfolding path
-  path_guard C E k = refl
-
-  pub path_internal : (k : ℕ) → [] ≡ path 0 g Internal k
-  unfolding path
-  path_internal k = refl
-
-  pub path_perform : (a : VisibleAction) (k : ℕ) → [] ≡ path 0 g (Perform a) k
-  unfolding path
-  path_perform a k = refl
-
-  pub two_first : (E F : Term) (c k : ℕ) → k < move_count M E → c ∷ path 0 g E k ≡ turn c E F k
-  two_first E F c k h = ap (λ b. pick b (c ∷ path 0 g E k) ((c + 1) ∷ size 1 E ∷ path 0 g F (k - move_count M E))) (sym (lt-ltb k (move_count M E) h))
-
-  pub two_second : (E F : Term) (c k : ℕ) → move_count M E ≤ k → (c + 1) ∷ size 1 E ∷ path 0 g F (k - move_count M E) ≡ turn c E F k
-  two_second E F c k h = ap (λ b. pick b (c ∷ path 0 g E k) ((c + 1) ∷ size 1 E ∷ path 0 g F (k - move_count M E))) (sym (le-ltb k (move_count M E) h))
-
-  -- ── a parallel ──
-
-  module _ (Δ : Mask) (E F : Term) (k : ℕ) where
-    abbrev shown_turn : List ℕ
-    shown_turn = path_in_turn 1 (size 1 E) (length (shown 0 g E)) (path 0 g E) (path 0 g F) k
-
-    -- where a label is in the mask
-    abbrev masked : List ℕ
-    masked =
-        cond (idle E) (2 ∷ size 1 E ∷ path (bit_or 0 (mask_set Δ)) g F k)
-        (cond (idle F) (1 ∷ path (bit_or 0 (mask_set Δ)) g E k)
-        (path_by (size 1 E) (path 0 g E) (path 0 g F) (locate (alone 0 (mask_set Δ)) (paired 0 (mask_set Δ)) (numbers g E) (numbers g F) k)))
-
-    opened : path 0 g (Parallel Δ E F) k ≡ cond (done? E && done? F) (0 ∷ []) (cond (has_all 0 (mask_set Δ)) shown_turn masked)
+    pub path_after_done : (E F : Term) (k : ℕ) → done? E ≡ true → path width 0 g F k ≡ path width 0 g (Sequence E F) k
     unfolding path
-    opened = refl
+    path_after_done E F k h = ap (λ b. cond b (path width 0 g F k) (path width 0 g E k)) (sym h)
 
-    pub path_both_done : (done? E && done? F) ≡ true → 0 ∷ [] ≡ path 0 g (Parallel Δ E F) k
-    path_both_done h = sym (opened ∙ ap (λ b. cond b (0 ∷ []) (cond (has_all 0 (mask_set Δ)) shown_turn masked)) h)
+    pub path_sequence : (E F : Term) (k : ℕ) → done? E ≡ false → path width 0 g E k ≡ path width 0 g (Sequence E F) k
+    unfolding path
+    path_sequence E F k h = ap (λ b. cond b (path width 0 g F k) (path width 0 g E k)) (sym h)
 
-    pub path_beside : (done? E && done? F) ≡ false → zero_mask Δ ≡ true → turn 1 E F k ≡ path 0 g (Parallel Δ E F) k
-    path_beside h z =
-        let a : has_all 0 (mask_set Δ) ≡ true = eq-eqb (bit_or 0 (mask_set Δ)) 0 (zero_within 0 Δ z) in
-        ap (λ m. path_in_turn 1 (size 1 E) m (path 0 g E) (path 0 g F) k) (all_shown E)
-        ∙ sym (opened ∙ ap (λ b. cond b (0 ∷ []) (cond (has_all 0 (mask_set Δ)) shown_turn masked)) h ∙ ap (λ b. cond b shown_turn masked) a)
+    -- c is the decision for the first of two operands
+    abbrev turn : ℕ → Term → Term → ℕ → List ℕ
+    turn c E F k = path_in_turn c (size width E) (move_count M E) (path width 0 g E) (path width 0 g F) k
+
+    -- below no mask every move shows
+    all_shown : (E : Term) → move_count M E ≡ length (shown 0 g E)
+    all_shown E = ap length (sym (shown_all g E))
+
+    pub path_choice : (E F : Term) (k : ℕ) → turn 0 E F k ≡ path width 0 g (Choice E F) k
+    unfolding path
+    path_choice E F k = ap (λ m. path_in_turn 0 (size width E) m (path width 0 g E) (path width 0 g F) k) (all_shown E)
+
+    pub path_end : (E : Term) (k : ℕ) → k ≡ 0 → 0 ∷ [] ≡ path width 0 g (Star E) k
+    unfolding path
+    path_end E k e = ap (λ b. pick b (0 ∷ []) (1 ∷ path width 0 g E (k - 1))) (sym (eq-eqb k 0 e))
+
+    pub path_round : (E : Term) (k : ℕ) → (k ≡ 0 → ⊥) → 1 ∷ path width 0 g E (k - 1) ≡ path width 0 g (Star E) k
+    unfolding path
+    path_round E k e = ap (λ b. pick b (0 ∷ []) (1 ∷ path width 0 g E (k - 1))) (sym (ne_eqb k 0 e))
+
+    pub path_guard : (C : Cond) (E : Term) (k : ℕ) → path width 0 g E k ≡ path width 0 g (Guard C E) k
+    unfolding path
+    path_guard C E k = refl
+
+    pub path_internal : (k : ℕ) → [] ≡ path width 0 g Internal k
+    unfolding path
+    path_internal k = refl
+
+    pub path_perform : (a : VisibleAction) (k : ℕ) → [] ≡ path width 0 g (Perform a) k
+    unfolding path
+    path_perform a k = refl
+
+    pub two_first : (E F : Term) (c k : ℕ) → k < move_count M E → c ∷ path width 0 g E k ≡ turn c E F k
+    two_first E F c k h = ap (λ b. pick b (c ∷ path width 0 g E k) ((c + 1) ∷ size width E ∷ path width 0 g F (k - move_count M E))) (sym (lt-ltb k (move_count M E) h))
+
+    pub two_second : (E F : Term) (c k : ℕ) → move_count M E ≤ k → (c + 1) ∷ size width E ∷ path width 0 g F (k - move_count M E) ≡ turn c E F k
+    two_second E F c k h = ap (λ b. pick b (c ∷ path width 0 g E k) ((c + 1) ∷ size width E ∷ path width 0 g F (k - move_count M E))) (sym (le-ltb k (move_count M E) h))
+
+    -- ── a parallel ──
+
+    module _ (Δ : Mask) (E F : Term) (k : ℕ) where
+      abbrev shown_turn : List ℕ
+      shown_turn = path_in_turn 1 (size width E) (length (shown 0 g E)) (path width 0 g E) (path width 0 g F) k
+
+      -- where a label is in the mask
+      abbrev masked : List ℕ
+      masked =
+          cond (idle E) (2 ∷ size width E ∷ path width (bit_or 0 (mask_set Δ)) g F k)
+          (cond (idle F) (1 ∷ path width (bit_or 0 (mask_set Δ)) g E k)
+          (path_by (size width E) (path width 0 g E) (path width 0 g F) (locate (alone 0 (mask_set Δ)) (paired 0 (mask_set Δ)) (numbers g E) (numbers g F) k)))
+
+      opened : path width 0 g (Parallel Δ E F) k ≡ cond (done? E && done? F) (0 ∷ []) (cond (has_all 0 (mask_set Δ)) shown_turn masked)
+      unfolding path
+      opened = refl
+
+      pub path_both_done : (done? E && done? F) ≡ true → 0 ∷ [] ≡ path width 0 g (Parallel Δ E F) k
+      path_both_done h = sym (opened ∙ ap (λ b. cond b (0 ∷ []) (cond (has_all 0 (mask_set Δ)) shown_turn masked)) h)
+
+      pub path_beside : (done? E && done? F) ≡ false → zero_mask Δ ≡ true → turn 1 E F k ≡ path width 0 g (Parallel Δ E F) k
+      path_beside h z =
+          let a : has_all 0 (mask_set Δ) ≡ true = eq-eqb (bit_or 0 (mask_set Δ)) 0 (zero_within 0 Δ z) in
+          ap (λ m. path_in_turn 1 (size width E) m (path width 0 g E) (path width 0 g F) k) (all_shown E)
+          ∙ sym (opened ∙ ap (λ b. cond b (0 ∷ []) (cond (has_all 0 (mask_set Δ)) shown_turn masked)) h ∙ ap (λ b. cond b shown_turn masked) a)

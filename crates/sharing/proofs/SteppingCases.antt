@@ -82,14 +82,14 @@ module _ (u d : List ℕ) (n : ℕ) (M s : List ℕ) (k numbers : ℕ) (entry ex
     here_words : slice (n - r % 65536) n d ≡ shared_words place.here ++ place.after
     here_words = ap (λ i. slice i n d) front_is ∙ ap (drop (length place.before)) all_words ∙ drop-append_seam place.before (shared_words place.here ++ place.after)
 
-    module _ {p mid d' mid' : List ℕ} {z : ℕ} (isp : p ≡ drop (r / 65536) exit) (c : Changed u d n (n - r % 65536) p mid d' mid' z) (space : size 1 x.successor ≤ length d) (room : size 1 x.successor ≤ length mid) where
+    module _ {p mid d' mid' : List ℕ} {z : ℕ} (isp : p ≡ drop (r / 65536) exit) (c : Changed u d n (n - r % 65536) p mid d' mid' z) (space : size P.edition.width x.successor ≤ length d) (room : size P.edition.width x.successor ≤ length mid) where
       step_right : StepTaken u P x d' z
       step_right =
           let h = moves_here place.moving in
           let q : drop right.q exit ≡ p = ap (λ i. drop i exit) (sym path_is) ∙ sym isp in
           let t : Changes u P p place.here h.made.action h.made.successor = subst (λ l. Changes u P l place.here h.made.action h.made.successor) q h.changes in
-          let g : RoomFor h.made.successor (n - r % 65536) (length place.after) (length d) (length mid) =
-          subst (λ i. RoomFor h.made.successor i (length place.after) (length d) (length mid)) (sym front_is) (place_room place x e space room) in
+          let g : RoomFor P.edition.width h.made.successor (n - r % 65536) (length place.after) (length d) (length mid) =
+          subst (λ i. RoomFor P.edition.width h.made.successor i (length place.after) (length d) (length mid)) (sym front_is) (place_room place x e space room) in
           place_taken place x e (subst (λ l. ChangedRight u P h.made.action h.made.successor l place.after d' z) front_words (c.right P place.here place.after h.made.action h.made.successor here_words t g))
 
   -- ── the ways of returning ──

@@ -35,12 +35,12 @@ pub record MovesHere (u : List ℕ) (P : Scope) (M p : List ℕ) (here : Shared)
   pub entry : get_elem? (moves (holding M) (term_of here)) j ≡ some made
   pub changes : Changes u P p here made.action made.successor
 
-leads : {u : List ℕ} {P : Scope} {p : List ℕ} (M : List ℕ) (l : ℕ) (E : Term) (j : ℕ) → PartAt u P l E → p ≡ path 0 (holding M) E j → (x : Move) → get_elem? (moves (holding M) E) j ≡ some x
-    → (follow E p ≡ followed x.action x.successor []) × (marked E p ≡ true)
+leads : {u : List ℕ} {P : Scope} {p : List ℕ} (M : List ℕ) (l : ℕ) (E : Term) (j : ℕ) → PartAt u P l E → p ≡ path P.edition.width 0 (holding M) E j → (x : Move) → get_elem? (moves (holding M) E) j ≡ some x
+    → (follow E p ≡ followed x.action x.successor []) × (marked P.edition.width E p ≡ true)
 leads {u} {P} {p} M l E j a q x e =
-    let t : p ≡ path 0 (holding M) E j ++ [] = q ∙ sym (append-nil (path 0 (holding M) E j)) in
-    let h = follow_path (holding M) E (small_actions P E a.there.fits) j x e [] in
-    (ap (follow E) t ∙ h.0, ap (marked E) t ∙ h.1)
+    let t : p ≡ path P.edition.width 0 (holding M) E j ++ [] = q ∙ sym (append-nil (path P.edition.width 0 (holding M) E j)) in
+    let h = follow_path P.edition.width (holding M) E (small_actions P E a.there.fits) j x e [] in
+    (ap (follow E) t ∙ h.0, ap (marked P.edition.width E) t ∙ h.1)
 
 module _ {u : List ℕ} {P : Scope} {M p : List ℕ} where
   pub moves_here : {here : Shared} {j : ℕ} → Moving u P M p here j → MovesHere u P M p here j
@@ -78,15 +78,15 @@ module _ {u : List ℕ} {P : Scope} {M p : List ℕ} {S : Shared} {k : ℕ} (a :
   around_length : (X : Shared) → length (shared_words (a.around X)) ≡ length a.before + (length (shared_words X) + length a.after)
   around_length X = omega (arith, ap length (a.words_around X), length-append a.before (shared_words X ++ a.after), length-append (shared_words X) a.after)
 
-  around_short : (X : Shared) → term_of X ≡ made_here.made.successor → length a.before + (length (shared_words X) + length a.after) ≤ size 1 x.successor
-  around_short X h = omega (arith, around_length X, shared_short (a.around X), ap (size 1) (same_successor X h))
+  around_short : (X : Shared) → term_of X ≡ made_here.made.successor → length a.before + (length (shared_words X) + length a.after) ≤ size P.edition.width x.successor
+  around_short X h = omega (arith, around_length X, shared_short P.edition.width (a.around X), ap (size P.edition.width) (same_successor X h))
 
-  pub place_room : {space room : ℕ} → size 1 x.successor ≤ space → size 1 x.successor ≤ room → RoomFor made_here.made.successor (length a.before) (length a.after) space room
+  pub place_room : {space room : ℕ} → size P.edition.width x.successor ≤ space → size P.edition.width x.successor ≤ room → RoomFor P.edition.width made_here.made.successor (length a.before) (length a.after) space room
   unfolding term_of
   place_room f g =
       let Y : Shared = Part 0 made_here.made.successor in
       record {
-        spelled = omega (arith, a.size_around Y, ap (size 1) (same_successor Y refl));
+        spelled = omega (arith, a.size_around Y, ap (size P.edition.width) (same_successor Y refl));
         moved = λ X h. omega (arith, around_short X h);
         whole = λ X h. omega (arith, around_short X h);
       }

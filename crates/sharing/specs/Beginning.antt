@@ -31,8 +31,8 @@ pub record BeganRight (u : List ℕ) (P : Scope) (f : Followed) (at : ℕ) (entr
 pub record Beginning (s p : List ℕ) (at : ℕ) (entry exit : List ℕ) (r : ℕ) : Type 0 where
   pub same_length : length exit ≡ length entry
   pub bounded : r < 4503599627370496
-  pub right : (u : List ℕ) (P : Scope) (E : Term) (rest : List ℕ) → length u ≤ 65503 → length s ≤ length u → s ≡ last_of (length s) u → TermAt s P E rest → Unmasked E → marked E p ≡ true
-      → length p ≤ 65535 → at + size 1 (follow E p).successor ≤ length entry → BeganRight u P (follow E p) at entry exit r
+  pub right : (u : List ℕ) (P : Scope) (E : Term) (rest : List ℕ) → length u ≤ 65503 → length s ≤ length u → s ≡ last_of (length s) u → TermAt s P E rest → Unmasked E → marked P.edition.width E p ≡ true
+      → length p ≤ 65535 → at + size P.edition.width (follow E p).successor ≤ length entry → BeganRight u P (follow E p) at entry exit r
 
 -- ── its parts ──
 
@@ -62,13 +62,13 @@ pub record LeftBegun (e p : List ℕ) (at : ℕ) (entry exit : List ℕ) (r : �
   pub same_length : length exit ≡ length entry
   pub bounded : r < 4503599627370496
   pub right : (u : List ℕ) (P : Scope) (E F : Term) (rest : List ℕ) → length u ≤ 65503 → length e ≤ length u → e ≡ last_of (length e) u → TwoAt e P E F rest → Unmasked E → Unmasked F
-      → marked E p ≡ true → length p ≤ 65535 → at + size 1 (follow E p).successor + 1 ≤ length entry
+      → marked P.edition.width E p ≡ true → length p ≤ 65535 → at + size P.edition.width (follow E p).successor + 1 ≤ length entry
       → TwoRight u P (follow E p).successor F (follow E p).action (follow E p).rest at entry exit r
 
 -- Both move; the right one stands behind n words.
 pub record BothBegun (e : List ℕ) (n : ℕ) (p : List ℕ) (at : ℕ) (entry exit : List ℕ) (r : ℕ) : Type 0 where
   pub same_length : length exit ≡ length entry
   pub bounded : r < 4503599627370496
-  pub right : (u : List ℕ) (P : Scope) (E F : Term) (rest : List ℕ) → length u ≤ 65503 → length e ≤ length u → e ≡ last_of (length e) u → TwoAt e P E F rest → n ≡ size 1 E → Unmasked E → Unmasked F
-      → marked E p ≡ true → marked F (follow E p).rest ≡ true → length p ≤ 65535 → at + (size 1 (follow E p).successor + size 1 (follow F (follow E p).rest).successor) ≤ length entry
+  pub right : (u : List ℕ) (P : Scope) (E F : Term) (rest : List ℕ) → length u ≤ 65503 → length e ≤ length u → e ≡ last_of (length e) u → TwoAt e P E F rest → n ≡ size P.edition.width E → Unmasked E → Unmasked F
+      → marked P.edition.width E p ≡ true → marked P.edition.width F (follow E p).rest ≡ true → length p ≤ 65535 → at + (size P.edition.width (follow E p).successor + size P.edition.width (follow F (follow E p).rest).successor) ≤ length entry
       → TwoRight u P (follow E p).successor (follow F (follow E p).rest).successor (follow E p).action (follow F (follow E p).rest).rest at entry exit r

@@ -18,13 +18,13 @@ told (Some x) = x.words + 65536 * x.action
 
 -- What stands at the place performs ρ along the path p, which ends there, and is T then: a part of the unfolding, alone or behind done; or done and done in parallel.
 pub data Changes (u : List ℕ) (P : Scope) (p : List ℕ) (here : Shared) (ρ : Action) (T : Term) : Type 0 where
-  part : (l : ℕ) (E : Term) → here ≡ Part l E → PartAt u P l E → follow E p ≡ followed ρ T [] → marked E p ≡ true → Changes u P p here ρ T
-  resumed : (l : ℕ) (E : Term) → here ≡ Then Ended l E → PartAt u P l E → follow E p ≡ followed ρ T [] → marked E p ≡ true → Changes u P p here ρ T
+  part : (l : ℕ) (E : Term) → here ≡ Part l E → PartAt u P l E → follow E p ≡ followed ρ T [] → marked P.edition.width E p ≡ true → Changes u P p here ρ T
+  resumed : (l : ℕ) (E : Term) → here ≡ Then Ended l E → PartAt u P l E → follow E p ≡ followed ρ T [] → marked P.edition.width E p ≡ true → Changes u P p here ρ T
   joined : here ≡ Beside Ended Ended → ρ ≡ internal → T ≡ Done → Changes u P p here ρ T
 
 -- T spelled out has room in an array of `room` words; so has every form in which it is shared, with the words behind it; and all of them have room in `space` words.
-pub record RoomFor (T : Term) (front behind space room : ℕ) : Type 0 where
-  pub spelled : size 1 T ≤ room
+pub record RoomFor (width : ℕ) (T : Term) (front behind space room : ℕ) : Type 0 where
+  pub spelled : size width T ≤ room
   pub moved : (X : Shared) → term_of X ≡ T → length (shared_words X) + behind ≤ room
   pub whole : (X : Shared) → term_of X ≡ T → front + (length (shared_words X) + behind) ≤ space
 
@@ -42,17 +42,17 @@ pub record Changed (u d : List ℕ) (n i : ℕ) (p mid d' mid' : List ℕ) (r : 
   pub same_length : length d' ≡ length d
   pub mid_same_length : length mid' ≡ length mid
   pub right : (P : Scope) (here : Shared) (after : List ℕ) (ρ : Action) (T : Term) → slice i n d ≡ shared_words here ++ after → Changes u P p here ρ T
-      → RoomFor T i (length after) (length d) (length mid) → ChangedRight u P ρ T (take i d) after d' r
+      → RoomFor P.edition.width T i (length after) (length d) (length mid) → ChangedRight u P ρ T (take i d) after d' r
 
 -- Of a parallel of done and done.
 pub record Joined (d : List ℕ) (n i : ℕ) (mid d' mid' : List ℕ) (r : ℕ) : Type 0 where
   pub same_length : length d' ≡ length d
   pub mid_same_length : length mid' ≡ length mid
-  pub right : (u : List ℕ) (P : Scope) → i + 3 ≤ n → RoomFor Done i (n - (i + 3)) (length d) (length mid) → ChangedRight u P internal Done (take i d) (slice (i + 3) n d) d' r
+  pub right : (u : List ℕ) (P : Scope) → i + 3 ≤ n → RoomFor P.edition.width Done i (n - (i + 3)) (length d) (length mid) → ChangedRight u P internal Done (take i d) (slice (i + 3) n d) d' r
 
 -- Of the part with the word w, in the place of the words from i to e.
 pub record PartChanged (u d : List ℕ) (n i e w : ℕ) (p mid d' mid' : List ℕ) (r : ℕ) : Type 0 where
   pub same_length : length d' ≡ length d
   pub mid_same_length : length mid' ≡ length mid
-  pub right : (P : Scope) (l : ℕ) (E : Term) (ρ : Action) (T : Term) → w ≡ part_word l → PartAt u P l E → follow E p ≡ followed ρ T [] → marked E p ≡ true
-      → RoomFor T i (n - e) (length d) (length mid) → ChangedRight u P ρ T (take i d) (slice e n d) d' r
+  pub right : (P : Scope) (l : ℕ) (E : Term) (ρ : Action) (T : Term) → w ≡ part_word l → PartAt u P l E → follow E p ≡ followed ρ T [] → marked P.edition.width E p ≡ true
+      → RoomFor P.edition.width T i (n - e) (length d) (length mid) → ChangedRight u P ρ T (take i d) (slice e n d) d' r

@@ -16,8 +16,8 @@ use Rattle.sharing.specs.Shared.{Shared, Ended, Part, Then, Beside, term_of, par
 
 -- What moves: move j of a term that stands in the unfolding, whose path is p, where it stands alone or behind done; or a parallel of done and done.
 pub data Moving (u : List ℕ) (P : Scope) (M : List ℕ) (p : List ℕ) (here : Shared) (j : ℕ) : Type 0 where
-  part : (l : ℕ) (E : Term) → here ≡ Part l E → PartAt u P l E → j < move_count M E → p ≡ path 0 (holding M) E j → Moving u P M p here j
-  resumed : (l : ℕ) (E : Term) → here ≡ Then Ended l E → PartAt u P l E → j < move_count M E → p ≡ path 0 (holding M) E j → Moving u P M p here j
+  part : (l : ℕ) (E : Term) → here ≡ Part l E → PartAt u P l E → j < move_count M E → p ≡ path P.edition.width 0 (holding M) E j → Moving u P M p here j
+  resumed : (l : ℕ) (E : Term) → here ≡ Then Ended l E → PartAt u P l E → j < move_count M E → p ≡ path P.edition.width 0 (holding M) E j → Moving u P M p here j
   joined : here ≡ Beside Ended Ended → j ≡ 0 → Moving u P M p here j
 
 -- Move k of S is move j of what stands at a place of it, with the words `before` in front and `after` behind.
@@ -31,7 +31,7 @@ pub record Place (u : List ℕ) (P : Scope) (M : List ℕ) (p : List ℕ) (S : S
   pub words_here : shared_words S ≡ before ++ (shared_words here ++ after)
   pub words_around : (X : Shared) → shared_words (around X) ≡ before ++ (shared_words X ++ after)
   pub stands_around : (X : Shared) → Stands u P X → Stands u P (around X)
-  pub size_around : (X : Shared) → size 1 (term_of X) ≤ size 1 (term_of (around X))
+  pub size_around : (X : Shared) → size P.edition.width (term_of X) ≤ size P.edition.width (term_of (around X))
   pub move_here : (X : Shared) (x : Move) → get_elem? (moves (holding M) (term_of here)) j ≡ some x → x.successor ≡ term_of X
       → get_elem? (moves (holding M) (term_of S)) k ≡ some (move x.action (term_of (around X)))
 
@@ -59,6 +59,6 @@ pub record PartFound (u : List ℕ) (w here left : ℕ) (M : List ℕ) (k : ℕ)
   pub place_bounded : r < passed → r ≤ answer here (length entry)
   pub passed_bounded : passed ≤ r → r < full → r ≤ passed + answer left k
   pub found : (P : Scope) (l : ℕ) (E : Term) → w ≡ part_word l → PartAt u P l E → length u ≤ length entry → length u ≤ n → k < move_count M E
-      → (q : ℕ) × (r ≡ answer here q) × (r < passed) × (drop q exit ≡ path 0 (holding M) E k)
+      → (q : ℕ) × (r ≡ answer here q) × (r < passed) × (drop q exit ≡ path P.edition.width 0 (holding M) E k)
   pub none_found : (P : Scope) (l : ℕ) (E : Term) → w ≡ part_word l → PartAt u P l E → length u ≤ length entry → length u ≤ n → move_count M E ≤ k
       → r ≡ passed + answer left (k - move_count M E)

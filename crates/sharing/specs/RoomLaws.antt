@@ -19,33 +19,33 @@ sides_below : (z : Bool) (l r m n : ℕ) → z ≡ true → l ≤ m → r ≤ n 
 unfolding parallel_breadth
 sides_below z l r m n e h k = subst (λ b. parallel_breadth b l r ≤ 5 + m + n) (sym e) (omega arith)
 
-pub unmasked_breadth : (E : Term) → Unmasked E → breadth E ≤ size 1 E
+pub unmasked_breadth : (width : ℕ) (E : Term) → Unmasked E → breadth E ≤ size width E
 unfolding breadth size
-unmasked_breadth Done u = omega arith
-unmasked_breadth Internal u = omega arith
-unmasked_breadth (Perform a) u = omega arith
-unmasked_breadth (Sequence E F) u = omega (arith, unmasked_breadth E u.0, unmasked_breadth F u.1)
-unmasked_breadth (Choice E F) u = omega (arith, unmasked_breadth E u.0, unmasked_breadth F u.1)
-unmasked_breadth (Star E) u = omega (arith, unmasked_breadth E u)
-unmasked_breadth (Parallel Δ E F) u = sides_below (zero_mask Δ) (breadth E) (breadth F) (size 1 E) (size 1 F) u.0 (unmasked_breadth E u.1) (unmasked_breadth F u.2)
-unmasked_breadth (Guard C E) u = omega (arith, unmasked_breadth E u)
+unmasked_breadth width Done u = omega arith
+unmasked_breadth width Internal u = omega arith
+unmasked_breadth width (Perform a) u = omega arith
+unmasked_breadth width (Sequence E F) u = omega (arith, unmasked_breadth width E u.0, unmasked_breadth width F u.1)
+unmasked_breadth width (Choice E F) u = omega (arith, unmasked_breadth width E u.0, unmasked_breadth width F u.1)
+unmasked_breadth width (Star E) u = omega (arith, unmasked_breadth width E u)
+unmasked_breadth width (Parallel Δ E F) u = sides_below (zero_mask Δ) (breadth E) (breadth F) (size width E) (size width F) u.0 (unmasked_breadth width E u.1) (unmasked_breadth width F u.2)
+unmasked_breadth width (Guard C E) u = omega (arith, unmasked_breadth width E u)
 
-pub unmasked_count : (g : Cond → Bool) (E : Term) → Unmasked E → length (moves g E) ≤ size 1 E
-unmasked_count g E u = omega (arith, moves_below_breadth g E, unmasked_breadth E u)
+pub unmasked_count : (width : ℕ) (g : Cond → Bool) (E : Term) → Unmasked E → length (moves g E) ≤ size width E
+unmasked_count width g E u = omega (arith, moves_below_breadth g E, unmasked_breadth width E u)
 
 -- ── room ──
 
-module _ (g : Cond → Bool) where
-  codes_below : (E : Term) → Unmasked E → length (codes g E) ≤ size 1 E
+module _ (width : ℕ) (g : Cond → Bool) where
+  codes_below : (E : Term) → Unmasked E → length (codes g E) ≤ size width E
   unfolding codes
-  codes_below E u = omega (arith, length-map (moves g E) code_of, unmasked_count g E u)
+  codes_below E u = omega (arith, length-map (moves g E) code_of, unmasked_count width g E u)
 
   -- without a mask one side's list stands behind the other's
   beside_below : (d z : Bool) (l r c m n q : ℕ) → z ≡ true → l ≤ m → r ≤ n → c ≤ m → cond d 1 (cond z (max l (c + r)) q) ≤ 5 + m + n
   beside_below d z l r c m n q e h k b =
       subst (λ x. cond d 1 (cond x (max l (c + r)) q) ≤ 5 + m + n) (sym e) (either_below (5 + m + n) d 1 (max l (c + r)) (omega arith) (omega arith))
 
-  pub unmasked_room : (E : Term) → Unmasked E → room g E ≤ size 1 E
+  pub unmasked_room : (E : Term) → Unmasked E → room g E ≤ size width E
   unfolding room size
   unmasked_room Done u = omega arith
   unmasked_room Internal u = omega arith
@@ -54,6 +54,6 @@ module _ (g : Cond → Bool) where
   unmasked_room (Choice E F) u = omega (arith, unmasked_room E u.0, unmasked_room F u.1, codes_below E u.0)
   unmasked_room (Star E) u = omega (arith, unmasked_room E u)
   unmasked_room (Parallel Δ E F) u =
-      beside_below (done? E && done? F) (zero_mask Δ) (room g E) (room g F) (length (codes g E)) (size 1 E) (size 1 F) _ u.0 (unmasked_room E u.1) (unmasked_room F u.2)
+      beside_below (done? E && done? F) (zero_mask Δ) (room g E) (room g F) (length (codes g E)) (size width E) (size width F) _ u.0 (unmasked_room E u.1) (unmasked_room F u.2)
       (codes_below E u.1)
   unmasked_room (Guard C E) u = either_below _ (g C) (room g E) 0 (omega (arith, unmasked_room E u)) (omega arith)

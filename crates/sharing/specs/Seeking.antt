@@ -26,13 +26,13 @@ pub record Outcome (count : ℕ) (p : List ℕ) (k : ℕ) (exit : List ℕ) (r :
 pub record Sought (s M : List ℕ) (k : ℕ) (entry exit : List ℕ) (n r : ℕ) : Type 0 where
   pub same_length : length exit ≡ length entry
   pub bounds : Bounded k (length entry) r
-  pub has_room : (P : Scope) (E : Term) (rest : List ℕ) → TermAt s P E rest → Unmasked E → size 1 E ≤ length entry → room (holding M) E ≤ n → r < full
-  pub right : (P : Scope) (E : Term) (rest : List ℕ) → TermAt s P E rest → Unmasked E → r < full → Outcome (move_count M E) (path 0 (holding M) E k) k exit r
+  pub has_room : (P : Scope) (E : Term) (rest : List ℕ) → TermAt s P E rest → Unmasked E → size P.edition.width E ≤ length entry → room (holding M) E ≤ n → r < full
+  pub right : (P : Scope) (E : Term) (rest : List ℕ) → TermAt s P E rest → Unmasked E → r < full → Outcome (move_count M E) (path P.edition.width 0 (holding M) E k) k exit r
 
 -- Two operands, the second's moves behind the first's; c is the decision for the first.
 pub record TwoSought (c : ℕ) (t M : List ℕ) (k : ℕ) (entry exit : List ℕ) (n r : ℕ) : Type 0 where
   pub same_length : length exit ≡ length entry
   pub bounds : Bounded k (length entry) r
-  pub has_room : (P : Scope) (E F : Term) (rest : List ℕ) → TwoAt t P E F rest → Unmasked E → Unmasked F → 1 + size 1 E + size 1 F ≤ length entry → room (holding M) E ≤ n → room (holding M) F ≤ n → r < full
+  pub has_room : (P : Scope) (E F : Term) (rest : List ℕ) → TwoAt t P E F rest → Unmasked E → Unmasked F → 1 + size P.edition.width E + size P.edition.width F ≤ length entry → room (holding M) E ≤ n → room (holding M) F ≤ n → r < full
   pub right : (P : Scope) (E F : Term) (rest : List ℕ) → TwoAt t P E F rest → Unmasked E → Unmasked F → r < full
-      → Outcome (move_count M E + move_count M F) (path_in_turn c (size 1 E) (move_count M E) (path 0 (holding M) E) (path 0 (holding M) F) k) k exit r
+      → Outcome (move_count M E + move_count M F) (path_in_turn c (size P.edition.width E) (move_count M E) (path P.edition.width 0 (holding M) E) (path P.edition.width 0 (holding M) F) k) k exit r

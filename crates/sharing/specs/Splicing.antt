@@ -19,14 +19,14 @@ pub record Spliced (d mid : List ℕ) (n i e k : ℕ) (d' mid' : List ℕ) (r : 
 -- The term of s, behind which rest stands, spelled out from `at` on: the words left behind it, and 65,536 times the words written.
 pub record Expanded (s u : List ℕ) (at : ℕ) (entry exit : List ℕ) (r : ℕ) : Type 0 where
   pub same_length : length exit ≡ length entry
-  pub right : (P : Scope) (S : Shared) (rest : List ℕ) → s ≡ shared_words S ++ rest → Stands u P S → at + length (words 1 (term_of S)) ≤ length entry
-      → (r ≡ answer (length rest) (at + length (words 1 (term_of S)))) × (exit ≡ put_at at (words 1 (term_of S)) entry)
+  pub right : (P : Scope) (S : Shared) (rest : List ℕ) → s ≡ shared_words S ++ rest → Stands u P S → at + length (words P.edition.width (term_of S)) ≤ length entry
+      → (r ≡ answer (length rest) (at + length (words P.edition.width (term_of S)))) × (exit ≡ put_at at (words P.edition.width (term_of S)) entry)
 
 -- A part with the word w, behind which so many words are left.
 pub record PartExpanded (u : List ℕ) (w left at : ℕ) (entry exit : List ℕ) (r : ℕ) : Type 0 where
   pub same_length : length exit ≡ length entry
-  pub right : (P : Scope) (l : ℕ) (E : Term) → w ≡ part_word l → PartAt u P l E → at + length (words 1 E) ≤ length entry
-      → (r ≡ answer left (at + length (words 1 E))) × (exit ≡ put_at at (words 1 E) entry)
+  pub right : (P : Scope) (l : ℕ) (E : Term) → w ≡ part_word l → PartAt u P l E → at + length (words P.edition.width E) ≤ length entry
+      → (r ≡ answer left (at + length (words P.edition.width E))) × (exit ≡ put_at at (words P.edition.width E) entry)
 
 pub record DoneExpanded (left at : ℕ) (entry exit : List ℕ) (r : ℕ) : Type 0 where
   pub same_length : length exit ≡ length entry

@@ -23,6 +23,6 @@ pub record StepTaken (u : List ℕ) (P : Scope) (x : Move) (d' : List ℕ) (r : 
 pub record Stepped (u d : List ℕ) (n : ℕ) (M : List ℕ) (k paths numbers room : ℕ) (d' : List ℕ) (r : ℕ) : Type 0 where
   pub same_length : length d' ≡ length d
   pub taken : (P : Scope) (S : Shared) → n ≤ length d → take n d ≡ shared_words S → Stands u P S → length u ≤ paths → length u ≤ numbers
-      → (x : Move) → get_elem? (moves (holding M) (term_of S)) k ≡ some x → size 1 x.successor ≤ length d → size 1 x.successor ≤ room → StepTaken u P x d' r
+      → (x : Move) → get_elem? (moves (holding M) (term_of S)) k ≡ some x → size P.edition.width x.successor ≤ length d → size P.edition.width x.successor ≤ room → StepTaken u P x d' r
   pub not_offered : (P : Scope) (S : Shared) → n ≤ length d → take n d ≡ shared_words S → Stands u P S → length u ≤ paths → length u ≤ numbers
       → get_elem? (moves (holding M) (term_of S)) k ≡ none → (passed ≤ r) × (d' ≡ d)
