@@ -111,6 +111,11 @@ module _ (T : List ℕ) where
   unfolding declared
   guard_declared n = λ i. record { edition = (declared T).edition; arity = λ f. arity_one f i; now = functions_declared i; before = 0; variables = n }
 
+-- Tables of one edition: there is no other yet.
+pub same_declared : (T U : List ℕ) → (declared T).edition ≡ (declared U).edition
+unfolding declared
+same_declared T U = refl
+
 -- ── masks ──
 
 pub mask_ends : (k n : ℕ) → Ends (mask_of k n)

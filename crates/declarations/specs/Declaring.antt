@@ -19,8 +19,7 @@ pub record Tables (T : List ℕ) (domains : List ℕ) (labels : List (List ℕ))
 
 -- All that a process after those of R is read by, and its processes' measures.
 pub record Declares (T : List ℕ) (R : RuleSet) : Type 0 where
-  pub same_top : R.edition.top ≡ 65534
-  pub same_width : R.edition.width ≡ 1
+  pub same_edition : R.edition ≡ (declared T).edition
   pub tables : Tables T R.domains R.labels R.functions
   pub same_processes : map (λ (P : Process). P.parameters) (declared T).processes ≡ map (λ (P : Process). P.parameters) R.processes
   pub same_measures : callee T ≡ row_of (sat 65536) R (length R.processes)

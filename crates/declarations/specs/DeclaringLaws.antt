@@ -24,7 +24,7 @@ use Rattle.eb3.proofs.Laws.RuleSets.{get_d_map, functions_counted, domain_is}
 use Rattle.eb3.proofs.Laws.Attributes.{no_domain_beyond}
 use Rattle.eb3.proofs.Laws.Signatures.{Alike, rows_grown}
 use Rattle.arguments.specs.Tables.{row, declared, measure_row, callee}
-use Rattle.arguments.specs.TableLaws.{domains_length, domain_at, labels_length, label_at, guard_declared}
+use Rattle.arguments.specs.TableLaws.{same_declared, domains_length, domain_at, labels_length, label_at, guard_declared}
 use Rattle.declarations.specs.Entering.{put_row, put_rows}
 use Rattle.declarations.specs.Declaring.{Heads, Tables, Declares, entered_process}
 use Rattle.declarations.specs.Regions.{paste_before, paste_inside, row_is, row_kept, domains_kept, heads_kept, tables_kept, callee_at, callee_beyond, count_of_same, row_of_same, same_by_rows}
@@ -145,10 +145,9 @@ functions_entered T ds ls n room domains labels short = heads_kept T (set T 210 
 -- ── no process yet ──
 
 pub processes_start : (T ds : List ℕ) (ls : List (List ℕ)) (fs : List Function) → 212 ≤ length T → get_or T 0 0 ≤ 16 → get_or T 17 0 ≤ 64 → All (λ l. length l ≤ 2) (declared T).labels → Tables T ds ls fs → Declares (set T 211 0) (without_processes edition_1 ds ls fs)
-unfolding table
+unfolding table declared
 processes_start T ds ls fs room domains labels short k = record {
-  same_top = refl;
-  same_width = refl;
+  same_edition = refl;
   tables = tables_kept T (set T 211 0) (omega arith) (length-set T 211 0) domains labels short (λ i b. get_or-set_other T 211 i 0 0 (omega arith)) ds ls fs k;
   same_processes = same_by_rows (set T 211 0) [] none (λ p b. absurd (let z : ⊥ = omega arith in z));
   same_measures = fun_ext λ p. callee_beyond (set T 211 0) p (omega (arith, none));
@@ -269,8 +268,7 @@ pub process_entered : (T : List ℕ) (R : RuleSet) (P : Process) (m : Measure) (
     → All (λ (Q : Process). length Q.parameters ≤ 4) R.processes → length P.parameters ≤ 4 → m ≡ measure_term (sat 65536) R (row_of (sat 65536) R (length R.processes)) P.term
     → Declares (entered_process T (length R.processes) (length P.parameters ∷ P.parameters) m.size m.reach m.breadth left) (with_process R P)
 process_entered T R P m left d room domains labels short few small e = record {
-  same_top = d.same_top;
-  same_width = d.same_width;
+  same_edition = d.same_edition ∙ same_declared T U;
   tables = tables_kept T U (omega arith) (entered_length T p l m left fits room) domains labels short (λ i b. entered_before T p l m left fits room i (omega arith) (omega arith)) R.domains R.labels R.functions d.tables;
   same_processes = same_by_rows U (R.processes ++ (P ∷ [])) (counted ∙ sym more) (λ q b. rows q (ℕ_discrete q p) (omega (arith, more)));
   same_measures = fun_ext λ q. measures q (ℕ_discrete q p) (dec_lt q p) ∙ sym (rows_grown (sat 65536) R P q) ∙ ap (λ n. row_of (sat 65536) (with_process R P) n q) (sym (more ∙ (let z : p + 1 ≡ suc p = omega arith in z)));
@@ -337,10 +335,9 @@ arity_is_one R h f = go (dec_lt f (length R.functions))
 pub declared_alike : (T : List ℕ) (R : RuleSet) → Declares T R → Alike (declared T) R
 unfolding declared
 declared_alike T R d = record {
-  same_top = sym d.same_top;
-  same_width = sym d.same_width;
+  same_edition = sym d.same_edition;
   same_domains = d.tables.heads.same_domains;
   same_labels = d.tables.heads.same_labels;
-  same_guards = λ n. guard_declared T n ∙ (λ i. record { top = sym d.same_top i; arity = λ f. sym (arity_is_one R d.tables.one_parameter f) i; now = (d.tables.same_functions ∙ sym (functions_counted R)) i; before = 0; variables = n });
+  same_guards = λ n. guard_declared T n ∙ (λ i. record { edition = sym d.same_edition i; arity = λ f. sym (arity_is_one R d.tables.one_parameter f) i; now = (d.tables.same_functions ∙ sym (functions_counted R)) i; before = 0; variables = n });
   same_parameters = d.same_processes;
 }

@@ -29,7 +29,7 @@ module _ (T : List ℕ) (R : RuleSet) (d : Declares T R) where
 
   -- and measured so.
   pub term_alike : (E : RuleTerm) → measure_term (sat 65536) (declared T) (callee T) E ≡ measure_term (sat 65536) R (row_of (sat 65536) R (length R.processes)) E
-  term_alike E = measure_alike (sat 65536) (declared T) R alike.same_width alike.same_domains (callee T) E ∙ (λ i. measure_term (sat 65536) R (d.same_measures i) E)
+  term_alike E = measure_alike (sat 65536) (declared T) R alike.same_edition alike.same_domains (callee T) E ∙ (λ i. measure_term (sat 65536) R (d.same_measures i) E)
 
 -- What is at the front of a process that was read: how many parameters, and they.
 pub record Front (hi : ℕ) (t : List ℕ) (P : Process) : Type 0 where

@@ -17,13 +17,13 @@ one_each n f = go (dec_lt f n)
     go (no h) = get_or-eq_default (replicate n 1) 1 (omega (arith, length-replicate {A = ℕ} n 1))
 
 abbrev pub at_start : ℕ → Scope
-at_start i = record { top = 65534; arity = λ f. 1; now = i; before = 0; variables = 1 }
+at_start i = record { edition = edition_1; arity = λ f. 1; now = i; before = 0; variables = 1 }
 
 abbrev pub at_label : ℕ → ℕ → ℕ → Scope
-at_label n i x = record { top = 65534; arity = λ f. 1; now = i; before = n; variables = 1 + x }
+at_label n i x = record { edition = edition_1; arity = λ f. 1; now = i; before = n; variables = 1 + x }
 
 pub start_scope : (n i : ℕ) → at_start i ≡ at_start_scope edition_1 (replicate n 1) i
-start_scope n i = λ j. record { top = 65534; arity = λ f. sym (one_each n f) j; now = i; before = 0; variables = sym (one_each n i) j }
+start_scope n i = λ j. record { edition = edition_1; arity = λ f. sym (one_each n f) j; now = i; before = 0; variables = sym (one_each n i) j }
 
 pub label_scope : (n i x : ℕ) → at_label n i x ≡ at_label_scope edition_1 (replicate n 1) i x
-label_scope n i x = λ j. record { top = 65534; arity = λ f. sym (one_each n f) j; now = i; before = sym (length-replicate {A = ℕ} n 1) j; variables = sym (one_each n i) j + x }
+label_scope n i x = λ j. record { edition = edition_1; arity = λ f. sym (one_each n f) j; now = i; before = sym (length-replicate {A = ℕ} n 1) j; variables = sym (one_each n i) j + x }

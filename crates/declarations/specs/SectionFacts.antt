@@ -7,7 +7,7 @@ use Rattle.eb3.specs.Generic.AllLists.{All, all_map}
 use Rattle.eb3.specs.Generic.Lists.{concat_map}
 use Rattle.eb3.specs.Attributes.{AttributeFunction, function}
 use Rattle.eb3.specs.Cells.{cell_count, offset, total_cells}
-use Rattle.eb3.specs.Editions.{edition_1}
+use Rattle.eb3.specs.Editions.{Edition, edition_1}
 use Rattle.eb3.specs.RuleSets.{Function, RuleSet, attribute_function, attributes}
 use Rattle.eb3.specs.RuleSpelling.{one_word, counted_words}
 use Rattle.eb3.specs.Reading.{Read, refused, taken, Reader, giving, then, both, count_of, repeat, counted, number_of, for_each, series}
@@ -106,15 +106,15 @@ functions_read D labels n t u Fs e =
     (p.0, one_parameters Fs p.1)
 
 -- The cells of a rule set are those of its functions, one after the other.
-offset_next : (top : ℕ) (F : AttributeFunction) (Fs : List AttributeFunction) (f : ℕ) → offset (record { top = top; functions = F ∷ Fs }) (suc f) ≡ cell_count F.sizes + offset (record { top = top; functions = Fs }) f
+offset_next : (L : Edition) (F : AttributeFunction) (Fs : List AttributeFunction) (f : ℕ) → offset (record { edition = L; functions = F ∷ Fs }) (suc f) ≡ cell_count F.sizes + offset (record { edition = L; functions = Fs }) f
 unfolding offset function
-offset_next top F Fs zero = omega arith
-offset_next top F Fs (suc f) = omega (arith, offset_next top F Fs f)
+offset_next L F Fs zero = omega arith
+offset_next L F Fs (suc f) = omega (arith, offset_next L F Fs f)
 
-cells_along : (top : ℕ) (R : RuleSet) (Fs : List Function) → offset (record { top = top; functions = map (attribute_function R) Fs }) (length (map (attribute_function R) Fs)) ≡ all_cells R.domains Fs
+cells_along : (L : Edition) (R : RuleSet) (Fs : List Function) → offset (record { edition = L; functions = map (attribute_function R) Fs }) (length (map (attribute_function R) Fs)) ≡ all_cells R.domains Fs
 unfolding all_cells cells_of offset
-cells_along top R [] = refl
-cells_along top R (F ∷ Fs) = offset_next top (attribute_function R F) (map (attribute_function R) Fs) (length (map (attribute_function R) Fs)) ∙ ap (λ n. cell_count (attribute_function R F).sizes + n) (cells_along top R Fs)
+cells_along L R [] = refl
+cells_along L R (F ∷ Fs) = offset_next L (attribute_function R F) (map (attribute_function R) Fs) (length (map (attribute_function R) Fs)) ∙ ap (λ n. cell_count (attribute_function R F).sizes + n) (cells_along L R Fs)
 
 pub cells_total : (R : RuleSet) → total_cells (attributes R) ≡ all_cells R.domains R.functions
-cells_total R = cells_along R.edition.top R R.functions
+cells_total R = cells_along R.edition R R.functions

@@ -4,6 +4,7 @@ use native.Mathlib.Omega.{arith}
 use mathlib.Core.Path.{◌≡◌, refl, sym, ap, ◌∙◌, subst}
 use mathlib.Core.List.{List, [], ◌∷◌, ◌++◌}
 use lib.ListN.{length, get_or, length-append}
+use Rattle.eb3.specs.Editions.{edition_1}
 use Rattle.eb3.specs.Expressions.{Cond}
 use Rattle.eb3.specs.Spelling.{cond_words}
 use Rattle.eb3.specs.Scopes.{Scope, guard_scope, CondInScope}
@@ -40,9 +41,9 @@ words_taken P t C u e =
     omega (arith, ap length h.0, length-append (cond_words 1 C) u, cond_length 1 C, guard_size_one C)
 
 -- b is the number of functions, as the code has it
-pub condition_in : (T Γ t : List ℕ) (b : ℕ) (p : Checked) → b ≡ get_or T 210 0 → p ≡ checked (read_cond 1 (record { top = 65534; arity = λ f. 1; now = b; before = 0; variables = length Γ }) t)
+pub condition_in : (T Γ t : List ℕ) (b : ℕ) (p : Checked) → b ≡ get_or T 210 0 → p ≡ checked (read_cond 1 (record { edition = edition_1; arity = λ f. 1; now = b; before = 0; variables = length Γ }) t)
     → p ≡ checked (read_cond 1 (guard_scope (attributes (declared T)) (length Γ)) t)
-condition_in T Γ t b p i e = e ∙ (λ j. checked (read_cond 1 (record { top = 65534; arity = λ f. 1; now = i j; before = 0; variables = length Γ }) t))
+condition_in T Γ t b p i e = e ∙ (λ j. checked (read_cond 1 (record { edition = edition_1; arity = λ f. 1; now = i j; before = 0; variables = length Γ }) t))
     ∙ ap (λ P. checked (read_cond 1 P t)) (sym (guard_declared T (length Γ)))
 
 module _ (T Γ : List ℕ) where

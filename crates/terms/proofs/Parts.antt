@@ -7,6 +7,7 @@ use mathlib.Core.Path.{◌≡◌, refl, sym, ap, ◌∙◌, subst}
 use mathlib.Core.Bool.{Bool}
 use mathlib.Core.List.{List, ◌++◌}
 use lib.ListN.{length, take, get_or, length-append}
+use Rattle.eb3.specs.Editions.{edition_1}
 use Rattle.eb3.specs.Expressions.{Cond}
 use Rattle.eb3.specs.Spelling.{cond_words}
 use Rattle.eb3.specs.Scopes.{Scope, guard_scope, CondInScope}
@@ -138,7 +139,7 @@ words_taken P t C u e =
     omega (arith, ap length h.0, length-append (cond_words 1 C) u, cond_length 1 C)
 
 -- b is the number of functions, as the code has it
-module _ (T t : List ℕ) (b : ℕ) (p : Checked) (i : b ≡ get_or T 210 0) (e : p ≡ checked (read_cond 1 (record { top = 65534; arity = λ f. 1; now = b; before = 0; variables = 0 }) t)) where
+module _ (T t : List ℕ) (b : ℕ) (p : Checked) (i : b ≡ get_or T 210 0) (e : p ≡ checked (read_cond 1 (record { edition = edition_1; arity = λ f. 1; now = b; before = 0; variables = 0 }) t)) where
   abbrev conditions : Reader Cond
   conditions = read_cond (declared T).edition.width (guard_scope (attributes (declared T)) 0)
 
@@ -147,7 +148,7 @@ module _ (T t : List ℕ) (b : ℕ) (p : Checked) (i : b ≡ get_or T 210 0) (e 
   width_one = refl
 
   in_scope : p ≡ checked (conditions t)
-  in_scope = e ∙ (λ j. checked (read_cond 1 (record { top = 65534; arity = λ f. 1; now = i j; before = 0; variables = 0 }) t))
+  in_scope = e ∙ (λ j. checked (read_cond 1 (record { edition = edition_1; arity = λ f. 1; now = i j; before = 0; variables = 0 }) t))
       ∙ ap (λ P. checked (read_cond 1 P t)) (sym (guard_declared T 0)) ∙ ap checked width_one
 
   pub guarded_none : (k : Refusal) → p ≡ Err k → wrong ≡ weighed_running (term_by (declared T) (read_term (declared T)) TermKind.guard t)

@@ -19,7 +19,7 @@ module _ (R Q : RuleSet) (a : Alike R Q) where
   action_alike : (t : List ℕ) → action_of R t ≡ action_of Q t
   unfolding action_of
   action_alike t = λ i. by_number Refusal.reference (length (a.same_labels i))
-      (λ l u. giving (perform l) (elements_of (a.same_width i) (map (λ d. get_or (a.same_domains i) d 0) (get_or (a.same_labels i) l [])) u)) t
+      (λ l u. giving (perform l) (elements_of (a.same_edition i).width (map (λ d. get_or (a.same_domains i) d 0) (get_or (a.same_labels i) l [])) u)) t
 
   -- One code, the operands being read alike.
   by_alike : (e : Reader Term) (t : List ℕ) (k : TermKind) → term_by R e k t ≡ term_by Q e k t
@@ -27,7 +27,7 @@ module _ (R Q : RuleSet) (a : Alike R Q) where
   by_alike e t TermKind.action = action_alike t
   by_alike e t TermKind.star = refl
   by_alike e t TermKind.parallel = λ i. giving (λ p. Parallel p.0 p.1.0 p.1.1) (both (mask_of 4 (length (a.same_labels i))) (both e e) t)
-  by_alike e t TermKind.guard = λ i. giving (λ p. Guard p.0 p.1) (both (read_cond (a.same_width i) (a.same_guards 0 i)) e t)
+  by_alike e t TermKind.guard = λ i. giving (λ p. Guard p.0 p.1) (both (read_cond (a.same_edition i).width (a.same_guards 0 i)) e t)
   by_alike e t TermKind.done = refl
   by_alike e t TermKind.wrong = refl
   by_alike e t (TermKind.pair k) = refl
@@ -44,7 +44,7 @@ module _ (R Q : RuleSet) (a : Alike R Q) where
 
   pub given_term_alike : (ws : List ℕ) → given_term R ws ≡ given_term Q ws
   unfolding given_term
-  given_term_alike ws = λ i. term_alone (a.same_width i) (read_term_alike ws i)
+  given_term_alike ws = λ i. term_alone (a.same_edition i).width (read_term_alike ws i)
 
   pub given_event_alike : (ws : List ℕ) → given_event R ws ≡ given_event Q ws
   unfolding given_event

@@ -1,5 +1,4 @@
--- A process term is read and measured by what stands before it and by no more: the largest number, the words of a constant, domains, labels, what a
--- guard may name, and the processes' parameters (`read_alike`); appended processes change nothing of the measures before them (`rows_kept`).
+-- A process term is read and measured by what comes before it and by no more: the edition, domains, labels, what a guard may name, and the processes' parameters (`read_alike`); appended processes change nothing of the measures before them (`rows_kept`).
 use Rattle.std.specs.Prelude.{◌≡◌, cond, eqb, ltb, leb, length}
 use Rattle.std.proofs.Math.Path.{refl, fun_ext}
 use Rattle.std.proofs.Common.{ap, sym, ◌∙◌, arith}
@@ -25,8 +24,7 @@ parameter_lists R = map (λ (P : Process). P.parameters) R.processes
 
 -- What stands before a process term, as far as reading it goes.
 pub record Alike (R Q : RuleSet) : Type 0 where
-  pub same_top : R.edition.top ≡ Q.edition.top
-  pub same_width : R.edition.width ≡ Q.edition.width
+  pub same_edition : R.edition ≡ Q.edition
   pub same_domains : R.domains ≡ Q.domains
   pub same_labels : R.labels ≡ Q.labels
   pub same_guards : (n : ℕ) → guard_scope (attributes R) n ≡ guard_scope (attributes Q) n
@@ -47,7 +45,7 @@ module _ (R Q : RuleSet) (a : Alike R Q) where
   unfolding argument_of
   argument_alike Γ d [] = refl
   argument_alike Γ d (c ∷ t) = λ i.
-      pick (eqb c 1) (then (number_in (a.same_width i) t) λ v u. pick (leb v (a.same_top i)) (pick (ltb v (sizes_alike d i)) (taken (Argument.constant_argument v) u) (refused Refusal.kind)) (refused Refusal.form))
+      pick (eqb c 1) (then (number_in (a.same_edition i).width t) λ v u. pick (leb v (a.same_edition i).top) (pick (ltb v (sizes_alike d i)) (taken (Argument.constant_argument v) u) (refused Refusal.kind)) (refused Refusal.form))
       (pick (eqb c 2) (by_number Refusal.reference (length Γ) (λ j u. pick (eqb (get_or Γ j 0) d) (taken (Argument.variable_argument j) u) (refused Refusal.kind)) t)
       (refused Refusal.form))
 
@@ -83,7 +81,7 @@ module _ (R Q : RuleSet) (a : Alike R Q) where
     by_alike RuleKind.action = action_alike Γ t
     by_alike RuleKind.star = refl
     by_alike RuleKind.parallel = λ i. giving (λ p. rule_parallel p.0 p.1.0 p.1.1) (both (mask_of 4 (length (a.same_labels i))) (both (e Γ) (e Γ)) t)
-    by_alike RuleKind.guard = λ i. giving (λ p. rule_guard p.0 p.1) (both (read_cond (a.same_width i) (a.same_guards (length Γ) i)) (e Γ) t)
+    by_alike RuleKind.guard = λ i. giving (λ p. rule_guard p.0 p.1) (both (read_cond (a.same_edition i).width (a.same_guards (length Γ) i)) (e Γ) t)
     by_alike RuleKind.choice_quantifier = λ i. by_number Refusal.reference (length (a.same_domains i)) (λ d u. giving (choice_over d) (e (Γ ++ (d ∷ [])) u)) t
     by_alike RuleKind.parallel_quantifier = λ i. by_number Refusal.reference (length (a.same_domains i)) (λ d u. giving (λ p. parallel_over d p.0 p.1) (both (mask_of 4 (length (a.same_labels i))) (e (Γ ++ (d ∷ []))) u)) t
     by_alike RuleKind.process_call = call_alike Γ t
@@ -101,16 +99,16 @@ module _ (R Q : RuleSet) (a : Alike R Q) where
   read_alike Γ s = terms_at (length s) Γ s
 
 -- Measures look at the words of a constant and the domains only.
-module _ (cut : ℕ → ℕ) (R Q : RuleSet) (same_width : R.edition.width ≡ Q.edition.width) (same_domains : R.domains ≡ Q.domains) (callee : ℕ → Measure) where
+module _ (cut : ℕ → ℕ) (R Q : RuleSet) (same_edition : R.edition ≡ Q.edition) (same_domains : R.domains ≡ Q.domains) (callee : ℕ → Measure) where
   pub measure_alike : (E : RuleTerm) → measure_term cut R callee E ≡ measure_term cut Q callee E
   unfolding measure_term
   measure_alike rule_internal = refl
-  measure_alike (rule_perform l rs) = λ i. leaf cut (2 + arguments_size (same_width i) (length rs))
+  measure_alike (rule_perform l rs) = λ i. leaf cut (2 + arguments_size (same_edition i).width (length rs))
   measure_alike (rule_sequence E F) = λ i. sequence_of cut (measure_alike E i) (measure_alike F i)
   measure_alike (rule_choice E F) = λ i. choice_of cut (measure_alike E i) (measure_alike F i)
   measure_alike (rule_star E) = λ i. star_of cut (measure_alike E i)
   measure_alike (rule_parallel Δ E F) = λ i. parallel_of cut Δ (measure_alike E i) (measure_alike F i)
-  measure_alike (rule_guard C E) = λ i. guard_of cut (guard_size (same_width i) C) (measure_alike E i)
+  measure_alike (rule_guard C E) = λ i. guard_of cut (guard_size (same_edition i).width C) (measure_alike E i)
   measure_alike (choice_over d E) = λ i. right_nest (nothing cut) (choice_of cut) (get_or (same_domains i) d 0) (λ x. measure_alike E i)
   measure_alike (parallel_over d Δ E) = λ i. right_nest (nothing cut) (parallel_of cut Δ) (get_or (same_domains i) d 0) (λ x. measure_alike E i)
   measure_alike (call p rs) = refl
