@@ -6,7 +6,7 @@
 use Rattle.std.specs.Prelude.{List, [], ◌∷◌, ℕ, zero, suc, ◌+◌, ◌*◌, eqb, ltb, leb, length, take, drop, get_or, replicate}
 use Rattle.eb3.specs.Expressions.{Undefined}
 use Rattle.eb3.specs.Refusal
-use Rattle.eb3.specs.Editions.{edition_1}
+use Rattle.eb3.specs.Editions.{Edition, edition_1}
 use Rattle.eb3.specs.RuleSets.{Argument, constant_argument, variable_argument, rule_internal, Function, Process, RuleSet, domain_size}
 use Rattle.eb3.specs.Reading.{refused, taken, Reader, pick, then, by_number, number_in}
 use Rattle.eb3.specs.Measures.{sat, Measure, nothing}
@@ -33,9 +33,13 @@ some_function = record { parameters = 0 ∷ []; at_start = Undefined; at_label =
 abbrev pub process_row : List ℕ → ℕ → Process
 process_row T p = record { parameters = row T (process_place p); term = rule_internal }
 
+-- The edition of a rule set with these tables: there is no other.
+abbrev pub edition_in : List ℕ → Edition
+edition_in T = edition_1
+
 unfoldable pub declared : List ℕ → RuleSet
 declared T = record {
-  edition = edition_1;
+  edition = edition_in T;
   domains = from 0 (get_or T 0 0) (λ d. get_or T (1 + d) 0);
   labels = from 0 (get_or T 17 0) (λ l. row T (label_place l));
   functions = replicate (get_or T 210 0) some_function;

@@ -69,66 +69,66 @@ stands_read spell P f s whole t a u l e =
     (u, tail_at t whole l ∙ h.0)
 
 -- An expression, its place stored in 32 bits and kept since.
-pub stands_noted : (S : Scope) (whole t D : List ℕ) (at : ℕ) (d : Data) (u : List ℕ) → Tail t whole → length whole < 4294967296 → get_or D at 0 ≡ length t % 4294967296 → read_data 1 S t ≡ taken d u
-    → Stands whole (get_or D at 0) (data_words 1 d)
+pub stands_noted : (S : Scope) (whole t D : List ℕ) (at : ℕ) (d : Data) (u : List ℕ) → Tail t whole → length whole < 4294967296 → get_or D at 0 ≡ length t % 4294967296 → read_data S.edition.width S t ≡ taken d u
+    → Stands whole (get_or D at 0) (data_words S.edition.width d)
 stands_noted S whole t D at d u l small e g =
     let k : length t % 4294967296 ≡ length t = omega (arith, tail_short t whole l) in
-    subst (λ n. Stands whole n (data_words 1 d)) (sym (e ∙ k)) (stands_read (data_words 1) (λ a. DataInScope a S) (read_data 1 S) (data_sound 1 S) whole t d u l g)
+    subst (λ n. Stands whole n (data_words S.edition.width d)) (sym (e ∙ k)) (stands_read (data_words S.edition.width) (λ a. DataInScope a S) (read_data S.edition.width S) (data_sound S.edition.width S) whole t d u l g)
 
 -- ── places kept ──
 
-pub standing_kept : (t D D' : List ℕ) (at : ℕ) (ds : List Data) → ((j : ℕ) → j < at + length ds → get_or D' j 0 ≡ get_or D j 0) → Standing t D at ds → Standing t D' at ds
-standing_kept t D D' at [] h s = tt
-standing_kept t D D' at (d ∷ ds) h s = (
-  subst (λ n. Stands t n (data_words 1 d)) (sym (h at (omega arith))) s.0,
-  standing_kept t D D' (suc at) ds (λ j b. h j (omega arith)) s.1,
+pub standing_kept : (w : ℕ) (t D D' : List ℕ) (at : ℕ) (ds : List Data) → ((j : ℕ) → j < at + length ds → get_or D' j 0 ≡ get_or D j 0) → Standing w t D at ds → Standing w t D' at ds
+standing_kept w t D D' at [] h s = tt
+standing_kept w t D D' at (d ∷ ds) h s = (
+  subst (λ n. Stands t n (data_words w d)) (sym (h at (omega arith))) s.0,
+  standing_kept w t D D' (suc at) ds (λ j b. h j (omega arith)) s.1,
 )
 
 -- One more after others.
-pub standing_more : (t D : List ℕ) (at : ℕ) (ds : List Data) (d : Data) → Standing t D at ds → Stands t (get_or D (at + length ds) 0) (data_words 1 d) → Standing t D at (ds ++ (d ∷ []))
-standing_more t D at [] d s h =
+pub standing_more : (w : ℕ) (t D : List ℕ) (at : ℕ) (ds : List Data) (d : Data) → Standing w t D at ds → Stands t (get_or D (at + length ds) 0) (data_words w d) → Standing w t D at (ds ++ (d ∷ []))
+standing_more w t D at [] d s h =
     let e : at + 0 ≡ at = omega arith in
-    (subst (λ n. Stands t (get_or D n 0) (data_words 1 d)) e h, tt)
-standing_more t D at (c ∷ ds) d s h =
+    (subst (λ n. Stands t (get_or D n 0) (data_words w d)) e h, tt)
+standing_more w t D at (c ∷ ds) d s h =
     let e : at + suc (length ds) ≡ suc at + length ds = omega arith in
-    (s.0, standing_more t D (suc at) ds d s.1 (subst (λ n. Stands t (get_or D n 0) (data_words 1 d)) e h))
+    (s.0, standing_more w t D (suc at) ds d s.1 (subst (λ n. Stands t (get_or D n 0) (data_words w d)) e h))
 
-pub row_stays : (domains t D D' : List ℕ) (at begin : ℕ) (F : Function) → ((j : ℕ) → j < at + (3 + length F.at_label) → get_or D' j 0 ≡ get_or D j 0) → FunctionRow domains t D at begin F → FunctionRow domains t D' at begin F
-row_stays domains t D D' at begin F h r = record {
+pub row_stays : (w : ℕ) (domains t D D' : List ℕ) (at begin : ℕ) (F : Function) → ((j : ℕ) → j < at + (3 + length F.at_label) → get_or D' j 0 ≡ get_or D j 0) → FunctionRow w domains t D at begin F → FunctionRow w domains t D' at begin F
+row_stays w domains t D D' at begin F h r = record {
   cells = h at (omega arith) ∙ r.cells;
   begins = h (at + 1) (omega arith) ∙ r.begins;
-  expressions = standing_kept t D D' (at + 2) (F.at_start ∷ F.at_label) (λ j b. h j (omega arith)) r.expressions;
+  expressions = standing_kept w t D D' (at + 2) (F.at_start ∷ F.at_label) (λ j b. h j (omega arith)) r.expressions;
 }
 
 -- ── processes ──
 
-pub rows_kept : (t T T' : List ℕ) (p : ℕ) (Ps : List Process) → ((j : ℕ) → 211 < j → j < 212 + 9 * (p + length Ps) → get_or T' j 0 ≡ get_or T j 0) → ProcessRows t T p Ps → ProcessRows t T' p Ps
-rows_kept t T T' p [] h r = tt
-rows_kept t T T' p (P ∷ Ps) h r = (
-  subst (λ n. Stands t n (rule_words 1 P.term)) (sym (h (212 + 9 * p + 8) (omega arith) (omega arith))) r.0,
-  rows_kept t T T' (suc p) Ps (λ j a b. h j a (omega arith)) r.1,
+pub rows_kept : (w : ℕ) (t T T' : List ℕ) (p : ℕ) (Ps : List Process) → ((j : ℕ) → 211 < j → j < 212 + 9 * (p + length Ps) → get_or T' j 0 ≡ get_or T j 0) → ProcessRows w t T p Ps → ProcessRows w t T' p Ps
+rows_kept w t T T' p [] h r = tt
+rows_kept w t T T' p (P ∷ Ps) h r = (
+  subst (λ n. Stands t n (rule_words w P.term)) (sym (h (212 + 9 * p + 8) (omega arith) (omega arith))) r.0,
+  rows_kept w t T T' (suc p) Ps (λ j a b. h j a (omega arith)) r.1,
 )
 
-pub rows_more : (t T : List ℕ) (p : ℕ) (Ps : List Process) (P : Process) → ProcessRows t T p Ps → Stands t (get_or T (process_place (p + length Ps) + 8) 0) (rule_words 1 P.term) → ProcessRows t T p (Ps ++ (P ∷ []))
-rows_more t T p [] P r h =
+pub rows_more : (w : ℕ) (t T : List ℕ) (p : ℕ) (Ps : List Process) (P : Process) → ProcessRows w t T p Ps → Stands t (get_or T (process_place (p + length Ps) + 8) 0) (rule_words w P.term) → ProcessRows w t T p (Ps ++ (P ∷ []))
+rows_more w t T p [] P r h =
     let e : p + 0 ≡ p = omega arith in
-    (subst (λ n. Stands t (get_or T (process_place n + 8) 0) (rule_words 1 P.term)) e h, tt)
-rows_more t T p (Q ∷ Ps) P r h =
+    (subst (λ n. Stands t (get_or T (process_place n + 8) 0) (rule_words w P.term)) e h, tt)
+rows_more w t T p (Q ∷ Ps) P r h =
     let e : p + suc (length Ps) ≡ suc p + length Ps = omega arith in
-    (r.0, rows_more t T (suc p) Ps P r.1 (subst (λ n. Stands t (get_or T (process_place n + 8) 0) (rule_words 1 P.term)) e h))
+    (r.0, rows_more w t T (suc p) Ps P r.1 (subst (λ n. Stands t (get_or T (process_place n + 8) 0) (rule_words w P.term)) e h))
 
 -- Where a process was read, its term is after its parameters.
-pub term_stands : (R : RuleSet) (hi : ℕ) (whole t : List ℕ) (P : Process) (u : List ℕ) → R.edition.width ≡ 1 → Tail t whole → read_process R hi t ≡ taken P u
-    → Stands whole (length t - (get_or t 0 0 + 1)) (rule_words 1 P.term)
+pub term_stands : (R : RuleSet) (hi : ℕ) (whole t : List ℕ) (P : Process) (u : List ℕ) → Tail t whole → read_process R hi t ≡ taken P u
+    → Stands whole (length t - (get_or t 0 0 + 1)) (rule_words R.edition.width P.term)
 unfolding read_process
-term_stands R hi whole t P u w tl e =
+term_stands R hi whole t P u tl e =
     let h = then_took (counted 0 hi (number_of Refusal.reference (length R.domains)) t) (λ ds v. giving (λ E. record { parameters = ds; term = E }) (read_rule_term R ds v)) P u e in
     let k = giving_taken (λ E. record { parameters = h.0; term = E }) (read_rule_term R h.0 h.1) P u h.3 in
     let s : (t ≡ counted_words one_word h.0 ++ h.1) × _ = subst (Sound (counted_words one_word) _ t) h.2 (counted_sound one_word (λ d. d < length R.domains) (number_of Refusal.reference (length R.domains)) (number_sound Refusal.reference (length R.domains)) 0 hi t) in
     let v : Tail h.1 t = subst (Fine t) h.2 (counted_ends 0 hi (number_of Refusal.reference (length R.domains)) (number_ends Refusal.reference (length R.domains)) t) in
     let n : length h.1 ≡ length t - (get_or t 0 0 + 1) = behind_parameters t h.0 h.1 s.0 in
     let st : Stands whole (length h.1) (rule_words R.edition.width k.0) = stands_read (rule_words R.edition.width) _ (read_rule_term R h.0) (rule_term_sound R h.0) whole h.1 k.0 u (tail_on h.1 t whole tl v) k.1 in
-    subst (λ (Q : Process). Stands whole (length t - (get_or t 0 0 + 1)) (rule_words 1 Q.term)) (sym k.2) (subst (λ m. Stands whole m (rule_words 1 k.0)) n (subst (λ c. Stands whole (length h.1) (rule_words c k.0)) w st))
+    subst (λ (Q : Process). Stands whole (length t - (get_or t 0 0 + 1)) (rule_words R.edition.width Q.term)) (sym k.2) (subst (λ m. Stands whole m (rule_words R.edition.width k.0)) n st)
   where
     words_length : (ds : List ℕ) → length (concat_map one_word ds) ≡ length ds
     words_length [] = refl

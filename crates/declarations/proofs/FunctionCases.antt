@@ -6,7 +6,6 @@ use native.Mathlib.Omega.{arith}
 use mathlib.Core.Path.{◌≡◌, refl, sym, ap, ◌∙◌, subst}
 use mathlib.Core.List.{List, [], ◌∷◌}
 use lib.ListN.{length, get_or, replicate}
-use Rattle.eb3.specs.Editions.{edition_1}
 use Rattle.eb3.specs.Cells.{cell_count}
 use Rattle.eb3.specs.Expressions.{Data}
 use Rattle.eb3.specs.RuleSets.{Function, domain_size}
@@ -16,7 +15,7 @@ use Rattle.eb3.specs.RuleReading.{function_from, read_function}
 use Rattle.scan.specs.Checking.{checked, last_of, Checked}
 use Rattle.scan.specs.Laws.{Fine, tail_at, both_in, both_out, number_word}
 use Rattle.grammar.specs.Laws.{data_ends}
-use Rattle.arguments.specs.Tables.{declared}
+use Rattle.arguments.specs.Tables.{edition_in, declared}
 use Rattle.declarations.specs.declared.Counted.{Counted}
 use Rattle.declarations.specs.Entering.{labels_of, cells_of, all_cells, function_cells, functions_cells, CellsBound, found_cells}
 use Rattle.declarations.specs.ScopeFacts.{one_each, at_start, start_scope}
@@ -33,14 +32,14 @@ abbrev pub labels_for : List ℕ → ℕ → ℕ → Reader (List Data)
 labels_for T n i = label_expressions T n i (get_or T 17 0)
 
 module _ (T t : List ℕ) (n i : ℕ) (p : Checked) (e : p ≡ checked (read_data 1 (at_start i) t)) where
-  start : p ≡ checked (start_of n i t)
-  start = e ∙ ap (λ S. checked (read_data 1 S t)) (start_scope n i)
+  start : p ≡ checked (start_of T n i t)
+  start = e ∙ ap (λ S. checked (read_data 1 S t)) (start_scope T n i)
 
-  pub expressions_out : (j : Refusal) → p ≡ Err j → Err j ≡ checked (both (start_of n i) (labels_for T n i) t)
-  expressions_out j h = both_out (start_of n i) (labels_for T n i) t p j start h
+  pub expressions_out : (j : Refusal) → p ≡ Err j → Err j ≡ checked (both (start_of T n i) (labels_for T n i) t)
+  expressions_out j h = both_out (start_of T n i) (labels_for T n i) t p j start h
 
-  pub expressions_in : (r : List ℕ) (q : Checked) (m : ℕ) → p ≡ Ok m → r ≡ last_of m t → q ≡ checked (labels_for T n i r) → q ≡ checked (both (start_of n i) (labels_for T n i) t)
-  expressions_in r q m h s f = both_in (start_of n i) (labels_for T n i) t r p q m (data_ends 1 _) start h s f
+  pub expressions_in : (r : List ℕ) (q : Checked) (m : ℕ) → p ≡ Ok m → r ≡ last_of m t → q ≡ checked (labels_for T n i r) → q ≡ checked (both (start_of T n i) (labels_for T n i) t)
+  expressions_in r q m h s f = both_in (start_of T n i) (labels_for T n i) t r p q m (data_ends (edition_in T).width _) start h s f
 
 -- ── a function ──
 
@@ -51,12 +50,12 @@ one_parameter d m t e = rw (number_word 5 d m t e)
 abbrev pub sizes_in : List ℕ → List ℕ
 sizes_in T = (declared T).domains
 
-function_is : (T t : List ℕ) (n i : ℕ) → function_of T n i t ≡ giving function_from (both (repeat 1 (number_of 5 (get_or T 0 0))) (both (start_of n i) (labels_for T n i)) t)
+function_is : (T t : List ℕ) (n i : ℕ) → function_of T n i t ≡ giving function_from (both (repeat 1 (number_of 5 (get_or T 0 0))) (both (start_of T n i) (labels_for T n i)) t)
 unfolding read_function
-function_is T t n i = ap (λ c. giving function_from (both (repeat c (number_of 5 (get_or T 0 0))) (both (start_of n i) (labels_for T n i)) t)) (one_each n i)
+function_is T t n i = ap (λ c. giving function_from (both (repeat c (number_of 5 (get_or T 0 0))) (both (start_of T n i) (labels_for T n i)) t)) (one_each n i)
 
 -- with its parameter read
-pub function_on : (T t : List ℕ) (n i m : ℕ) → Ok m ≡ checked (number_of 5 (get_or T 0 0) t) → function_of T n i t ≡ giving function_from (giving (λ b. (get_or t 0 0 ∷ [], b)) (both (start_of n i) (labels_for T n i) (last_of m t)))
+pub function_on : (T t : List ℕ) (n i m : ℕ) → Ok m ≡ checked (number_of 5 (get_or T 0 0) t) → function_of T n i t ≡ giving function_from (giving (λ b. (get_or t 0 0 ∷ [], b)) (both (start_of T n i) (labels_for T n i) (last_of m t)))
 unfolding both then
 function_on T t n i m e = function_is T t n i ∙ rw (one_parameter (get_or T 0 0) m t e)
 
@@ -84,9 +83,9 @@ module _ (T t : List ℕ) (n i d : ℕ) (p : Checked) (w : d ≡ get_or T 0 0) (
   unfolding giving both then repeat function_cells
   function_out j h = let x = checked_refused (number_of 5 (get_or T 0 0) t) j (sym h ∙ there) in rw (function_is T t n i, x.read) (ap Err x.named)
 
-  module _ (m : ℕ) (r : List ℕ) (q : Checked) (h : p ≡ Ok m) (s : r ≡ last_of m t) (f : q ≡ checked (both (start_of n i) (labels_for T n i) r)) where
-    rest : q ≡ checked (both (start_of n i) (labels_for T n i) (last_of m t))
-    rest = f ∙ ap (λ u. checked (both (start_of n i) (labels_for T n i) u)) s
+  module _ (m : ℕ) (r : List ℕ) (q : Checked) (h : p ≡ Ok m) (s : r ≡ last_of m t) (f : q ≡ checked (both (start_of T n i) (labels_for T n i) r)) where
+    rest : q ≡ checked (both (start_of T n i) (labels_for T n i) (last_of m t))
+    rest = f ∙ ap (λ u. checked (both (start_of T n i) (labels_for T n i) u)) s
 
     pub function_stops : (j : Refusal) → q ≡ Err j → Err j ≡ function_cells (sizes_in T) (function_of T n i t)
     function_stops j b = rw (function_on T t n i m (sym h ∙ there)) (none_given (sizes_in T) (get_or t 0 0) j _ (sym b ∙ rest))
@@ -142,7 +141,7 @@ module _ (T t : List ℕ) (n k i : ℕ) (p : Result Counted Refusal) (z : k ≡ 
 
   module _ (one : Counted) (r : List ℕ) (q : Result Counted Refusal) (h : p ≡ Ok one) (s : r ≡ last_of one.left t) (f : q ≡ functions_cells (sizes_in T) (series (k - 1) (i + 1) (function_of T n) r)) where
     it : (F : Function) × ((function_of T n i t ≡ taken F (last_of one.left t)) × (one.cells ≡ cells_of (sizes_in T) F))
-    it = left_of (sizes_in T) t one.left one.cells (function_of T n i t) (function_ends edition_1 (get_or T 0 0) (labels_of T 0 (get_or T 17 0)) (replicate n 1) i t) (sym h ∙ e)
+    it = left_of (sizes_in T) t one.left one.cells (function_of T n i t) (function_ends (edition_in T) (get_or T 0 0) (labels_of T 0 (get_or T 17 0)) (replicate n 1) i t) (sym h ∙ e)
 
     whole : series k i (function_of T n) t ≡ one_more it.0 (series (k - 1) (i + 1) (function_of T n) (last_of one.left t))
     unfolding both then

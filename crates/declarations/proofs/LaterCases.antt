@@ -17,7 +17,7 @@ use Rattle.scan.specs.Laws.{Tail, tail_on, last_all, tail_at, tail_short, got, l
 use Rattle.scan.specs.ReadingLaws.{checked_refused, not_taken, same_refused, refused_checked, RefusedAs}
 use Rattle.scan.specs.RowLaws.{passed}
 use Rattle.grammar.specs.Laws.{data_ends}
-use Rattle.arguments.specs.Tables.{from, row}
+use Rattle.arguments.specs.Tables.{edition_in, from, row}
 use Rattle.declarations.specs.Entering.{labels_of}
 use Rattle.declarations.specs.ScopeFacts.{at_label, label_scope}
 use Rattle.declarations.specs.Directory.{Stands, Standing}
@@ -28,7 +28,7 @@ use Rattle.refusals.specs.declared.Refusal.{Refusal}
 
 -- The rest of the labels, from l on.
 abbrev rest_of : List ℕ → ℕ → ℕ → ℕ → ℕ → Reader (List Data)
-rest_of T n i l k = for_each (labels_of T l k) (for_label n i)
+rest_of T n i l k = for_each (labels_of T l k) (for_label T n i)
 
 -- Expressions ds of the first l labels are read, `left` words are left of t, and the places of ds are in D.
 pub record Sofar (t T D₀ : List ℕ) (n i k at : ℕ) (D : List ℕ) (left l : ℕ) : Type 0 where
@@ -39,7 +39,7 @@ pub record Sofar (t T D₀ : List ℕ) (n i k at : ℕ) (D : List ℕ) (left l :
   pub ds : List Data
   pub count : length ds ≡ l
   pub reading : label_expressions T n i k t ≡ giving (λ es. ds ++ es) (rest_of T n i l (k - l) (last_of left t))
-  pub found : (whole : List ℕ) → Tail t whole → length whole < 4294967296 → at + k ≤ length D₀ → Standing whole D at ds
+  pub found : (whole : List ℕ) → Tail t whole → length whole < 4294967296 → at + k ≤ length D₀ → Standing (edition_in T).width whole D at ds
 
 giving_same : (r : Read (List Data)) → r ≡ giving (λ es. [] ++ es) r
 unfolding giving
@@ -75,7 +75,7 @@ sofar_end t T D₀ n i k at D left l s h =
       answer = ap Ok (sym (last_length left t s.short)) ∙ sym (ap checked e);
       same_length = s.same_length;
       kept = s.kept;
-      found = λ whole a u tl small room f. (let q : s.ds ≡ a = same_taken s.ds a (last_of left t) u (sym e ∙ f) in subst (Standing whole D at) q (s.found whole tl small room));
+      found = λ whole a u tl small room f. (let q : s.ds ≡ a = same_taken s.ds a (last_of left t) u (sym e ∙ f) in subst (Standing (edition_in T).width whole D at) q (s.found whole tl small room));
     }
   where
     same_taken : (a b : List Data) (u v : List ℕ) → taken a u ≡ taken b v → a ≡ b
@@ -104,13 +104,13 @@ taken_on ds b bs f t d u e = rw e (go (for_each bs f u))
 module _ (t T D₀ R u D D₁ : List ℕ) (n i k at left l : ℕ) (p : Checked) (s : Sofar t T D₀ n i k at D left l) (lt : l < k) (g : D₁ ≡ set D (at + l) (left % 4294967296)) (is_u : u ≡ last_of left t)
     (r : R ≡ row T (18 + 3 * l)) (e : p ≡ checked (read_data 1 (at_label n i (length R)) u)) where
   abbrev this : Reader Data
-  this = for_label n i (row T (18 + 3 * l))
+  this = for_label T n i (row T (18 + 3 * l))
 
   here : p ≡ checked (this u)
-  here = e ∙ ap (λ S. checked (read_data 1 S u)) (label_scope n i (length R)) ∙ ap (λ ds. checked (for_label n i ds u)) r
+  here = e ∙ ap (λ S. checked (read_data 1 S u)) (label_scope T n i (length R)) ∙ ap (λ ds. checked (for_label T n i ds u)) r
 
-  on : label_expressions T n i k t ≡ giving (λ es. s.ds ++ es) (for_each (row T (18 + 3 * l) ∷ labels_of T (l + 1) (k - (l + 1))) (for_label n i) u)
-  on = s.reading ∙ (λ j. giving (λ es. s.ds ++ es) (for_each (labels_next T l k lt j) (for_label n i) (sym is_u j)))
+  on : label_expressions T n i k t ≡ giving (λ es. s.ds ++ es) (for_each (row T (18 + 3 * l) ∷ labels_of T (l + 1) (k - (l + 1))) (for_label T n i) u)
+  on = s.reading ∙ (λ j. giving (λ es. s.ds ++ es) (for_each (labels_next T l k lt j) (for_label T n i) (sym is_u j)))
 
   as_long : length D₁ ≡ length D₀
   as_long = ap length g ∙ length-set D (at + l) (left % 4294967296) ∙ s.same_length
@@ -121,7 +121,7 @@ module _ (t T D₀ R u D D₁ : List ℕ) (n i k at left l : ℕ) (p : Checked) 
   pub sofar_fail : (j : Refusal) → p ≡ Err j → LabelsNoted T n i k t D₀ at (Err j) D₁
   unfolding checked
   sofar_fail j h =
-      let f : RefusedAs j (label_expressions T n i k t) = same_refused _ _ j on (refused_on s.ds (row T (18 + 3 * l)) (labels_of T (l + 1) (k - (l + 1))) (for_label n i) u j (checked_refused (this u) j (sym h ∙ here))) in
+      let f : RefusedAs j (label_expressions T n i k t) = same_refused _ _ j on (refused_on s.ds (row T (18 + 3 * l)) (labels_of T (l + 1) (k - (l + 1))) (for_label T n i) u j (checked_refused (this u) j (sym h ∙ here))) in
       record {
         answer = refused_checked _ j f;
         same_length = as_long;
@@ -131,7 +131,7 @@ module _ (t T D₀ R u D D₁ : List ℕ) (n i k at left l : ℕ) (p : Checked) 
 
   module _ (m : ℕ) (h : p ≡ Ok m) where
     it : (d : Data) × (this u ≡ taken d (last_of m u))
-    it = got this (data_ends 1 _) u m p here h
+    it = got this (data_ends (edition_in T).width _) u m p here h
 
     left_short : length u ≡ left
     left_short = ap length is_u ∙ last_length left t s.short
@@ -140,7 +140,7 @@ module _ (t T D₀ R u D D₁ : List ℕ) (n i k at left l : ℕ) (p : Checked) 
     tail = subst (λ v. Tail v t) (sym is_u) (last_tail left t)
 
     passed_here : Tail (last_of m u) u × (length (last_of m u) ≡ m)
-    passed_here = passed u m (this u) (data_ends 1 _ u) (sym h ∙ here)
+    passed_here = passed u m (this u) (data_ends (edition_in T).width _ u) (sym h ∙ here)
 
     behind : Tail (last_of m u) t
     behind = tail_on (last_of m u) u t tail passed_here.0
@@ -157,11 +157,11 @@ module _ (t T D₀ R u D D₁ : List ℕ) (n i k at left l : ℕ) (p : Checked) 
       ds = s.ds ++ (it.0 ∷ []);
       count = length-append s.ds (it.0 ∷ []) ∙ ap (λ c. c + 1) s.count;
       reading =
-          on ∙ taken_on s.ds (row T (18 + 3 * l)) (labels_of T (l + 1) (k - (l + 1))) (for_label n i) u it.0 (last_of m u) it.1
+          on ∙ taken_on s.ds (row T (18 + 3 * l)) (labels_of T (l + 1) (k - (l + 1))) (for_label T n i) u it.0 (last_of m u) it.1
           ∙ ap (λ v. giving (λ es. (s.ds ++ (it.0 ∷ [])) ++ es) (rest_of T n i (l + 1) (k - (l + 1)) v)) same;
       found = λ whole tl small room.
           let place : get_or D₁ (at + l) 0 ≡ length u % 4294967296 =
           ap (λ E. get_or E (at + l) 0) g ∙ get_or-set_same D (at + l) (left % 4294967296) 0 (omega (arith, s.same_length)) ∙ ap (λ c. c % 4294967296) (sym left_short) in
-          standing_more whole D₁ at s.ds it.0 (standing_kept whole D D₁ at s.ds (λ j b. other j (omega (arith, s.count))) (s.found whole tl small room))
-          (subst (λ c. Stands whole (get_or D₁ (at + c) 0) (data_words 1 it.0)) (sym s.count) (stands_noted _ whole u D₁ (at + l) it.0 (last_of m u) (tail_on u t whole tl tail) small place it.1));
+          standing_more (edition_in T).width whole D₁ at s.ds it.0 (standing_kept (edition_in T).width whole D D₁ at s.ds (λ j b. other j (omega (arith, s.count))) (s.found whole tl small room))
+          (subst (λ c. Stands whole (get_or D₁ (at + c) 0) (data_words (edition_in T).width it.0)) (sym s.count) (stands_noted _ whole u D₁ (at + l) it.0 (last_of m u) (tail_on u t whole tl tail) small place it.1));
     }

@@ -8,7 +8,6 @@ use mathlib.Core.Path.{◌≡◌, refl, sym, ap, ◌∙◌, subst}
 use mathlib.Core.List.{List, [], ◌∷◌}
 use lib.ListN.{length, get_or, set, replicate, length-set}
 use lib.Seq.{get_or-set_same, get_or-set_other}
-use Rattle.eb3.specs.Editions.{edition_1}
 use Rattle.eb3.specs.Cells.{cell_count}
 use Rattle.eb3.specs.Expressions.{Data}
 use Rattle.eb3.specs.RuleSets.{Function, domain_size}
@@ -19,7 +18,7 @@ use Rattle.scan.specs.Checking.{checked, last_of, Checked}
 use Rattle.scan.specs.Laws.{Tail, Fine, tail_at, tail_on, tail_short, last_tail, last_all, last_last, last_length}
 use Rattle.scan.specs.ReadingLaws.{checked_refused, not_taken}
 use Rattle.grammar.specs.Laws.{data_ends}
-use Rattle.arguments.specs.Tables.{declared}
+use Rattle.arguments.specs.Tables.{edition_in, declared}
 use Rattle.arguments.specs.TableLaws.{from_length}
 use Rattle.declarations.specs.declared.Counted.{Counted}
 use Rattle.declarations.specs.Entering.{labels_of, cells_of, function_cells, functions_cells, found_cells, CellsBound}
@@ -81,12 +80,12 @@ module _ (T t D D₁ : List ℕ) (n i at : ℕ) (g : D₁ ≡ set D at (length t
         same_length = l.same_length ∙ noted_length D D₁ at _ g;
         kept = λ j b. l.kept j (omega arith) ∙ noted_other D D₁ at _ g j b;
         found = λ whole b u tl small room f.
-            let k = both_taken (start_of n i) (label_expressions T n i (get_or T 17 0)) t b u f in
-            let v : k.0 ≡ r = left_is (start_of n i) (data_ends 1 _) t p m b.0 k.0 (e ∙ ap (λ S. checked (read_data 1 S t)) (start_scope n i)) h k.1 ∙ sym s in
+            let k = both_taken (start_of T n i) (label_expressions T n i (get_or T 17 0)) t b u f in
+            let v : k.0 ≡ r = left_is (start_of T n i) (data_ends (edition_in T).width _) t p m b.0 k.0 (e ∙ ap (λ S. checked (read_data 1 S t)) (start_scope T n i)) h k.1 ∙ sym s in
             let rest : label_expressions T n i (get_or T 17 0) r ≡ taken b.1 u = ap (label_expressions T n i (get_or T 17 0)) (sym v) ∙ k.2 in
             let place : get_or D₂ at 0 ≡ length t % 4294967296 = l.kept at (omega arith) ∙ noted_here D D₁ at _ g (omega arith) in (
               stands_noted _ whole t D₂ at b.0 k.0 tl small place k.1,
-              subst (λ y. Standing whole D₂ y b.1) (add-one at) (l.found whole b.1 u (tail_on r t whole tl (subst (λ y. Tail y t) (sym s) (last_tail m t))) small (omega (arith, noted_length D D₁ at _ g)) rest),
+              subst (λ y. Standing (edition_in T).width whole D₂ y b.1) (add-one at) (l.found whole b.1 u (tail_on r t whole tl (subst (λ y. Tail y t) (sym s) (last_tail m t))) small (omega (arith, noted_length D D₁ at _ g)) rest),
             );
       }
 
@@ -118,7 +117,7 @@ module _ (T t D : List ℕ) (n i at begin d : ℕ) (p : Checked) (w : d ≡ get_
         record { answer = o; same_length = l.same_length ∙ long; kept = others; found = λ whole F u tl small room f. absurd (no_function (sizes_in T) (function_of T n i t) j F u o f) }
 
     row_found : (whole : List ℕ) (F : Function) (u : List ℕ) → Tail t whole → length whole < 4294967296 → at + row_width (get_or T 17 0) ≤ length D → function_of T n i t ≡ taken F u
-        → FunctionRow (sizes_in T) whole D₃ at begin F
+        → FunctionRow (edition_in T).width (sizes_in T) whole D₃ at begin F
     row_found whole F u tl small room f =
         let number : Ok m ≡ checked (number_of 5 (get_or T 0 0) t) = sym h ∙ e ∙ ap (λ v. checked (number_of 5 v t)) w in
         let k = giving_taken function_from _ F u (sym (function_on T t n i m number) ∙ f) in
@@ -126,7 +125,7 @@ module _ (T t D : List ℕ) (n i at begin d : ℕ) (p : Checked) (w : d ≡ get_
         let is : F ≡ function_from (get_or t 0 0 ∷ [], b.0) = k.2 ∙ ap function_from b.2 in
         let rest : expressions_of T n i r ≡ taken b.0 u = ap (expressions_of T n i) s ∙ b.1 in
         let size : z % 4294967296 ≡ z = omega arith in
-        subst (FunctionRow (sizes_in T) whole D₃ at begin) (sym is) record {
+        subst (FunctionRow (edition_in T).width (sizes_in T) whole D₃ at begin) (sym is) record {
           cells = l.kept at (omega arith) ∙ noted_other D₁ D₂ (at + 1) _ g₂ at (omega arith) ∙ noted_here D D₁ at _ g₁ (omega arith) ∙ size ∙ c ∙ ap (λ v. get_or (sizes_in T) v 0) y ∙ sym (one_cells (sizes_in T) (get_or t 0 0) b.0);
           begins = l.kept (at + 1) (omega arith) ∙ noted_here D₁ D₂ (at + 1) _ g₂ (omega (arith, noted_length D D₁ at _ g₁));
           expressions = l.found whole b.0 u (tail_on r t whole tl (subst (λ v. Tail v t) (sym s) (last_tail m t))) small (omega (arith, long)) rest;
@@ -176,7 +175,7 @@ functions_noted_none T t D n zero i begin z = record {
   answer = functions_none T t n zero i z;
   same_length = refl;
   kept = λ j b. refl;
-  found = λ whole Fs u tl small room f. (let y : [] ≡ Fs = cc in subst (FunctionRows (sizes_in T) whole D (row_width (get_or T 17 0)) i begin) y tt);
+  found = λ whole Fs u tl small room f. (let y : [] ≡ Fs = cc in subst (FunctionRows (edition_in T).width (sizes_in T) whole D (row_width (get_or T 17 0)) i begin) y tt);
 }
 functions_noted_none T t D n (suc k) i begin z = absurd (omega arith)
 
@@ -186,8 +185,8 @@ unfolding read_function
 label_count T t n i F u f =
     let k = giving_taken function_from _ F u f in
     let b = both_taken _ (expressions_of T n i) t k.0 u k.1 in
-    let c = both_taken (start_of n i) (label_expressions T n i (get_or T 17 0)) b.0 k.0.1 u b.2 in
-    ap (λ (F : Function). length F.at_label) k.2 ∙ for_each_count (labels_of T 0 (get_or T 17 0)) (for_label n i) c.0 k.0.1.1 u c.2 ∙ from_length 0 (get_or T 17 0) _
+    let c = both_taken (start_of T n i) (label_expressions T n i (get_or T 17 0)) b.0 k.0.1 u b.2 in
+    ap (λ (F : Function). length F.at_label) k.2 ∙ for_each_count (labels_of T 0 (get_or T 17 0)) (for_label T n i) c.0 k.0.1.1 u c.2 ∙ from_length 0 (get_or T 17 0) _
 
 steps : (w i k : ℕ) → (k ≡ 0 → ⊥) → (w * (i + 1) ≡ w * i + w) × (w * i + w ≤ w * (i + k)) × (w * (i + 1 + (k - 1)) ≡ w * (i + k))
 steps w i k z =
@@ -233,20 +232,20 @@ module _ (T t D D₁ : List ℕ) (n k i begin : ℕ) (p : Result Counted Refusal
         record { answer = o; same_length = as_long; kept = before; found = λ whole Fs u tl small room f. absurd (no_functions (sizes_in T) (series k i (function_of T n) t) j Fs u o f) }
 
     rows_found : (whole : List ℕ) (Fs : List Function) (u : List ℕ) → Tail t whole → length whole < 4294967296 → w * (i + k) ≤ length D → series k i (function_of T n) t ≡ taken Fs u
-        → FunctionRows (sizes_in T) whole D₂ w i begin Fs
+        → FunctionRows (edition_in T).width (sizes_in T) whole D₂ w i begin Fs
     rows_found whole Fs u tl small room f =
         let st = steps w i k z in
         let y = giving_taken (λ p. p.0 ∷ p.1) _ Fs u (sym (functions_next T t n k i z) ∙ f) in
         let b = both_taken (function_of T n i) (series (k - 1) (i + 1) (function_of T n)) t y.0 u y.1 in
-        let left = cells_left (sizes_in T) t one.left one.cells (function_of T n i t) y.0.0 b.0 (function_ends edition_1 (get_or T 0 0) (labels_of T 0 (get_or T 17 0)) (replicate n 1) i t) (sym h ∙ N.answer) b.1 in
+        let left = cells_left (sizes_in T) t one.left one.cells (function_of T n i t) y.0.0 b.0 (function_ends (edition_in T) (get_or T 0 0) (labels_of T 0 (get_or T 17 0)) (replicate n 1) i t) (sym h ∙ N.answer) b.1 in
         let rest : series (k - 1) (i + 1) (function_of T n) r ≡ taken y.0.1 u = ap (series (k - 1) (i + 1) (function_of T n)) (s ∙ sym left.0) ∙ b.2 in
-        let row : FunctionRow (sizes_in T) whole D₁ (w * i) begin y.0.0 = N.found whole y.0.0 b.0 tl small (omega (arith, st.1)) b.1 in
-        let here : FunctionRow (sizes_in T) whole D₂ (w * i) begin y.0.0 = row_stays (sizes_in T) whole D₁ D₂ (w * i) begin y.0.0
+        let row : FunctionRow (edition_in T).width (sizes_in T) whole D₁ (w * i) begin y.0.0 = N.found whole y.0.0 b.0 tl small (omega (arith, st.1)) b.1 in
+        let here : FunctionRow (edition_in T).width (sizes_in T) whole D₂ (w * i) begin y.0.0 = row_stays (edition_in T).width (sizes_in T) whole D₁ D₂ (w * i) begin y.0.0
         (λ j v. M.kept j (omega (arith, st.0, label_count T t n i y.0.0 b.0 b.1))) row in
-        let others : FunctionRows (sizes_in T) whole D₂ w (i + 1) (begin + one.cells) y.0.1 = M.found whole y.0.1 u (tail_on r t whole tl (subst (λ v. Tail v t) (sym s) (last_tail one.left t))) small (omega (arith, st.2, N.same_length)) rest in
-        subst (FunctionRows (sizes_in T) whole D₂ w i begin) (sym y.2) (
+        let others : FunctionRows (edition_in T).width (sizes_in T) whole D₂ w (i + 1) (begin + one.cells) y.0.1 = M.found whole y.0.1 u (tail_on r t whole tl (subst (λ v. Tail v t) (sym s) (last_tail one.left t))) small (omega (arith, st.2, N.same_length)) rest in
+        subst (FunctionRows (edition_in T).width (sizes_in T) whole D₂ w i begin) (sym y.2) (
           here,
-          subst (λ v. FunctionRows (sizes_in T) whole D₂ w v (begin + cells_of (sizes_in T) y.0.0) y.0.1) (add-one i) (subst (λ v. FunctionRows (sizes_in T) whole D₂ w (i + 1) (begin + v) y.0.1) left.1 others),
+          subst (λ v. FunctionRows (edition_in T).width (sizes_in T) whole D₂ w v (begin + cells_of (sizes_in T) y.0.0) y.0.1) (add-one i) (subst (λ v. FunctionRows (edition_in T).width (sizes_in T) whole D₂ w (i + 1) (begin + v) y.0.1) left.1 others),
         )
 
     functions_noted : (two : Counted) → q ≡ Ok two → FunctionsNoted T n k i t D begin (found_cells two.left (one.cells + two.cells)) D₂
@@ -300,7 +299,7 @@ module _ (T t D₀ D D₁ u : List ℕ) (n k i begin left cells j : ℕ) (p : Re
 
   module _ (one : Counted) (h : p ≡ Ok one) (few : CellsBound p 1) where
     ended : one.left ≤ length u
-    ended = function_left (sizes_in T) u one.left one.cells (function_of T n j u) (function_ends edition_1 (get_or T 0 0) (labels_of T 0 (get_or T 17 0)) (replicate n 1) j u) (sym h ∙ N.answer)
+    ended = function_left (sizes_in T) u one.left one.cells (function_of T n j u) (function_ends (edition_in T) (get_or T 0 0) (labels_of T 0 (get_or T 17 0)) (replicate n 1) j u) (sym h ∙ N.answer)
 
     same : last_of one.left u ≡ last_of one.left t
     same =

@@ -9,7 +9,6 @@ use Rattle.std.proofs.lemmas.List.{length-map}
 use Rattle.std.proofs.Math.ListN.{get_or-append}
 use Rattle.std.proofs.Math.Seq.{paste, length-paste, take-append_seam, get_or-append_seam}
 use Rattle.std.proofs.Math.Dec.{eqb_refl}
-use Rattle.eb3.specs.Editions.{edition_1}
 use Rattle.eb3.specs.Generic.Booleans.{cond_true, cond_false}
 use Rattle.eb3.specs.Generic.Lists.{concat_map}
 use Rattle.eb3.specs.Generic.AllLists.{All, all_at}
@@ -23,7 +22,7 @@ use Rattle.eb3.proofs.Laws.Reading.{Sound, count_sound, counted_sound}
 use Rattle.eb3.proofs.Laws.RuleSets.{get_d_map, functions_counted, domain_is}
 use Rattle.eb3.proofs.Laws.Attributes.{no_domain_beyond}
 use Rattle.eb3.proofs.Laws.Signatures.{Alike, rows_grown}
-use Rattle.arguments.specs.Tables.{row, declared, measure_row, callee}
+use Rattle.arguments.specs.Tables.{row, edition_in, declared, measure_row, callee}
 use Rattle.arguments.specs.TableLaws.{same_declared, domains_length, domain_at, labels_length, label_at, guard_declared}
 use Rattle.declarations.specs.Entering.{put_row, put_rows}
 use Rattle.declarations.specs.Declaring.{Heads, Tables, Declares, entered_process}
@@ -144,7 +143,7 @@ functions_entered T ds ls n room domains labels short = heads_kept T (set T 210 
 
 -- ── no process yet ──
 
-pub processes_start : (T ds : List ℕ) (ls : List (List ℕ)) (fs : List Function) → 212 ≤ length T → get_or T 0 0 ≤ 16 → get_or T 17 0 ≤ 64 → All (λ l. length l ≤ 2) (declared T).labels → Tables T ds ls fs → Declares (set T 211 0) (without_processes edition_1 ds ls fs)
+pub processes_start : (T ds : List ℕ) (ls : List (List ℕ)) (fs : List Function) → 212 ≤ length T → get_or T 0 0 ≤ 16 → get_or T 17 0 ≤ 64 → All (λ l. length l ≤ 2) (declared T).labels → Tables T ds ls fs → Declares (set T 211 0) (without_processes (edition_in T) ds ls fs)
 unfolding table declared
 processes_start T ds ls fs room domains labels short k = record {
   same_edition = refl;

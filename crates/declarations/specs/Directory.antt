@@ -17,26 +17,26 @@ use Rattle.declarations.specs.Entering.{cells_of}
 abbrev pub Stands : List ℕ → ℕ → List ℕ → Type 0
 Stands t n spelled = (rest : List ℕ) × (last_of n t ≡ spelled ++ rest)
 
--- Expressions, their places in a row.
-abbrev pub Standing : List ℕ → List ℕ → ℕ → List Data → Type 0
-Standing t D at [] = Unit
-Standing t D at (d ∷ ds) = Stands t (get_or D at 0) (data_words 1 d) × Standing t D (suc at) ds
+-- Expressions, their places in a row. Here and below a constant has `width` words.
+abbrev pub Standing : ℕ → List ℕ → List ℕ → ℕ → List Data → Type 0
+Standing width t D at [] = Unit
+Standing width t D at (d ∷ ds) = Stands t (get_or D at 0) (data_words width d) × Standing width t D (suc at) ds
 
 -- A function's row, where `first` cells are before its own. Numbers in the directory have 32 bits.
-pub record FunctionRow (domains t D : List ℕ) (at first : ℕ) (F : Function) : Type 0 where
+pub record FunctionRow (width : ℕ) (domains t D : List ℕ) (at first : ℕ) (F : Function) : Type 0 where
   pub cells : get_or D at 0 ≡ cells_of domains F
   pub begins : get_or D (at + 1) 0 ≡ first % 4294967296
-  pub expressions : Standing t D (at + 2) (F.at_start ∷ F.at_label)
+  pub expressions : Standing width t D (at + 2) (F.at_start ∷ F.at_label)
 
 -- The rows, of w words each, of functions from i on.
-abbrev pub FunctionRows : List ℕ → List ℕ → List ℕ → ℕ → ℕ → ℕ → List Function → Type 0
-FunctionRows domains t D w i first [] = Unit
-FunctionRows domains t D w i first (F ∷ Fs) = FunctionRow domains t D (w * i) first F × FunctionRows domains t D w (suc i) (first + cells_of domains F) Fs
+abbrev pub FunctionRows : ℕ → List ℕ → List ℕ → List ℕ → ℕ → ℕ → ℕ → List Function → Type 0
+FunctionRows width domains t D w i first [] = Unit
+FunctionRows width domains t D w i first (F ∷ Fs) = FunctionRow width domains t D (w * i) first F × FunctionRows width domains t D w (suc i) (first + cells_of domains F) Fs
 
 -- Processes from p on, by the tables T.
-abbrev pub ProcessRows : List ℕ → List ℕ → ℕ → List Process → Type 0
-ProcessRows t T p [] = Unit
-ProcessRows t T p (P ∷ Ps) = Stands t (get_or T (process_place p + 8) 0) (rule_words 1 P.term) × ProcessRows t T (suc p) Ps
+abbrev pub ProcessRows : ℕ → List ℕ → List ℕ → ℕ → List Process → Type 0
+ProcessRows width t T p [] = Unit
+ProcessRows width t T p (P ∷ Ps) = Stands t (get_or T (process_place p + 8) 0) (rule_words width P.term) × ProcessRows width t T (suc p) Ps
 
 abbrev pub row_width : ℕ → ℕ
 row_width labels = 3 + labels
@@ -44,5 +44,5 @@ row_width labels = 3 + labels
 -- What the tables T and the directory D say of a rule set that is at the front of t.
 pub record Directory (t T D : List ℕ) (R : RuleSet) : Type 0 where
   pub declares : Declares T R
-  pub functions : FunctionRows R.domains t D (row_width (length R.labels)) 0 0 R.functions
-  pub processes : ProcessRows t T 0 R.processes
+  pub functions : FunctionRows R.edition.width R.domains t D (row_width (length R.labels)) 0 0 R.functions
+  pub processes : ProcessRows R.edition.width t T 0 R.processes

@@ -1,7 +1,6 @@
 -- What is noted in the directory while functions are read, and by which readings.
 -- Document 01, "Blocks and the rule stream", items 2 to 5; refusals 4 and 5.
 use Rattle.std.specs.Prelude.{◌≡◌, List, ◌∷◌, ℕ, ◌+◌, ◌*◌, ◌≤◌, ◌<◌, length, get_or, replicate, Result}
-use Rattle.eb3.specs.Editions.{edition_1}
 use Rattle.eb3.specs.Expressions.{Data}
 use Rattle.eb3.specs.RuleSets.{Function}
 use Rattle.eb3.specs.Reading.{Read, taken, Reader, both, for_each, series}
@@ -9,7 +8,7 @@ use Rattle.eb3.specs.ExpressionReading.{read_data}
 use Rattle.eb3.specs.RuleReading.{at_start_scope, at_label_scope, read_function}
 use Rattle.scan.specs.Checking.{checked, Checked}
 use Rattle.scan.specs.Laws.{Tail}
-use Rattle.arguments.specs.Tables.{declared}
+use Rattle.arguments.specs.Tables.{edition_in, declared}
 use Rattle.declarations.specs.declared.Counted.{Counted}
 use Rattle.declarations.specs.Entering.{labels_of, function_cells, functions_cells}
 use Rattle.declarations.specs.Directory.{Standing, FunctionRow, FunctionRows, row_width}
@@ -17,21 +16,21 @@ use Rattle.refusals.specs.declared.Refusal.{Refusal}
 
 -- ── what is read of function i of n, by the tables T ──
 
-abbrev pub start_of : ℕ → ℕ → Reader Data
-start_of n i = read_data 1 (at_start_scope edition_1 (replicate n 1) i)
+abbrev pub start_of : List ℕ → ℕ → ℕ → Reader Data
+start_of T n i = read_data (edition_in T).width (at_start_scope (edition_in T) (replicate n 1) i)
 
-abbrev pub for_label : ℕ → ℕ → List ℕ → Reader Data
-for_label n i ds = read_data 1 (at_label_scope edition_1 (replicate n 1) i (length ds))
+abbrev pub for_label : List ℕ → ℕ → ℕ → List ℕ → Reader Data
+for_label T n i ds = read_data (edition_in T).width (at_label_scope (edition_in T) (replicate n 1) i (length ds))
 
 -- Its expressions for the first k labels; all of them; the function.
 abbrev pub label_expressions : List ℕ → ℕ → ℕ → ℕ → Reader (List Data)
-label_expressions T n i k = for_each (labels_of T 0 k) (for_label n i)
+label_expressions T n i k = for_each (labels_of T 0 k) (for_label T n i)
 
 abbrev pub expressions_of : List ℕ → ℕ → ℕ → Reader (Data × List Data)
-expressions_of T n i = both (start_of n i) (label_expressions T n i (get_or T 17 0))
+expressions_of T n i = both (start_of T n i) (label_expressions T n i (get_or T 17 0))
 
 abbrev pub function_of : List ℕ → ℕ → ℕ → Reader Function
-function_of T n = read_function edition_1 (get_or T 0 0) (labels_of T 0 (get_or T 17 0)) (replicate n 1)
+function_of T n = read_function (edition_in T) (get_or T 0 0) (labels_of T 0 (get_or T 17 0)) (replicate n 1)
 
 -- ── what is noted ──
 
@@ -45,16 +44,16 @@ pub record Noted {A B : Type 0} (summed : Read A → B) (f : Reader A) (t D : Li
 
 -- Of expressions, as many words left as places.
 abbrev pub LabelsNoted : List ℕ → ℕ → ℕ → ℕ → List ℕ → List ℕ → ℕ → Checked → List ℕ → Type 0
-LabelsNoted T n i k t D at r D' = Noted checked (label_expressions T n i k) t D at (at + k) (λ whole E ds. Standing whole E at ds) r D'
+LabelsNoted T n i k t D at r D' = Noted checked (label_expressions T n i k) t D at (at + k) (λ whole E ds. Standing (edition_in T).width whole E at ds) r D'
 
 abbrev pub ExpressionsNoted : List ℕ → ℕ → ℕ → List ℕ → List ℕ → ℕ → Checked → List ℕ → Type 0
-ExpressionsNoted T n i t D at r D' = Noted checked (expressions_of T n i) t D at (at + (1 + get_or T 17 0)) (λ whole E p. Standing whole E at (p.0 ∷ p.1)) r D'
+ExpressionsNoted T n i t D at r D' = Noted checked (expressions_of T n i) t D at (at + (1 + get_or T 17 0)) (λ whole E p. Standing (edition_in T).width whole E at (p.0 ∷ p.1)) r D'
 
 -- Of function i, a row, where `begin` cells are before its own; and of k functions from i on.
 abbrev pub FunctionNoted : List ℕ → ℕ → ℕ → List ℕ → List ℕ → ℕ → ℕ → Result Counted Refusal → List ℕ → Type 0
-FunctionNoted T n i t D at begin r D' = Noted (function_cells (declared T).domains) (function_of T n i) t D at (at + row_width (get_or T 17 0)) (λ whole E F. FunctionRow (declared T).domains whole E at begin F) r D'
+FunctionNoted T n i t D at begin r D' = Noted (function_cells (declared T).domains) (function_of T n i) t D at (at + row_width (get_or T 17 0)) (λ whole E F. FunctionRow (edition_in T).width (declared T).domains whole E at begin F) r D'
 
 abbrev pub FunctionsNoted : List ℕ → ℕ → ℕ → ℕ → List ℕ → List ℕ → ℕ → Result Counted Refusal → List ℕ → Type 0
 FunctionsNoted T n k i t D begin r D' =
     Noted (functions_cells (declared T).domains) (series k i (function_of T n)) t D (row_width (get_or T 17 0) * i) (row_width (get_or T 17 0) * (i + k))
-    (λ whole E Fs. FunctionRows (declared T).domains whole E (row_width (get_or T 17 0)) i begin Fs) r D'
+    (λ whole E Fs. FunctionRows (edition_in T).width (declared T).domains whole E (row_width (get_or T 17 0)) i begin Fs) r D'

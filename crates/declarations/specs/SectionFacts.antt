@@ -7,7 +7,7 @@ use Rattle.eb3.specs.Generic.AllLists.{All, all_map}
 use Rattle.eb3.specs.Generic.Lists.{concat_map}
 use Rattle.eb3.specs.Attributes.{AttributeFunction, function}
 use Rattle.eb3.specs.Cells.{cell_count, offset, total_cells}
-use Rattle.eb3.specs.Editions.{Edition, edition_1}
+use Rattle.eb3.specs.Editions.{Edition}
 use Rattle.eb3.specs.RuleSets.{Function, RuleSet, attribute_function, attributes}
 use Rattle.eb3.specs.RuleSpelling.{one_word, counted_words}
 use Rattle.eb3.specs.Reading.{Read, refused, taken, Reader, giving, then, both, count_of, repeat, counted, number_of, for_each, series}
@@ -75,34 +75,34 @@ repeat_gives {A} (suc n) f t = giving_gives (λ (p : A × List A). Unit × (leng
 abbrev One : Function → Type 0
 One F = length F.parameters ≡ 1
 
-abbrev expressions_of : List (List ℕ) → ℕ → ℕ → Reader (Data × List Data)
-expressions_of labels n i = both (read_data 1 (at_start_scope edition_1 (replicate n 1) i)) (for_each labels (λ ds. read_data 1 (at_label_scope edition_1 (replicate n 1) i (length ds))))
+abbrev expressions_of : Edition → List (List ℕ) → ℕ → ℕ → Reader (Data × List Data)
+expressions_of L labels n i = both (read_data L.width (at_start_scope L (replicate n 1) i)) (for_each labels (λ ds. read_data L.width (at_label_scope L (replicate n 1) i (length ds))))
 
-function_gives : (D : ℕ) (labels : List (List ℕ)) (n i : ℕ) (t : List ℕ) → Gives One (read_function edition_1 D labels (replicate n 1) i t)
+function_gives : (L : Edition) (D : ℕ) (labels : List (List ℕ)) (n i : ℕ) (t : List ℕ) → Gives One (read_function L D labels (replicate n 1) i t)
 unfolding read_function
-function_gives D labels n i t = giving_gives (λ p. (length p.0 ≡ 1) × Unit) One function_from (both (repeat (count_for (replicate n 1) i) (number_of Refusal.reference D)) (expressions_of labels n i) t) (λ p h. h.0)
-    (both_gives (λ ds. length ds ≡ 1) (λ x. Unit) (repeat (count_for (replicate n 1) i) (number_of Refusal.reference D)) (expressions_of labels n i)
+function_gives L D labels n i t = giving_gives (λ p. (length p.0 ≡ 1) × Unit) One function_from (both (repeat (count_for (replicate n 1) i) (number_of Refusal.reference D)) (expressions_of L labels n i) t) (λ p h. h.0)
+    (both_gives (λ ds. length ds ≡ 1) (λ x. Unit) (repeat (count_for (replicate n 1) i) (number_of Refusal.reference D)) (expressions_of L labels n i)
     (λ u. subst (λ k. Gives (λ ds. length ds ≡ k) (repeat (count_for (replicate n 1) i) (number_of Refusal.reference D) u)) (one_each n i) (repeat_gives (count_for (replicate n 1) i) (number_of Refusal.reference D) u))
-    (λ u. any_gives (expressions_of labels n i u)) t)
+    (λ u. any_gives (expressions_of L labels n i u)) t)
 
 abbrev AllOne : ℕ → List Function → Type 0
 AllOne k Fs = (length Fs ≡ k) × All One Fs
 
-series_gives : (D : ℕ) (labels : List (List ℕ)) (n k i : ℕ) (t : List ℕ) → Gives (AllOne k) (series k i (read_function edition_1 D labels (replicate n 1)) t)
+series_gives : (L : Edition) (D : ℕ) (labels : List (List ℕ)) (n k i : ℕ) (t : List ℕ) → Gives (AllOne k) (series k i (read_function L D labels (replicate n 1)) t)
 unfolding series
-series_gives D labels n zero i t = (refl, tt)
-series_gives D labels n (suc k) i t = giving_gives (λ (p : Function × List Function). One p.0 × AllOne k p.1) (AllOne (suc k)) (λ p. p.0 ∷ p.1) _ (λ p h. (ap suc h.1.0, (h.0, h.1.1)))
-    (both_gives One (AllOne k) (read_function edition_1 D labels (replicate n 1) i) (series k (i + 1) (read_function edition_1 D labels (replicate n 1))) (function_gives D labels n i) (series_gives D labels n k (i + 1)) t)
+series_gives L D labels n zero i t = (refl, tt)
+series_gives L D labels n (suc k) i t = giving_gives (λ (p : Function × List Function). One p.0 × AllOne k p.1) (AllOne (suc k)) (λ p. p.0 ∷ p.1) _ (λ p h. (ap suc h.1.0, (h.0, h.1.1)))
+    (both_gives One (AllOne k) (read_function L D labels (replicate n 1) i) (series k (i + 1) (read_function L D labels (replicate n 1))) (function_gives L D labels n i) (series_gives L D labels n k (i + 1)) t)
 
 one_parameters : (Fs : List Function) → All One Fs → (f : ℕ) → get_or (map (λ (F : Function). length F.parameters) Fs) f 1 ≡ 1
 one_parameters [] h f = refl
 one_parameters (F ∷ Fs) h zero = h.0
 one_parameters (F ∷ Fs) h (suc f) = one_parameters Fs h.1 f
 
-pub functions_read : (D : ℕ) (labels : List (List ℕ)) (n : ℕ) (t u : List ℕ) (Fs : List Function) → series n 0 (read_function edition_1 D labels (replicate n 1)) t ≡ taken Fs u
+pub functions_read : (L : Edition) (D : ℕ) (labels : List (List ℕ)) (n : ℕ) (t u : List ℕ) (Fs : List Function) → series n 0 (read_function L D labels (replicate n 1)) t ≡ taken Fs u
     → (length Fs ≡ n) × ((f : ℕ) → get_or (map (λ (F : Function). length F.parameters) Fs) f 1 ≡ 1)
-functions_read D labels n t u Fs e =
-    let p = subst (Gives (AllOne n)) e (series_gives D labels n n 0 t) in
+functions_read L D labels n t u Fs e =
+    let p = subst (Gives (AllOne n)) e (series_gives L D labels n n 0 t) in
     (p.0, one_parameters Fs p.1)
 
 -- The cells of a rule set are those of its functions, one after the other.

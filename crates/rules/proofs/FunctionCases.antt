@@ -139,7 +139,7 @@ module _ (T t : List ℕ) (p : Checked) (e : p ≡ checked (count_of 0 16 t)) wh
         r = taken_here j c behind (functions_end edition_1 (length ds) ls (replicate n 1) n 0 u) (sym y ∙ counts)
 
         known : (length r.0 ≡ n) × ((f : ℕ) → get_or (map (λ (F : Function). length F.parameters) r.0) f 1 ≡ 1)
-        known = functions_read (length ds) ls n u (last_of j u) r.0 r.1
+        known = functions_read edition_1 (length ds) ls n u (last_of j u) r.0 r.1
 
         tables : Tables (set T 210 x) ds ls r.0
         tables = record { heads = heads; same_functions = get_or-set_same T 210 x 0 (omega arith) ∙ f ∙ sym known.0; one_parameter = known.1 }
