@@ -26,7 +26,7 @@ pub record Ready (A : Attributes) (o : Option VisibleAction) (b : Reading) (t D 
   pub names_known : scope.before ≤ number_of_functions A
   pub variables_few : scope.variables ≤ suc (length (arguments_of o))
   pub in_scope : DataInScope (expression (function A f) o) scope
-  pub stands : Stands t (get_or D (w * f + j) 0) (data_words 1 (expression (function A f) o))
+  pub stands : Stands t (get_or D (w * f + j) 0) (data_words scope.edition.width (expression (function A f) o))
   -- what before reads, as far as the expression may name it
   pub before_reads : (g : ℕ) → g < scope.before → (vs : List Value) → reading_in M (before_place M) g vs ≡ b g vs
 

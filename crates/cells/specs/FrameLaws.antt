@@ -183,26 +183,26 @@ module _ {t : List ℕ} {f left : ℕ} (T : Turn t f left) (m : List ℕ) (enter
       no_value = asks_here.no_value
 
       abbrev behind_yes : List ℕ
-      behind_yes = data_words 1 no_value ++ ready.stands.0
+      behind_yes = data_words ready.scope.edition.width no_value ++ ready.stands.0
 
-      spelt_words : s ≡ asking 0 (data_words 1 name ++ (data_words 1 yes_value ++ behind_yes))
+      spelt_words : s ≡ asking 0 (data_words ready.scope.edition.width name ++ (data_words ready.scope.edition.width yes_value ++ behind_yes))
       spelt_words = asked_spelled s ready.scope spelt ready.stands.0 stands_here asks_here
 
       scoped : DataInScope (If (Equal (Variable 0) name) yes_value no_value) ready.scope
       scoped = subst (λ y. DataInScope y ready.scope) asks_here.asked ready.in_scope
 
-      name_at : DataAt (drop 4 s) ready.scope name (data_words 1 yes_value ++ behind_yes)
+      name_at : DataAt (drop 4 s) ready.scope name (data_words ready.scope.edition.width yes_value ++ behind_yes)
       name_at = record { plain = ready.plain; in_scope = scoped.0.1; spelled = ap (drop 4) spelt_words }
 
       name_word : d.value ≡ encode 65535 (evaluate_data name (environment_in m))
-      name_word = (data_parted (drop 4 s) m d ready.scope (data_words 1 yes_value ++ behind_yes) named name name_at).word
+      name_word = (data_parted (drop 4 s) m d ready.scope (data_words ready.scope.edition.width yes_value ++ behind_yes) named name name_at).word
 
       yes_at : DataAt u ready.scope yes_value behind_yes
       yes_at = record {
         plain = ready.plain;
         in_scope = scoped.1;
-        spelled = is_u ∙ ap (λ n. last_of n s) (data_parted (drop 4 s) m d ready.scope (data_words 1 yes_value ++ behind_yes) named name name_at).left
-            ∙ ap (last_of (length (data_words 1 yes_value ++ behind_yes))) spelt_words ∙ last_behind (asking 0 (data_words 1 name)) (data_words 1 yes_value ++ behind_yes);
+        spelled = is_u ∙ ap (λ n. last_of n s) (data_parted (drop 4 s) m d ready.scope (data_words ready.scope.edition.width yes_value ++ behind_yes) named name name_at).left
+            ∙ ap (last_of (length (data_words ready.scope.edition.width yes_value ++ behind_yes))) spelt_words ∙ last_behind (asking 0 (data_words ready.scope.edition.width name)) (data_words ready.scope.edition.width yes_value ++ behind_yes);
       }
 
       yes_word : a.value ≡ encode 65535 (evaluate_data yes_value (environment_in (set m 0 d.value)))

@@ -35,36 +35,36 @@ cond_code (Or c d) = 11
 cond_code (Not c) = 12
 cond_code True = 13
 
-data_first : (d : Data) (u : List ℕ) → get_or (data_words 1 d ++ u) 0 0 ≡ data_code d
+data_first : (w : ℕ) (d : Data) (u : List ℕ) → get_or (data_words w d ++ u) 0 0 ≡ data_code d
 unfolding data_words
-data_first Undefined u = refl
-data_first (Constant n) u = refl
-data_first (Variable i) u = refl
-data_first (Add a b) u = refl
-data_first (Subtract a b) u = refl
-data_first (If c a b) u = refl
-data_first (Now f rs) u = refl
-data_first (Before f rs) u = refl
+data_first w Undefined u = refl
+data_first w (Constant n) u = refl
+data_first w (Variable i) u = refl
+data_first w (Add a b) u = refl
+data_first w (Subtract a b) u = refl
+data_first w (If c a b) u = refl
+data_first w (Now f rs) u = refl
+data_first w (Before f rs) u = refl
 
-cond_first : (c : Cond) (u : List ℕ) → get_or (cond_words 1 c ++ u) 0 0 ≡ cond_code c
+cond_first : (w : ℕ) (c : Cond) (u : List ℕ) → get_or (cond_words w c ++ u) 0 0 ≡ cond_code c
 unfolding data_words
-cond_first (Equal a b) u = refl
-cond_first (Less a b) u = refl
-cond_first (And c d) u = refl
-cond_first (Or c d) u = refl
-cond_first (Not c) u = refl
-cond_first True u = refl
+cond_first w (Equal a b) u = refl
+cond_first w (Less a b) u = refl
+cond_first w (And c d) u = refl
+cond_first w (Or c d) u = refl
+cond_first w (Not c) u = refl
+cond_first w True u = refl
 
-data_there : (d : Data) → 1 ≤ length (data_words 1 d)
+data_there : (w : ℕ) (d : Data) → 1 ≤ length (data_words w d)
 unfolding data_words
-data_there Undefined = omega arith
-data_there (Constant n) = omega arith
-data_there (Variable i) = omega arith
-data_there (Add a b) = omega arith
-data_there (Subtract a b) = omega arith
-data_there (If c a b) = omega arith
-data_there (Now f rs) = omega arith
-data_there (Before f rs) = omega arith
+data_there w Undefined = omega arith
+data_there w (Constant n) = omega arith
+data_there w (Variable i) = omega arith
+data_there w (Add a b) = omega arith
+data_there w (Subtract a b) = omega arith
+data_there w (If c a b) = omega arith
+data_there w (Now f rs) = omega arith
+data_there w (Before f rs) = omega arith
 
 variable_by : (d : Data) → data_code d ≡ 2 → (i : ℕ) × (d ≡ Variable i)
 variable_by Undefined e = absurd (let z : ⊥ = omega arith in z)
@@ -121,13 +121,13 @@ positive (suc j) n = (j, refl)
 abbrev one : ℕ → Args
 one i = Cons (Variable i) Nil
 
-variable_argument : (rs : Args) (u : List ℕ) → ((a : Data) × (rs ≡ Cons a Nil)) → get_or (args_words 1 rs ++ u) 0 0 ≡ 2 → rs ≡ one (get_or (args_words 1 rs ++ u) 1 0)
+variable_argument : (width : ℕ) (rs : Args) (u : List ℕ) → ((a : Data) × (rs ≡ Cons a Nil)) → get_or (args_words width rs ++ u) 0 0 ≡ 2 → rs ≡ one (get_or (args_words width rs ++ u) 1 0)
 unfolding data_words
-variable_argument rs u (a, e) w =
-    let first : get_or (args_words 1 rs ++ u) 0 0 ≡ data_code a = ap (λ q. get_or (args_words 1 q ++ u) 0 0) e ∙ ap (λ l. get_or l 0 0) (append_assoc (data_words 1 a) [] u) ∙ data_first a u in
+variable_argument width rs u (a, e) w =
+    let first : get_or (args_words width rs ++ u) 0 0 ≡ data_code a = ap (λ q. get_or (args_words width q ++ u) 0 0) e ∙ ap (λ l. get_or l 0 0) (append_assoc (data_words width a) [] u) ∙ data_first width a u in
     let v = variable_by a (sym first ∙ w) in
     let q : rs ≡ one v.0 = e ∙ ap (λ b. Cons b Nil) v.1 in
-    q ∙ ap one (sym (ap (λ r. get_or (args_words 1 r ++ u) 1 0) q))
+    q ∙ ap one (sym (ap (λ r. get_or (args_words width r ++ u) 1 0) q))
 
 -- ── before f(x0) ──
 
@@ -135,28 +135,28 @@ abbrev pub KeepsWords : List ℕ → ℕ → Type 0
 KeepsWords s f = (4 ≤ length s) × (get_or s 0 0 ≡ 7) × (get_or s 1 0 ≡ f) × (get_or s 2 0 ≡ 2) × (get_or s 3 0 ≡ 0)
 
 module _ (s : List ℕ) (f : ℕ) where
-  kept_words : (d : Data) (rest : List ℕ) → s ≡ data_words 1 d ++ rest → d ≡ kept_value f → KeepsWords s f
+  kept_words : (width : ℕ) (d : Data) (rest : List ℕ) → s ≡ data_words width d ++ rest → d ≡ kept_value f → KeepsWords s f
   unfolding data_words
-  kept_words d rest e q =
-      let k : s ≡ 7 ∷ f ∷ 2 ∷ 0 ∷ rest = e ∙ ap (λ b. data_words 1 b ++ rest) q in
+  kept_words width d rest e q =
+      let k : s ≡ 7 ∷ f ∷ 2 ∷ 0 ∷ rest = e ∙ ap (λ b. data_words width b ++ rest) q in
       (omega (arith, ap length k), ap (λ l. get_or l 0 0) k, ap (λ l. get_or l 1 0) k, ap (λ l. get_or l 2 0) k, ap (λ l. get_or l 3 0) k)
 
   kept_past : (P : Scope) (g : ℕ) (rs : Args) (rest : List ℕ) → DataAt s P (Before g rs) rest → KeepsWords s f → Before g rs ≡ kept_value f
   unfolding data_words
   kept_past P g rs rest at (h, w0, w1, w2, w3) =
-      let k : s ≡ 7 ∷ g ∷ (args_words 1 rs ++ rest) = at.spelled in
-      let o : rs ≡ one (get_or (args_words 1 rs ++ rest) 1 0) = variable_argument rs rest (one_argument P at.plain g rs at.in_scope.1) (sym (ap (λ l. get_or l 2 0) k) ∙ w2) in
+      let k : s ≡ 7 ∷ g ∷ (args_words P.edition.width rs ++ rest) = at.spelled in
+      let o : rs ≡ one (get_or (args_words P.edition.width rs ++ rest) 1 0) = variable_argument P.edition.width rs rest (one_argument P at.plain g rs at.in_scope.1) (sym (ap (λ l. get_or l 2 0) k) ∙ w2) in
       let q : g ≡ f = sym (ap (λ l. get_or l 1 0) k) ∙ w1 in
-      let i : get_or (args_words 1 rs ++ rest) 1 0 ≡ 0 = sym (ap (λ l. get_or l 3 0) k) ∙ w3 in
+      let i : get_or (args_words P.edition.width rs ++ rest) 1 0 ≡ 0 = sym (ap (λ l. get_or l 3 0) k) ∙ w3 in
       λ j. Before (q j) ((o ∙ ap one i) j)
 
   kept_by : (P : Scope) (d : Data) (rest : List ℕ) → DataAt s P d rest → KeepsWords s f → d ≡ kept_value f
   kept_by P d rest at w =
-      let b = past_by d (sym (data_first d rest) ∙ sym (ap (λ l. get_or l 0 0) at.spelled) ∙ w.1) in
+      let b = past_by d (sym (data_first P.edition.width d rest) ∙ sym (ap (λ l. get_or l 0 0) at.spelled) ∙ w.1) in
       b.2 ∙ kept_past P b.0 b.1 rest (subst (λ q. DataAt s P q rest) b.2 at) w
 
   pub keeps_told : (r : Bool) → (r ≡ true → KeepsWords s f) → (KeepsWords s f → r ≡ true) → Tells r s (λ d. d ≡ kept_value f)
-  keeps_told r h k P d rest at = (λ e. kept_by P d rest at (h e), λ e. k (kept_words d rest at.spelled e))
+  keeps_told r h k P d rest at = (λ e. kept_by P d rest at (h e), λ e. k (kept_words P.edition.width d rest at.spelled e))
 
 -- ── whether x0 is the element named ──
 
@@ -170,7 +170,7 @@ AsksWords s = (8 ≤ length s) × (get_or s 0 0 ≡ 5) × (get_or s 1 0 ≡ 8) �
 abbrev pub asking : ℕ → List ℕ → List ℕ
 asking i u = 5 ∷ 8 ∷ 2 ∷ i ∷ u
 
-naming_by : (P : Scope) → Plain P → (i : ℕ) (e : Data) → DataInScope e P → (u : List ℕ) → NamingWords (asking i (data_words 1 e ++ u)) → (q : Naming) × (e ≡ naming q)
+naming_by : (P : Scope) → Plain P → (i : ℕ) (e : Data) → DataInScope e P → (u : List ℕ) → NamingWords (asking i (data_words P.edition.width e ++ u)) → (q : Naming) × (e ≡ naming q)
 unfolding data_words number_words
 naming_by P plain i Undefined w u h = absurd (⊎_elim (λ l. let z : ⊥ = omega (arith, l.0) in z) (λ r. let z : ⊥ = omega (arith, r.0) in z) h)
 naming_by P plain i (Constant n) w u h = absurd (⊎_elim (λ l. let z : ⊥ = omega (arith, l.0) in z) (λ r. let z : ⊥ = omega (arith, r.0) in z) h)
@@ -181,19 +181,19 @@ naming_by P plain i (Subtract a b) w u h = absurd (⊎_elim (λ l. let z : ⊥ =
 naming_by P plain i (If c a b) w u h = absurd (⊎_elim (λ l. let z : ⊥ = omega (arith, l.0) in z) (λ r. let z : ⊥ = omega (arith, r.0) in z) h)
 naming_by P plain i (Now g rs) w u (inl l) = absurd (let z : ⊥ = omega (arith, l.0) in z)
 naming_by P plain i (Now g rs) w u (inr r) =
-    let p = positive (get_or (args_words 1 rs ++ u) 1 0) r.3 in
-    (value_now g p.0, ap (Now g) (variable_argument rs u (one_argument P plain g rs w.1) r.2 ∙ ap one p.1))
+    let p = positive (get_or (args_words P.edition.width rs ++ u) 1 0) r.3 in
+    (value_now g p.0, ap (Now g) (variable_argument P.edition.width rs u (one_argument P plain g rs w.1) r.2 ∙ ap one p.1))
 naming_by P plain i (Before g rs) w u (inl l) = absurd (let z : ⊥ = omega (arith, l.0) in z)
 naming_by P plain i (Before g rs) w u (inr r) =
-    let p = positive (get_or (args_words 1 rs ++ u) 1 0) r.3 in
-    (value_before g p.0, ap (Before g) (variable_argument rs u (one_argument P plain g rs w.1) r.2 ∙ ap one p.1))
+    let p = positive (get_or (args_words P.edition.width rs ++ u) 1 0) r.3 in
+    (value_before g p.0, ap (Before g) (variable_argument P.edition.width rs u (one_argument P plain g rs w.1) r.2 ∙ ap one p.1))
 
 module _ (s : List ℕ) (P : Scope) (rest : List ℕ) where
   asks_variable : (i : ℕ) (e a b : Data) → DataAt s P (If (Equal (Variable i) e) a b) rest → AsksWords s → AsksOne (If (Equal (Variable i) e) a b)
   unfolding data_words
   asks_variable i e a b at (h, w0, w1, w2, w3, n) =
-      let u : List ℕ = (data_words 1 a ++ data_words 1 b) ++ rest in
-      let k : s ≡ asking i (data_words 1 e ++ u) = at.spelled ∙ ap (asking i) (append_assoc (data_words 1 e) (data_words 1 a ++ data_words 1 b) rest) in
+      let u : List ℕ = (data_words P.edition.width a ++ data_words P.edition.width b) ++ rest in
+      let k : s ≡ asking i (data_words P.edition.width e ++ u) = at.spelled ∙ ap (asking i) (append_assoc (data_words P.edition.width e) (data_words P.edition.width a ++ data_words P.edition.width b) rest) in
       let z : i ≡ 0 = sym (ap (λ l. get_or l 3 0) k) ∙ w3 in
       let q = naming_by P at.plain i e at.in_scope.0.1 u (subst NamingWords k n) in
       record { named = q.0; yes_value = a; no_value = b; asked = λ j. If (Equal (Variable (z j)) (q.1 j)) a b }
@@ -201,32 +201,32 @@ module _ (s : List ℕ) (P : Scope) (rest : List ℕ) where
   asks_equal : (x e a b : Data) → DataAt s P (If (Equal x e) a b) rest → AsksWords s → AsksOne (If (Equal x e) a b)
   unfolding data_words
   asks_equal x e a b at w =
-      let u : List ℕ = data_words 1 a ++ data_words 1 b in
-      let k : s ≡ 5 ∷ 8 ∷ (data_words 1 x ++ (data_words 1 e ++ (u ++ rest))) =
-      at.spelled ∙ ap (λ l. 5 ∷ 8 ∷ l) (append_assoc (data_words 1 x ++ data_words 1 e) u rest ∙ append_assoc (data_words 1 x) (data_words 1 e) (u ++ rest)) in
-      let v = variable_by x (sym (data_first x (data_words 1 e ++ (u ++ rest))) ∙ sym (ap (λ l. get_or l 2 0) k) ∙ w.3) in
+      let u : List ℕ = data_words P.edition.width a ++ data_words P.edition.width b in
+      let k : s ≡ 5 ∷ 8 ∷ (data_words P.edition.width x ++ (data_words P.edition.width e ++ (u ++ rest))) =
+      at.spelled ∙ ap (λ l. 5 ∷ 8 ∷ l) (append_assoc (data_words P.edition.width x ++ data_words P.edition.width e) u rest ∙ append_assoc (data_words P.edition.width x) (data_words P.edition.width e) (u ++ rest)) in
+      let v = variable_by x (sym (data_first P.edition.width x (data_words P.edition.width e ++ (u ++ rest))) ∙ sym (ap (λ l. get_or l 2 0) k) ∙ w.3) in
       let p : If (Equal x e) a b ≡ If (Equal (Variable v.0) e) a b = ap (λ y. If (Equal y e) a b) v.1 in
       subst AsksOne (sym p) (asks_variable v.0 e a b (subst (λ d. DataAt s P d rest) p at) w)
 
   asks_selection : (c : Cond) (a b : Data) → DataAt s P (If c a b) rest → AsksWords s → AsksOne (If c a b)
   unfolding data_words
   asks_selection c a b at w =
-      let u : List ℕ = data_words 1 a ++ data_words 1 b in
-      let k : s ≡ 5 ∷ (cond_words 1 c ++ (u ++ rest)) = at.spelled ∙ ap (λ l. 5 ∷ l) (append_assoc (cond_words 1 c) u rest) in
-      let v = equality_by c (sym (cond_first c (u ++ rest)) ∙ sym (ap (λ l. get_or l 1 0) k) ∙ w.2) in
+      let u : List ℕ = data_words P.edition.width a ++ data_words P.edition.width b in
+      let k : s ≡ 5 ∷ (cond_words P.edition.width c ++ (u ++ rest)) = at.spelled ∙ ap (λ l. 5 ∷ l) (append_assoc (cond_words P.edition.width c) u rest) in
+      let v = equality_by c (sym (cond_first P.edition.width c (u ++ rest)) ∙ sym (ap (λ l. get_or l 1 0) k) ∙ w.2) in
       let p : If c a b ≡ If (Equal v.0 v.1) a b = ap (λ y. If y a b) v.2 in
       subst AsksOne (sym p) (asks_equal v.0 v.1 a b (subst (λ d. DataAt s P d rest) p at) w)
 
   asks_by : (d : Data) → DataAt s P d rest → AsksWords s → AsksOne d
   asks_by d at w =
-      let v = selection_by d (sym (data_first d rest) ∙ sym (ap (λ l. get_or l 0 0) at.spelled) ∙ w.1) in
+      let v = selection_by d (sym (data_first P.edition.width d rest) ∙ sym (ap (λ l. get_or l 0 0) at.spelled) ∙ w.1) in
       subst AsksOne (sym v.3) (asks_selection v.0 v.1 v.2 (subst (λ q. DataAt s P q rest) v.3 at) w)
 
   -- the words of one that asks, behind what names the element
-  asked_words : (q : Naming) (a b : Data) → s ≡ asking 0 (data_words 1 (naming q) ++ ((data_words 1 a ++ data_words 1 b) ++ rest)) → AsksWords s
+  asked_words : (q : Naming) (a b : Data) → s ≡ asking 0 (data_words P.edition.width (naming q) ++ ((data_words P.edition.width a ++ data_words P.edition.width b) ++ rest)) → AsksWords s
   unfolding data_words
   asked_words (argument i) a b k = (
-    omega (arith, ap length k, length-append (data_words 1 a ++ data_words 1 b) rest, length-append (data_words 1 a) (data_words 1 b), data_there a, data_there b),
+    omega (arith, ap length k, length-append (data_words P.edition.width a ++ data_words P.edition.width b) rest, length-append (data_words P.edition.width a) (data_words P.edition.width b), data_there P.edition.width a, data_there P.edition.width b),
     ap (λ l. get_or l 0 0) k,
     ap (λ l. get_or l 1 0) k,
     ap (λ l. get_or l 2 0) k,
@@ -262,20 +262,20 @@ module _ (s : List ℕ) (P : Scope) (rest : List ℕ) where
 
 -- Where it is asked, the words are what names the element, the value for it, and the value for the others.
 pub asked_spelled : (s : List ℕ) (P : Scope) (d : Data) (rest : List ℕ) → DataAt s P d rest → (q : AsksOne d)
-    → s ≡ asking 0 (data_words 1 (naming q.named) ++ (data_words 1 q.yes_value ++ (data_words 1 q.no_value ++ rest)))
+    → s ≡ asking 0 (data_words P.edition.width (naming q.named) ++ (data_words P.edition.width q.yes_value ++ (data_words P.edition.width q.no_value ++ rest)))
 unfolding data_words
 asked_spelled s P d rest at q =
-    let n : List ℕ = data_words 1 (naming q.named) in
-    let a : List ℕ = data_words 1 q.yes_value in
-    let b : List ℕ = data_words 1 q.no_value in
-    at.spelled ∙ ap (λ y. data_words 1 y ++ rest) q.asked ∙ ap (asking 0) (append_assoc n (a ++ b) rest ∙ ap (λ l. n ++ l) (append_assoc a b rest))
+    let n : List ℕ = data_words P.edition.width (naming q.named) in
+    let a : List ℕ = data_words P.edition.width q.yes_value in
+    let b : List ℕ = data_words P.edition.width q.no_value in
+    at.spelled ∙ ap (λ y. data_words P.edition.width y ++ rest) q.asked ∙ ap (asking 0) (append_assoc n (a ++ b) rest ∙ ap (λ l. n ++ l) (append_assoc a b rest))
 
 pub asks_told : (s : List ℕ) (r : Bool) → (r ≡ true → AsksWords s) → (AsksWords s → r ≡ true) → Tells r s AsksOne × (r ≡ true → 8 ≤ length s)
 asks_told s r h k = (
   λ P d rest at. (
     λ e. asks_by s P rest d at (h e),
     λ q. k (asked_words s P rest q.named q.yes_value q.no_value
-        (asked_spelled s P d rest at q ∙ ap (λ l. asking 0 (data_words 1 (naming q.named) ++ l)) (sym (append_assoc (data_words 1 q.yes_value) (data_words 1 q.no_value) rest)))),
+        (asked_spelled s P d rest at q ∙ ap (λ l. asking 0 (data_words P.edition.width (naming q.named) ++ l)) (sym (append_assoc (data_words P.edition.width q.yes_value) (data_words P.edition.width q.no_value) rest)))),
   ),
   λ e. (h e).0,
 )

@@ -13,7 +13,7 @@ use Rattle.eb3.specs.RuleSets.{Function, RuleSet, domain_size, sizes_of, no_rule
 use Rattle.eb3.proofs.Laws.RuleSets.{functions_counted, domain_is}
 use Rattle.eb3.specs.Spelling.{data_words}
 use Rattle.eb3.specs.WellFormedness.{DomainsDefined, Form}
-use Rattle.eb3.proofs.Laws.Editions.{top_is_65534}
+use Rattle.eb3.proofs.Laws.Editions.{width_is_1, top_is_65534}
 use Rattle.declarations.specs.Directory.{Stands, Standing, FunctionRow, FunctionRows, row_width, Directory}
 use Rattle.declarations.specs.Entering.{cells_of, all_cells}
 use Rattle.expressions.specs.Stores.{stored, row_place}
@@ -25,22 +25,22 @@ use Rattle.cells.specs.CellLaws.{offset_mono, one_count, next_offset}
 -- ── the directory by numbers ──
 
 -- Row j of rows that begin with row i; `begin` says where each function's cells begin.
-row_at : (domains t D : List ℕ) (w i : ℕ) (Fs : List Function) (begin : ℕ → ℕ) → ((j : ℕ) → j < length Fs → begin (suc j) ≡ begin j + cells_of domains (get_or Fs j no_rule))
-    → FunctionRows domains t D w i (begin zero) Fs → (j : ℕ) → j < length Fs → FunctionRow domains t D (w * (i + j)) (begin j) (get_or Fs j no_rule)
-row_at domains t D w i [] begin s r j h = absurd (let z : ⊥ = omega arith in z)
-row_at domains t D w i (F ∷ Fs) begin s r zero h = let e : i ≡ i + 0 = omega arith in subst (λ k. FunctionRow domains t D (w * k) (begin zero) F) e r.0
-row_at domains t D w i (F ∷ Fs) begin s r (suc j) h =
+row_at : (width : ℕ) (domains t D : List ℕ) (w i : ℕ) (Fs : List Function) (begin : ℕ → ℕ) → ((j : ℕ) → j < length Fs → begin (suc j) ≡ begin j + cells_of domains (get_or Fs j no_rule))
+    → FunctionRows width domains t D w i (begin zero) Fs → (j : ℕ) → j < length Fs → FunctionRow width domains t D (w * (i + j)) (begin j) (get_or Fs j no_rule)
+row_at width domains t D w i [] begin s r j h = absurd (let z : ⊥ = omega arith in z)
+row_at width domains t D w i (F ∷ Fs) begin s r zero h = let e : i ≡ i + 0 = omega arith in subst (λ k. FunctionRow width domains t D (w * k) (begin zero) F) e r.0
+row_at width domains t D w i (F ∷ Fs) begin s r (suc j) h =
     let e : suc i + j ≡ i + suc j = omega arith in
-    let rest : FunctionRows domains t D w (suc i) (begin (suc zero)) Fs = subst (λ k. FunctionRows domains t D w (suc i) k Fs) (sym (s zero (omega arith))) r.1 in
-    subst (λ k. FunctionRow domains t D (w * k) (begin (suc j)) (get_or Fs j no_rule)) e (row_at domains t D w (suc i) Fs (λ k. begin (suc k)) (λ k l. s (suc k) (omega arith)) rest j (omega arith))
+    let rest : FunctionRows width domains t D w (suc i) (begin (suc zero)) Fs = subst (λ k. FunctionRows width domains t D w (suc i) k Fs) (sym (s zero (omega arith))) r.1 in
+    subst (λ k. FunctionRow width domains t D (w * k) (begin (suc j)) (get_or Fs j no_rule)) e (row_at width domains t D w (suc i) Fs (λ k. begin (suc k)) (λ k l. s (suc k) (omega arith)) rest j (omega arith))
 
 -- Expression j of a row.
-pub standing_at : (t D : List ℕ) (at : ℕ) (ds : List Data) → Standing t D at ds → (j : ℕ) → j < length ds → Stands t (get_or D (at + j) 0) (data_words 1 (get_or ds j Undefined))
-standing_at t D at [] s j h = absurd (let z : ⊥ = omega arith in z)
-standing_at t D at (d ∷ ds) s zero h = let e : at ≡ at + 0 = omega arith in subst (λ n. Stands t (get_or D n 0) (data_words 1 d)) e s.0
-standing_at t D at (d ∷ ds) s (suc j) h =
+pub standing_at : (w : ℕ) (t D : List ℕ) (at : ℕ) (ds : List Data) → Standing w t D at ds → (j : ℕ) → j < length ds → Stands t (get_or D (at + j) 0) (data_words w (get_or ds j Undefined))
+standing_at w t D at [] s j h = absurd (let z : ⊥ = omega arith in z)
+standing_at w t D at (d ∷ ds) s zero h = let e : at ≡ at + 0 = omega arith in subst (λ n. Stands t (get_or D n 0) (data_words w d)) e s.0
+standing_at w t D at (d ∷ ds) s (suc j) h =
     let e : suc at + j ≡ at + suc j = omega arith in
-    subst (λ n. Stands t (get_or D n 0) (data_words 1 (get_or ds j Undefined))) e (standing_at t D (suc at) ds s.1 j (omega arith))
+    subst (λ n. Stands t (get_or D n 0) (data_words w (get_or ds j Undefined))) e (standing_at w t D (suc at) ds s.1 j (omega arith))
 
 -- ── cells in a row ──
 
@@ -100,13 +100,13 @@ module _ (R : RuleSet) (form : Form R) where
   -- ── scopes ──
 
   pub plain_start : (f : ℕ) → Plain (start_scope A f)
-  plain_start f = record { largest = top_is_65534 form; one_parameter = fun_ext (one_arity R form) }
+  plain_start f = record { largest = top_is_65534 form; one_word = width_is_1 form; one_parameter = fun_ext (one_arity R form) }
 
   pub plain_label : (f k : ℕ) → Plain (label_scope A f k)
-  plain_label f k = record { largest = top_is_65534 form; one_parameter = fun_ext (one_arity R form) }
+  plain_label f k = record { largest = top_is_65534 form; one_word = width_is_1 form; one_parameter = fun_ext (one_arity R form) }
 
   pub plain_guard : (k : ℕ) → Plain (guard_scope A k)
-  plain_guard k = record { largest = top_is_65534 form; one_parameter = fun_ext (one_arity R form) }
+  plain_guard k = record { largest = top_is_65534 form; one_word = width_is_1 form; one_parameter = fun_ext (one_arity R form) }
 
   -- ── rows ──
 
@@ -115,12 +115,12 @@ module _ (R : RuleSet) (form : Form R) where
     w = row_width (length R.labels)
 
     -- The directory's row of function f says where its cells begin.
-    pub directory_row : (f : ℕ) → f < length R.functions → FunctionRow R.domains t D (w * f) (offset A f) (function_rule R f)
+    pub directory_row : (f : ℕ) → f < length R.functions → FunctionRow R.edition.width R.domains t D (w * f) (offset A f) (function_rule R f)
     unfolding offset
     directory_row f h =
         let e : 0 + f ≡ f = omega arith in
-        subst (λ k. FunctionRow R.domains t D (w * k) (offset A f) (function_rule R f)) e
-        (row_at R.domains t D w 0 R.functions (offset A) (λ j l. next_offset A j ∙ ap (λ c. offset A j + c) (sym (cells_are j l))) d.functions f h)
+        subst (λ k. FunctionRow R.edition.width R.domains t D (w * k) (offset A f) (function_rule R f)) e
+        (row_at R.edition.width R.domains t D w 0 R.functions (offset A) (λ j l. next_offset A j ∙ ap (λ c. offset A j + c) (sym (cells_are j l))) d.functions f h)
 
     -- What stands in it: numbers of 32 bits, which fewer than 1,025 cells fit in.
     pub directory_size : (f : ℕ) → f < length R.functions → get_or D (w * f) 0 ≡ cell_count (domain A f)

@@ -58,7 +58,7 @@ module _ (R : RuleSet) (form : Form R) where
       names_known = omega arith;
       variables_few = omega (arith, one_arity R form f);
       in_scope = subst (λ (F : AttributeFunction). DataInScope F.at_start (start_scope A f)) (sym (function_is R f h)) (form.function_forms f h).at_start;
-      stands = subst (λ (F : AttributeFunction). Stands t (get_or D (w * f + 2) 0) (data_words 1 F.at_start)) (sym (function_is R f h)) (directory_row R form t T D d f h).expressions.0;
+      stands = subst (λ (F : AttributeFunction). Stands t (get_or D (w * f + 2) 0) (data_words R.edition.width F.at_start)) (sym (function_is R f h)) (directory_row R form t T D d f h).expressions.0;
       before_reads = λ g l vs. absurd (let z : ⊥ = omega arith in z);
     }
 
@@ -79,12 +79,12 @@ module _ (R : RuleSet) (form : Form R) where
     -- ── after a visible action ──
 
     module _ (a : VisibleAction) (good : WellFormedAction R (visible a)) (M : List ℕ) (laid : Laid A M) (cells : List Value) (all : length cells ≡ total_cells A) (at_most : ValuesAtMost 65534 cells) (old : Holds M (before_place M) cells) where
-      label_stands : (f : ℕ) → f < length R.functions → Stands t (get_or D (w * f + (3 + a.label)) 0) (data_words 1 (get_or (function_rule R f).at_label a.label Undefined))
+      label_stands : (f : ℕ) → f < length R.functions → Stands t (get_or D (w * f + (3 + a.label)) 0) (data_words R.edition.width (get_or (function_rule R f).at_label a.label Undefined))
       label_stands f h =
           let e : w * f + 2 + suc a.label ≡ w * f + (3 + a.label) = omega arith in
           let l : suc a.label < length ((function_rule R f).at_start ∷ (function_rule R f).at_label) = omega (arith, good.0, (form.function_forms f h).label_count) in
-          subst (λ n. Stands t (get_or D n 0) (data_words 1 (get_or (function_rule R f).at_label a.label Undefined))) e
-          (standing_at t D (w * f + 2) ((function_rule R f).at_start ∷ (function_rule R f).at_label) (directory_row R form t T D d f h).expressions (suc a.label) l)
+          subst (λ n. Stands t (get_or D n 0) (data_words R.edition.width (get_or (function_rule R f).at_label a.label Undefined))) e
+          (standing_at R.edition.width t D (w * f + 2) ((function_rule R f).at_start ∷ (function_rule R f).at_label) (directory_row R form t T D d f h).expressions (suc a.label) l)
 
       renew_ready : (f : ℕ) → f < length R.functions → Ready A (some a) (cell_at A cells) t D M w (3 + a.label) f
       renew_ready f h = record {
@@ -94,7 +94,7 @@ module _ (R : RuleSet) (form : Form R) where
         names_known = omega arith;
         variables_few = omega (arith, one_arity R form f, arguments_counted R form a good);
         in_scope = subst (λ (F : AttributeFunction). DataInScope (get_or F.at_label a.label Undefined) (label_scope A f (length (label R a.label)))) (sym (function_is R f h)) ((form.function_forms f h).at_label a.label good.0);
-        stands = subst (λ (F : AttributeFunction). Stands t (get_or D (w * f + (3 + a.label)) 0) (data_words 1 (get_or F.at_label a.label Undefined))) (sym (function_is R f h)) (label_stands f h);
+        stands = subst (λ (F : AttributeFunction). Stands t (get_or D (w * f + (3 + a.label)) 0) (data_words R.edition.width (get_or F.at_label a.label Undefined))) (sym (function_is R f h)) (label_stands f h);
         before_reads = λ g l vs. reads_cells A M laid cells all at_most (before_place M) old g l vs;
       }
 
