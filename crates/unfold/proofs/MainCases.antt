@@ -37,7 +37,7 @@ into_put t T n i σ a b y left z e u = record {
 -- k is the number of processes
 module _ (t T x : List ℕ) where
   abbrev Main : List ℕ → ℕ → Type 0
-  Main y w = (length y ≡ length x) × ((R : RuleSet) → Ready t T R → length (words 1 (unfold_main R)) ≤ 65535 → 2 * length (words 1 (unfold_main R)) ≤ length x → (w ≡ length (words 1 (unfold_main R))) × (y ≡ written (words 1 (unfold_main R)) x))
+  Main y w = (length y ≡ length x) × ((R : RuleSet) → Ready t T R → length (words R.edition.width (unfold_main R)) ≤ 65535 → 2 * length (words R.edition.width (unfold_main R)) ≤ length x → (w ≡ length (words R.edition.width (unfold_main R))) × (y ≡ written (words R.edition.width (unfold_main R)) x))
 
   module _ (k : ℕ) (is_k : k ≡ get_or T 211 0) where
     counted : (R : RuleSet) → Ready t T R → k ≡ length R.processes
@@ -60,7 +60,7 @@ module _ (t T x : List ℕ) where
         long u.same_length,
         λ R ready few room.
             let p = main_process R in
-            let ws = words 1 (unfold_main R) in
+            let ws = words R.edition.width (unfold_main R) in
             let some = ready.form.process_count.0 in
             let below : p < length R.processes = omega arith in
             let p_is : k - 1 ≡ p = omega (arith, counted R ready) in

@@ -36,14 +36,14 @@ module _ (t T : List ℕ) (R : RuleSet) (ready : Ready t T R) where
       sym (process_at T p (omega (arith, process_count)))
       ∙ (sym (get_or-map (λ (P : Process). P.parameters) (declared T).processes p no_process) ∙ ap (λ l. get_or l p []) ready.declares.same_processes ∙ get_or-map (λ (P : Process). P.parameters) R.processes p no_process)
 
-  standing : (Ps : List Process) (q p : ℕ) → ProcessRows t T q Ps → p < length Ps → Stands t (get_or T (process_place (q + p) + 8) 0) (rule_words 1 (get_or Ps p no_process).term)
+  standing : (Ps : List Process) (q p : ℕ) → ProcessRows R.edition.width t T q Ps → p < length Ps → Stands t (get_or T (process_place (q + p) + 8) 0) (rule_words R.edition.width (get_or Ps p no_process).term)
   standing [] q p h l = absurd (let z : ⊥ = omega arith in z)
-  standing (P ∷ Ps) q zero h l = subst (λ k. Stands t (get_or T (process_place k + 8) 0) (rule_words 1 P.term)) (let z : q ≡ q + 0 = omega arith in z) h.0
+  standing (P ∷ Ps) q zero h l = subst (λ k. Stands t (get_or T (process_place k + 8) 0) (rule_words R.edition.width P.term)) (let z : q ≡ q + 0 = omega arith in z) h.0
   standing (P ∷ Ps) q (suc p) h l =
-      subst (λ k. Stands t (get_or T (process_place k + 8) 0) (rule_words 1 (get_or Ps p no_process).term)) (let z : suc q + p ≡ q + suc p = omega arith in z) (standing Ps (suc q) p h.1 (omega arith))
+      subst (λ k. Stands t (get_or T (process_place k + 8) 0) (rule_words R.edition.width (get_or Ps p no_process).term)) (let z : suc q + p ≡ q + suc p = omega arith in z) (standing Ps (suc q) p h.1 (omega arith))
 
-  pub body_stands : (p : ℕ) → p < length R.processes → Stands t (get_or T (212 + 9 * p + 8) 0) (rule_words 1 (process R p).term)
-  body_stands p h = subst (λ k. Stands t (get_or T (process_place k + 8) 0) (rule_words 1 (process R p).term)) (let z : 0 + p ≡ p = omega arith in z) (standing R.processes 0 p ready.processes h)
+  pub body_stands : (p : ℕ) → p < length R.processes → Stands t (get_or T (212 + 9 * p + 8) 0) (rule_words R.edition.width (process R p).term)
+  body_stands p h = subst (λ k. Stands t (get_or T (process_place k + 8) 0) (rule_words R.edition.width (process R p).term)) (let z : 0 + p ≡ p = omega arith in z) (standing R.processes 0 p ready.processes h)
 
 -- ── functions of one argument ──
 

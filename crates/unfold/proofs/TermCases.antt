@@ -32,7 +32,7 @@ module _ (t T : List ℕ) (n i : ℕ) (σ : List ℕ) (x y : Writer) where
       (λ ws rest s.
       let u = s.one in
       let d = p.unfolded u.rules u.domains u.term s.between u.ready u.there in
-      omega (arith, d.left_is, ap length u.there.spelled, length-append (rule_words 1 u.term) s.between, last_size n t (last_of n t) refl))
+      omega (arith, d.left_is, ap length u.there.spelled, length-append (rule_words u.rules.edition.width u.term) s.between, last_size n t (last_of n t) refl))
       p.same_buffer p.same_length
 
   pub two_put : (left : ℕ) (z : Writer) (r : Option ℕ) → Unfolding t T n i σ x y (Some left) → Unfolding t T left i σ y z r → Puts (TwoTerms t T n i σ) x z r

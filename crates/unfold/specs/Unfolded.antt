@@ -19,7 +19,7 @@ use Rattle.unfold.specs.Written.{written_from}
 pub record Ready (t T : List ℕ) (R : RuleSet) : Type 0 where
   pub form : Form R
   pub declares : Declares T R
-  pub processes : ProcessRows t T 0 R.processes
+  pub processes : ProcessRows R.edition.width t T 0 R.processes
 
 -- Where n words of t are left is a term of process i; its variables have the domains Γ and the values σ.
 pub record RuleTermAt (t : List ℕ) (n : ℕ) (R : RuleSet) (i : ℕ) (Γ σ : List ℕ) (E : RuleTerm) (rest : List ℕ) : Type 0 where
@@ -27,10 +27,10 @@ pub record RuleTermAt (t : List ℕ) (n : ℕ) (R : RuleSet) (i : ℕ) (Γ σ : 
   pub fits : Allowed R i Γ E
   pub values : Within (sizes_of R Γ) σ
   pub few : length Γ ≤ 8
-  pub spelled : last_of n t ≡ rule_words 1 E ++ rest
+  pub spelled : last_of n t ≡ rule_words R.edition.width E ++ rest
 
 abbrev pub unfolded_words : RuleSet → ℕ → RuleTerm → List ℕ → List ℕ
-unfolded_words R i E σ = words 1 (unfold_in R i E σ)
+unfolded_words R i E σ = words R.edition.width (unfold_in R i E σ)
 
 -- What D says of the words, the tables, how many words are left, the process and the values of its variables.
 abbrev pub Here : {A : Type 1} → (List ℕ → List ℕ → ℕ → ℕ → List ℕ → A) → Scope → ℕ → A

@@ -260,7 +260,7 @@ fn unfold_into(scope: &Scope, n: usize, out: &mut [u8]) -> Option<usize>
 // then, which no field of a struct holds.
 pub fn unfold_main(t: &[u16], tb: &[u32], out: &mut [u8]) -> usize
     requires { length t.now ≤ 65535 }
-    ensures { (length out.new ≡ length out.old) × ((R : RuleSet) → Ready t.now tb.now R → length (words 1 (unfold_main R)) ≤ 65535 → 2 * length (words 1 (unfold_main R)) ≤ length out.old → (result ≡ length (words 1 (unfold_main R))) × (out.new ≡ written (words 1 (unfold_main R)) out.old)) }
+    ensures { (length out.new ≡ length out.old) × ((R : RuleSet) → Ready t.now tb.now R → length (words R.edition.width (unfold_main R)) ≤ 65535 → 2 * length (words R.edition.width (unfold_main R)) ≤ length out.old → (result ≡ length (words R.edition.width (unfold_main R))) × (out.new ≡ written (words R.edition.width (unfold_main R)) out.old)) }
 {
     let count = processes(tb);
     if count == 0 || 32 < count {
