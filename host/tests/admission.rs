@@ -211,11 +211,11 @@ fn check(case: &Case) -> Answer {
 #[test]
 fn every_refusal_is_met() {
     let rounds = std::env::var("ROUNDS").ok().and_then(|rounds| rounds.parse().ok()).unwrap_or(1);
-    let (mut met, mut foretold) = ([0usize; 9], 0usize);
+    let (mut met, mut known) = ([0usize; 9], 0usize);
     on_large_stack(|| {
         every_case(rounds, &mut |case| {
             met[usize::from(check(&case).err().unwrap_or(0))] += 1;
-            foretold += usize::from(case.expected != Expected::Open);
+            known += usize::from(case.expected != Expected::Open);
         });
     });
     let who = if cfg!(cabinet) { "the engine and the plain reader" } else { "the plain reader alone" };
@@ -223,7 +223,7 @@ fn every_refusal_is_met() {
     let cases: usize = met.iter().sum();
     // Written to the handle, not by println!, so that the test harness does not swallow it.
     let mut output = std::io::stdout().lock();
-    writeln!(output, "{cases} cases to {who}, {foretold} with the answer foretold").unwrap();
+    writeln!(output, "{cases} cases to {who}, {known} with a known answer").unwrap();
     writeln!(output, "admitted: {}; refused {}", met[0], counts.join(", ")).unwrap();
     drop(output);
     for (answer, &count) in met.iter().enumerate() {
