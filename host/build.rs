@@ -1,7 +1,8 @@
-//! Links the engine, `../target/staticlib/libcabinet.a`, where it has been built, and says so by the
-//! cfg `cabinet`; the cfg `session` says that the printing program, `../target/bin/session`, is there, and the cfg
-//! `before` that the engine of another revision, `../target/before/libbefore.a` (made by `before`), is.
-//! Without them everything else still compiles, and the tests run on the plain reader.
+//! Links the engine, `../target/staticlib/libcabinet.a`, if it has been built, and sets the cfg `cabinet`.
+//! Sets the cfg `session` if the printing program, `../target/bin/session`, has been built, and the cfg
+//! `before` if the engine of another revision, `../target/before/libbefore.a` (made by `host/before`), has
+//! been. Without them everything else still compiles, and the tests run on the plain reader and the plain
+//! interpreter alone.
 
 use std::env;
 use std::path::PathBuf;

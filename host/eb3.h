@@ -21,23 +21,23 @@
  *   Alignment   None: a slice may begin at any address.
  *   Stack       EB3_STACK_BYTES free at the call.
  *   Terms       A given term comes with its exact length, EB3_TERM_BYTES(size), for the size that
- *               was answered when it was written; not with the length of the buffer it lies in.
+ *               was returned when it was written; not with the length of the buffer it is in.
  *   Machine     Addresses of 64 bits (this header refuses to compile for others).
  *   Linking     The library calls memcpy and memset, and nothing else: no heap, no files.
- * Nothing else is asked: whatever the bytes and numbers are, the call returns, and answers as said
- * below.
+ * Nothing else is asked: whatever the bytes and numbers are, the call returns, with the answer that
+ * is specified below.
  *
  * What the host may count on
- *   State       No call keeps anything or trusts an earlier one: each reads the rule set anew. So
+ *   State       No call keeps anything or trusts an earlier one: each reads the rule set again. So
  *               threads may call at the same time, each with slices of its own to write to, a table
- *               of its own too; and the rules, the term, its size and the memory are all that must
- *               outlive a power cut, and a table whose counts are to go on.
+ *               of its own too. To continue after a power cut a host needs the rules, the term, its
+ *               size and the memory, and the table if its counts are to continue.
  *   Answers     `refusal` is EB3_DONE, or the number of a refusal: then the other fields are 0 and
  *               no slice was written, the table and the spare ones of eb3_run included.
  *   Room        Buffers of the sizes that eb3_admit reports are enough for every term and memory
  *               that moves lead to from the start: no move enlarges what a term needs. So a host
- *               that starts, and then moves in two pairs of such buffers by turns, meets no
- *               refusal but EB3_REFUSED_NOT_OFFERED, and comes to what eb3_run leaves (proved:
+ *               that starts, and then moves between two pairs of such buffers in turn, gets no
+ *               refusal but EB3_REFUSED_NOT_OFFERED, and ends with what eb3_run leaves (proved:
  *               docs/PROMISES.md).
  *   Bytes       Words and cells are 16 bits, counts in a table 32, the low byte first. Bytes after
  *               what an operation writes keep their values. An odd last byte is ignored and kept;
@@ -60,7 +60,7 @@ extern "C" {
 /* Stack for a call of any operation, in bytes (4 MiB); measurements are in docs/BENCHMARKS.md. */
 #define EB3_STACK_BYTES 4194304
 
-/* Sizes in bytes, for the figures that eb3_admit reports: EB3_TERM_BYTES(reach) of a term buffer,
+/* Sizes in bytes, from the numbers that eb3_admit reports: EB3_TERM_BYTES(reach) of a term buffer,
  * EB3_TERM_BYTES(size) of a term in it, EB3_MEMORY_BYTES(cells) of a memory. */
 #define EB3_TERM_BYTES(words) (sizeof(uint16_t) * (words))
 #define EB3_MEMORY_BYTES(cells) (sizeof(uint16_t) * (cells))
@@ -73,23 +73,24 @@ extern "C" {
 /* The word of a cell whose value is undefined; every other word is a number up to 65,534. */
 #define EB3_UNDEFINED 65535
 
-/* An event for eb3_present is EB3_EVENT_INTERNAL alone; or EB3_EVENT_ACTION, the label and, for
- * each of the label's parameters, EB3_EVENT_CONSTANT and the element's number: up to six words. */
+/* An event for eb3_present is the word EB3_EVENT_INTERNAL alone; or EB3_EVENT_ACTION, the label, and
+ * for each of the label's parameters EB3_EVENT_CONSTANT and the element's number: up to six
+ * words. */
 #define EB3_EVENT_INTERNAL 20
 #define EB3_EVENT_ACTION 21
 #define EB3_EVENT_CONSTANT 1
 #define EB3_MAX_EVENT_BYTES 12
 
-/* Card readers have the numbers 1 to EB3_READERS. A table for eb3_run has a record for each, 12
- * bytes long, reader 1's first: how many of the reader's numbers made an event, made an internal
- * move, and were refused. Three counts of 32 bits in this order: of reader r they begin
- * at the bytes 12 * (r - 1), 12 * (r - 1) + 4 and 12 * (r - 1) + 8. */
+/* Card readers have the numbers 1 to EB3_READERS. A table for eb3_run has a record of 12 bytes for
+ * each, reader 1's first: three counts of 32 bits, of the reader's numbers that made an event, that
+ * made an internal move, and that were refused, in this order. Those of reader r begin at the bytes
+ * 12 * (r - 1), 12 * (r - 1) + 4 and 12 * (r - 1) + 8. */
 #define EB3_READERS 32
 #define EB3_TABLE_BYTES (12 * EB3_READERS)
 
 /* Refusals. They are tested in the order 1 to 8, 10, 11, 9, 12, in eb3_run 13 after 9, and the
- * first that applies is answered; of 4, 5 and 6 the one at the first wrong word of the rules, and
- * at one word 4 before 5 before 6. Each operation says below which of them it can answer. */
+ * first that applies is returned; of 4, 5 and 6 the one at the first wrong word of the rules, and
+ * at one word 4 before 5 before 6. The comment of each operation lists those it can return. */
 enum eb3_refusal {
     EB3_DONE = 0,                 /* not refused */
     EB3_REFUSED_LENGTH = 1,       /* the rules are not 1 to 64 whole blocks */
@@ -128,9 +129,9 @@ typedef struct {
 typedef struct {
     uint32_t refusal;
     uint32_t size;      /* words of the next term, as written */
-    uint32_t visible;   /* 1: an event, told by the next fields; 0: internal, and they are 0 */
+    uint32_t visible;   /* 1: an event, given by the next fields; 0: internal, and they are 0 */
     uint32_t label;
-    uint32_t arguments; /* how many of the next two count: 0, 1 or 2; the others are 0 */
+    uint32_t arguments; /* how many of the next two are used: 0, 1 or 2; the others are 0 */
     uint32_t first;
     uint32_t second;
 } eb3_moved;
@@ -143,27 +144,27 @@ typedef struct {
     uint64_t refused;  /* were refused: the sum of the three is how many numbers the list has */
 } eb3_ran;
 
-/* Admit. Reads the rules, writes nothing, answers their sizes. Refusals 1 to 8. */
+/* Admit. Reads the rules, writes nothing, returns their sizes. Refusals 1 to 8. */
 eb3_sizes eb3_admit(const uint8_t *rules, size_t rules_len);
 
-/* Start. Writes `size` words to the front of `term` and all cells to the front of `memory`, which
- * have room for the reported reach and cells, else refusal 9. Refusals 1 to 8, 9. */
+/* Start. Writes `size` words to the beginning of `term` and all cells to the beginning of `memory`.
+ * The two must have room for the reported reach and cells, else refusal 9. Refusals 1 to 8, 9. */
 eb3_started eb3_start(const uint8_t *rules, size_t rules_len,
                       uint8_t *term, size_t term_len,
                       uint8_t *memory, size_t memory_len);
 
-/* Count. Writes nothing, answers how many moves the term has at this memory. The memory has all
- * cells, else refusal 9; bytes behind them do not count. Refusals 1 to 8, 10, 9. */
+/* Count. Writes nothing, returns how many moves the term has at this memory. The memory must have
+ * all cells, else refusal 9; bytes after them are ignored. Refusals 1 to 8, 10, 9. */
 eb3_counted eb3_count(const uint8_t *rules, size_t rules_len,
                       const uint8_t *term, size_t term_len,
                       const uint8_t *memory, size_t memory_len);
 
-/* Move. Writes the term after move `number`, `size` words, to the front of `next_term`, and all
- * cells after it to the front of `next_memory`; answers what the move is. An internal move writes
- * the cells as they were given. The given state stays as it is: to list its moves, make each in
- * turn. The given memory and `next_memory` have room for all cells, and `next_term` for the given
- * term's own reach (for a term that moves lead to from the start, the reported reach is enough),
- * else refusal 9. A number that is not below the count is refusal 12.
+/* Move. Writes the term after move `number`, `size` words, to the beginning of `next_term`, and all
+ * cells after the move to the beginning of `next_memory`; returns the move's action. An internal
+ * move writes the cells as they were given. The given state is not changed: to list its moves, make
+ * each in turn. The given memory and `next_memory` must have room for all cells, and `next_term`
+ * for the given term's own reach (for a term that moves lead to from the start, the reported reach
+ * is enough), else refusal 9. A number that is not below the count is refusal 12.
  * Refusals 1 to 8, 10, 9, 12. */
 eb3_moved eb3_move(const uint8_t *rules, size_t rules_len,
                    const uint8_t *term, size_t term_len,
@@ -172,8 +173,8 @@ eb3_moved eb3_move(const uint8_t *rules, size_t rules_len,
                    uint8_t *next_term, size_t next_term_len,
                    uint8_t *next_memory, size_t next_memory_len);
 
-/* Present. The move with the smallest number that is the given event, made as eb3_move makes it.
- * An event that is not of the rules is refusal 11, one that no move has now 12.
+/* Present. Makes the move with the smallest number whose action is the given event, as eb3_move
+ * does. An event that the rules do not have is refusal 11, one that no move has now refusal 12.
  * Refusals 1 to 8, 10, 11, 9, 12. */
 eb3_moved eb3_present(const uint8_t *rules, size_t rules_len,
                       const uint8_t *term, size_t term_len,
@@ -184,16 +185,16 @@ eb3_moved eb3_present(const uint8_t *rules, size_t rules_len,
 
 /* Run. `list` has two words for each move that is asked for, as many as you like: the move's
  * number and its card reader. The moves are made in order, from the start. A number that is not
- * below the count changes nothing and is counted in `refused`. Writes the last term to the front
- * of `term`, with zeros from its size up to the reported reach, and all cells to the front of
- * `memory`. Adds to each reader's record in `table`, which may hold anything before, what was
- * counted at that reader's numbers; a count that passes 4,294,967,295 goes on from 0. Bytes after
- * the records of all readers keep their values. `spare_term` and `spare_memory` are scratch: their
- * words may be anything afterwards. The terms and memories, all four, have room for the reported
- * reach and cells, else refusal 9. A number without a reader or with one that is not 1 to
- * EB3_READERS, anywhere in the list, or a table below EB3_TABLE_BYTES is refusal 13, before any
- * move is made. So a list of 4n bytes, or of 4n + 1, has n numbers, and one of 4n + 2 or 4n + 3
- * bytes is refused. Refusals 1 to 8, 9, 13. */
+ * below the count changes nothing and is counted in `refused`. Writes the last term to the
+ * beginning of `term`, with zeros from its size up to the reported reach, and all cells to the
+ * beginning of `memory`. Adds to each reader's record in `table` what was counted at that reader's
+ * numbers; the table may hold anything before the call, and a count that passes 4,294,967,295
+ * starts again at 0. Bytes after the records of all readers keep their values. `spare_term` and
+ * `spare_memory` are scratch: their words may be anything afterwards. The two terms and the two
+ * memories must have room for the reported reach and cells, else refusal 9. A number without a
+ * reader or with one that is not 1 to EB3_READERS, anywhere in the list, or a table of fewer than
+ * EB3_TABLE_BYTES is refusal 13, before any move is made. So a list of 4n or 4n + 1 bytes has n
+ * numbers, and one of 4n + 2 or 4n + 3 bytes is refused. Refusals 1 to 8, 9, 13. */
 eb3_ran eb3_run(const uint8_t *rules, size_t rules_len,
                 const uint8_t *list, size_t list_len,
                 uint8_t *table, size_t table_len,

@@ -3,11 +3,11 @@
  *     cabinet_host RULES.eb3
  *
  * There are two terms and two memories. The engine reads the current pair and writes the other, and
- * a move that was made swaps the two by their index: nothing is copied, and a refused move leaves
- * the state as it was. What is asked for is noted, each move with its card reader; at the end the
- * engine runs it all once more, for the table that says which reader collects the refusals. The
- * buffers and the functions under "the engine" are what a controller needs of this; the rest, with
- * input.c, reads commands and prints.
+ * after a move the two are exchanged by their index: nothing is copied, and a refused move leaves
+ * the state as it was. Every move that is asked for is recorded with its card reader; at the end
+ * the engine runs the whole list again, to fill the table of each reader's refusals. A controller
+ * needs the buffers and the functions under "the engine"; the rest, with input.c, reads commands
+ * and prints.
  */
 #define _POSIX_C_SOURCE 200112L
 
@@ -21,11 +21,11 @@
 #include <stdio.h>
 #include <string.h>
 
-/* The engine's stack, and some for the functions here and in the C library. */
+/* The engine's stack, and room for the functions here and in the C library. */
 #define HOST_STACK_BYTES 131072
 #define STACK_BYTES (EB3_STACK_BYTES + HOST_STACK_BYTES)
 
-/* What the program exits with. */
+/* The program's exit statuses. */
 enum status {
     STATUS_DONE = 0,
     STATUS_USAGE = 1,   /* called with wrong arguments */
@@ -34,14 +34,14 @@ enum status {
     STATUS_BROKEN = 4   /* no thread with such a stack, or nothing can be printed */
 };
 
-/* The largest that any rule set needs; a host for one rule set can have less (eb3_admit says what).
- * The rules have one byte more, by which a file is seen to be too long. */
+/* The largest that any rule set needs; for one rule set the sizes from eb3_admit are enough.
+ * The buffer for the rules has one byte more, so that a file that is too long is noticed. */
 static uint8_t rules[EB3_MAX_RULES_BYTES + 1];
 static uint8_t terms[2][EB3_MAX_TERM_BYTES];
 static uint8_t memories[2][EB3_MAX_MEMORY_BYTES];
 
-/* What was asked for, as eb3_run takes it: two words each, a move's number and its reader. Where no
- * more can be noted, the session ends. */
+/* The moves asked for, as eb3_run takes them: two words each, a move's number and its reader. When
+ * the list is full, the session ends. */
 #define MOST_ASKED 4096
 static uint8_t asked[MOST_ASKED * 2 * sizeof(uint16_t)];
 static uint8_t table[EB3_TABLE_BYTES];
@@ -53,13 +53,13 @@ struct cabinet {
     uint32_t cells;
     unsigned current; /* 0 or 1: which term and memory are the state; the others are free */
     unsigned reader;  /* at which moves are asked for now */
-    size_t asked_len; /* of what was asked for, in bytes */
+    size_t asked_len; /* of the moves asked for, in bytes */
     int status;
 };
 
 /* ---- the engine, called on the buffers ---- */
 
-/* All but `count` write into the free pair, which is the state once it is settled. */
+/* All but `count` write into the free pair; `settle` then makes that pair the state. */
 static eb3_started start(const struct cabinet *cabinet)
 {
     unsigned next = 1 - cabinet->current;
@@ -96,8 +96,8 @@ static void settle(struct cabinet *cabinet, uint32_t size)
     cabinet->term_len = EB3_TERM_BYTES(size);
 }
 
-/* The whole session once more, from the start. It ends in the free pair and has the current one for
- * scratch, so nothing can be moved afterwards. */
+/* Runs the whole session again, from the start. The result is written to the free pair, and the
+ * current pair is used as scratch, so no move can be made afterwards. */
 static eb3_ran run(const struct cabinet *cabinet)
 {
     unsigned now = cabinet->current, next = 1 - now;
@@ -106,7 +106,8 @@ static eb3_ran run(const struct cabinet *cabinet)
                    terms[now], sizeof terms[now], memories[now], sizeof memories[now]);
 }
 
-/* No term has a move 65535: it is noted for every larger number, and for a refused event. */
+/* Appends a number and the current reader to the list of moves asked for. No term has a move 65535,
+ * so that number stands for every larger one, and for a refused event. */
 static void note(struct cabinet *cabinet, uint64_t number)
 {
     uint64_t word = number < UINT16_MAX ? number : UINT16_MAX;
@@ -115,7 +116,7 @@ static void note(struct cabinet *cabinet, uint64_t number)
 }
 
 /* The number of the move that eb3_present made, for the list of a run: the first with its action.
- * That move is made last here, so the free pair holds what eb3_present left there. */
+ * This makes the moves in turn, that one last, so the free pair holds what eb3_present left. */
 static uint64_t number_of(const struct cabinet *cabinet, eb3_moved made)
 {
     if (made.refusal != EB3_DONE)
@@ -157,7 +158,7 @@ static void print_refusal(FILE *out, uint32_t refusal)
     fprintf(out, "refused %" PRIu32 ", %s\n", refusal, refusal_in_words(refusal));
 }
 
-/* What a move is, or why there is none. */
+/* Prints a move's action, or its refusal. */
 static void print_move(eb3_moved made)
 {
     if (made.refusal != EB3_DONE) {
@@ -201,7 +202,7 @@ static void list_moves(const struct cabinet *cabinet)
     printf("moves %" PRIu32 "\n", counted.moves);
     for (uint32_t number = 0; number < counted.moves; number++) {
         printf("%8" PRIu32 "  ", number);
-        print_move(move(cabinet, number)); /* made, seen, and not settled */
+        print_move(move(cabinet, number)); /* without settle, the state stays as it is */
     }
 }
 
@@ -224,7 +225,7 @@ static uint32_t read_count(const uint8_t *bytes)
     return bytes[0] + 256u * bytes[1] + 65536u * bytes[2] + 16777216u * bytes[3];
 }
 
-/* The counts of each reader at which something was asked for. */
+/* Prints the counts of each reader at which a move was asked for. */
 static void print_readers(const struct cabinet *cabinet)
 {
     eb3_ran ran = run(cabinet);
@@ -252,7 +253,7 @@ static void conclude(struct cabinet *cabinet, uint64_t number, eb3_moved made)
     print_move(made);
 }
 
-/* Answers whether the words are a command. */
+/* Returns whether the words are a command. */
 static bool obey(struct cabinet *cabinet, char *const words[], size_t used)
 {
     if (used == 1 && strcmp(words[0], "list") == 0) {
@@ -299,7 +300,7 @@ static void converse(struct cabinet *cabinet)
             return;
         if (!obey(cabinet, words, used))
             printf("not a command; try help\n");
-        fflush(stdout); /* whoever types, or waits at a pipe, sees the answer now */
+        fflush(stdout); /* the answer is seen before the next command, through a pipe too */
     }
 }
 
@@ -321,7 +322,7 @@ static int open_cabinet(struct cabinet *cabinet)
     return STATUS_DONE;
 }
 
-/* What is done on the engine's stack. */
+/* The work of the thread that has the engine's stack. */
 static void *serve(void *argument)
 {
     struct cabinet *cabinet = argument;
@@ -333,7 +334,7 @@ static void *serve(void *argument)
     return NULL;
 }
 
-/* Waits for the work's end; answers 0, or the number of what went wrong. */
+/* Runs the work in a thread with that stack and waits for its end; returns 0 or an error number. */
 static int run_on_stack(void *(*work)(void *), void *argument)
 {
     pthread_attr_t attributes;

@@ -1,5 +1,5 @@
 /* Commands from standard input (the sample host; document 02, K1: which reader asks). input.h says
- * what each function answers. */
+ * what each function returns. */
 #include "input.h"
 
 #include <stdio.h>

@@ -1,16 +1,16 @@
-//! Words to blocks: numbers and sums, and the repair of sums after damage.
+//! Words to blocks: block numbers and sums, and new sums for damaged blocks.
 //!
-//! Document 01, "Blocks and the rule stream": "A file is 1 to 64 blocks of 512 bytes: bytes 0-1 the
-//! block's number from 0, byte 2 sum A, byte 3 sum B, bytes 4-511 content." The sums are computed here
-//! step by step as that paragraph says it; the plain reader has a quicker form of its own, so that
-//! neither hides a fault of the other.
+//! Document 01, "Blocks and the rule stream": "A file is 1 to 64 blocks of 512 bytes: bytes 0-1 the block's
+//! number from 0, byte 2 sum A, byte 3 sum B, bytes 4-511 content." The sums are computed here step by step
+//! as that paragraph says; the plain reader has a faster form of its own, so that a mistake in one does not
+//! hide the same mistake in the other.
 
-/// Bytes of a block, of its content, and words of its content.
+/// Bytes of a block and of its header, and words of its content.
 pub const BLOCK_BYTES: usize = 512;
 pub const HEADER_BYTES: usize = 4;
 pub const CONTENT_WORDS: usize = 254;
 
-/// A file has at most so many blocks.
+/// The most blocks that a file may have.
 pub const MOST_BLOCKS: usize = 64;
 
 /// Words of the longest stream.
@@ -27,17 +27,18 @@ pub fn sums(block: &[u8]) -> (u8, u8) {
     (a as u8, b as u8)
 }
 
-/// The least number of blocks that holds so many words.
+/// The least number of blocks that holds n words.
 pub fn blocks_for(words: usize) -> usize {
     words.div_ceil(CONTENT_WORDS)
 }
 
-/// As few blocks as hold the words.
+/// The words as content of as few blocks as hold them.
 pub fn file_of(words: &[u16]) -> Vec<u8> {
     file_in(words, blocks_for(words.len()))
 }
 
-/// So many blocks, with the words as content and zeros behind them; words that do not fit are left out.
+/// The words as content of the given number of blocks, with zeros after them; words that do not fit are
+/// dropped.
 pub fn file_in(words: &[u16], blocks: usize) -> Vec<u8> {
     let mut file = vec![0u8; blocks * BLOCK_BYTES];
     for (number, block) in file.chunks_exact_mut(BLOCK_BYTES).enumerate() {
@@ -52,7 +53,7 @@ pub fn file_in(words: &[u16], blocks: usize) -> Vec<u8> {
     file
 }
 
-/// Gives every whole block the sums of its bytes as they are. Block numbers are left, right or wrong.
+/// Gives every whole block the right sums for its bytes. Block numbers are not changed.
 pub fn repair(file: &mut [u8]) {
     for block in file.chunks_exact_mut(BLOCK_BYTES) {
         let (a, b) = sums(block);
@@ -61,7 +62,7 @@ pub fn repair(file: &mut [u8]) {
     }
 }
 
-/// Where the low byte of a stream word lies in the file.
+/// The offset in the file of the low byte of stream word n.
 pub fn byte_of_word(word: usize) -> usize {
     word / CONTENT_WORDS * BLOCK_BYTES + HEADER_BYTES + word % CONTENT_WORDS * 2
 }

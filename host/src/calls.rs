@@ -1,11 +1,11 @@
-//! Calls of the operations as data: what is given, what is lent, what came of it.
+//! Calls of the operations as data: the inputs, the lent buffers and the outcome.
 //!
-//! Document 01, "Operations". Whoever implements them can be asked the same; a test holds two replies and
-//! the lent buffers afterwards against each other.
+//! Document 01, "Operations". Every implementation can be given the same call; a test compares two replies
+//! and the contents of the lent buffers afterwards.
 
 use crate::{plain, Counted, LentToRun, Moved, Ran, Started, Tally};
 
-/// The operations besides Admit, by slices in the order of eb3.h.
+/// The operations other than Admit, over slices in the order of eb3.h.
 pub trait Operations {
     fn start(&self, rules: &[u8], term: &mut [u8], memory: &mut [u8]) -> Started;
     fn count(&self, rules: &[u8], term: &[u8], memory: &[u8]) -> Counted;
@@ -71,7 +71,8 @@ impl Operations for Plain {
     }
 }
 
-/// Which operation. What it is given and lent stands beside it, in the order of eb3.h.
+/// An operation. The slices that each takes are listed with it, in the order of eb3.h: those it only reads
+/// (given) and those it may write (lent).
 #[derive(Clone, Copy, Debug, PartialEq, Eq)]
 pub enum Operation {
     /// Given rules; lent term, memory.
@@ -86,7 +87,7 @@ pub enum Operation {
     Run,
 }
 
-/// Each of them, Move with any number.
+/// All operations; Move has some number, since callers look at the operation only.
 pub const EVERY_OPERATION: [Operation; 5] =
     [Operation::Start, Operation::Count, Operation::Move(0), Operation::Present, Operation::Run];
 
@@ -96,11 +97,11 @@ pub struct Call {
     pub operation: Operation,
     pub given: Vec<Vec<u8>>,
     pub lent: Vec<Vec<u8>>,
-    /// The refusal, or 0 if there is none, where the generator knows it.
+    /// The refusal, or 0 if there is none; `None` if the generator does not know it.
     pub expected: Option<u8>,
 }
 
-/// What an operation answered.
+/// What an operation returned.
 #[derive(Clone, Copy, Debug, PartialEq, Eq)]
 pub enum Reply {
     Started(Started),
@@ -110,7 +111,7 @@ pub enum Reply {
 }
 
 impl Reply {
-    /// The refusal's number, or 0.
+    /// The refusal's number, or 0 if the operation was done.
     pub fn refusal(&self) -> u8 {
         let refusal = match self {
             Reply::Started(reply) => reply.err(),
@@ -122,7 +123,7 @@ impl Reply {
     }
 }
 
-/// A reply, and the lent buffers afterwards.
+/// A reply, and the lent buffers after the call.
 #[derive(Clone, Debug)]
 pub struct Outcome {
     pub reply: Reply,
@@ -130,7 +131,7 @@ pub struct Outcome {
 }
 
 impl Outcome {
-    /// The size and the counts of a run that was done.
+    /// The size and the counts of a run; panics if the run was refused.
     pub fn tally(&self) -> Tally {
         match self.reply {
             Reply::Ran(Ok(tally)) => tally,
@@ -138,8 +139,8 @@ impl Outcome {
         }
     }
 
-    /// Whether another outcome of the same call is the same. What a run that was done left in its scratch
-    /// buffers, the fourth and the fifth, does not count.
+    /// Whether two outcomes of the same call are equal. After a run that was done, the two scratch buffers,
+    /// the fourth and the fifth, are not compared.
     pub fn same(&self, other: &Outcome) -> bool {
         let counting = match self.reply {
             Reply::Ran(Ok(_)) => 3,
@@ -149,7 +150,7 @@ impl Outcome {
     }
 }
 
-/// Hands the slices over.
+/// Calls the operation with these slices.
 pub fn ask(by: &dyn Operations, operation: Operation, given: &[&[u8]], lent: &mut [&mut [u8]]) -> Reply {
     match (operation, given, lent) {
         (Operation::Start, [rules], [term, memory]) => Reply::Started(by.start(rules, term, memory)),
@@ -168,7 +169,7 @@ pub fn ask(by: &dyn Operations, operation: Operation, given: &[&[u8]], lent: &mu
 }
 
 impl Call {
-    /// Does the call on buffers of its own.
+    /// Makes the call on copies of its buffers.
     pub fn outcome(&self, by: &dyn Operations) -> Outcome {
         let mut lent = self.lent.clone();
         let given: Vec<&[u8]> = self.given.iter().map(Vec::as_slice).collect();

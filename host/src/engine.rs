@@ -1,8 +1,8 @@
-//! The engine behind its C interface (`eb3.h`), as safe Rust functions. Only there with the static
-//! library (cfg `cabinet`).
+//! The engine as safe Rust functions over its C interface (`eb3.h`). Compiled only with the static library
+//! (cfg `cabinet`).
 //!
 //! Document 01, "Operations" and "A C host on the controller calls every operation with numbers and byte
-//! slices". Nothing checks these declarations against the engine's source but the tests.
+//! slices". Only the tests check these declarations against the engine's source.
 
 #[cfg(before)]
 pub mod before;
@@ -30,11 +30,11 @@ extern "C" {
 
 /// Admit, as the C interface answers it.
 pub fn admit_reply(rules: &[u8]) -> AdmitReply {
-    // SAFETY: the engine only reads the slice, and keeps nothing of it.
+    // SAFETY: the engine only reads the slice, and keeps no pointer to it.
     unsafe { eb3_admit(rules.as_ptr(), rules.len()) }
 }
 
-/// Admit given no bytes and no pointer: eb3.h allows any pointer with length 0.
+/// Admit with length 0 and a null pointer, which eb3.h allows.
 pub fn admit_nothing() -> AdmitReply {
     // SAFETY: no byte is read through a pointer that comes with length 0.
     unsafe { eb3_admit(std::ptr::null(), 0) }
@@ -45,8 +45,8 @@ pub fn admit(rules: &[u8]) -> Answer {
     answer_of(admit_reply(rules))
 }
 
-/// A refusal that carries anything but its number, or a number that is none of Admit's, is a fault of
-/// the engine.
+/// Panics, since it would be a fault of the engine, if a refusal has another field set or its number is not
+/// one of Admit's.
 fn answer_of(reply: AdmitReply) -> Answer {
     if reply.refusal == 0 {
         return Ok(Sizes {

@@ -1,28 +1,28 @@
-//! The rule sets of document 01's examples, and the library of source document 002 (figure 3), with the
-//! names that their listings use; and a cabinet that counts, for measurements.
+//! The rule sets of document 01's examples and the library of source document 002 (figure 3), with the names
+//! that their listings use; and two variants of the key cabinet for measurements.
 
 use crate::listing::Names;
 use crate::rules::{mask_of, Argument, Condition, Data, Function, Process, RuleSet, Term, NO_LABELS};
 
 use Argument::Variable;
 
-/// A process of these parameters.
+/// A process with these parameter domains.
 fn process(parameters: &[u16], term: Term) -> Process {
     Process { parameters: parameters.to_vec(), term }
 }
 
-/// The function's own value before the last event, for its parameter.
+/// `before` of the function itself at its parameter: its value before the last event.
 fn kept(function: u16) -> Data {
     Data::before(function, Data::Variable(0))
 }
 
-/// The value if the function's parameter is the given variable of the label, else the function's value
-/// before.
+/// `value` if the function's parameter equals the given variable of the label, else the function's value
+/// before the last event.
 fn where_same(variable: u16, value: Data, function: u16) -> Data {
     Data::choose(Condition::equal(Data::Variable(0), Data::Variable(variable)), value, kept(function))
 }
 
-/// Document 01's key cabinet, for so many keys: Take and Bring, and the function out.
+/// Document 01's key cabinet with n keys: labels Take and Bring, and the function out.
 pub fn key_cabinet(keys: u16) -> RuleSet {
     let out = Function {
         domain: 0,
@@ -37,10 +37,10 @@ pub fn key_cabinet(keys: u16) -> RuleSet {
     }
 }
 
-/// The key cabinet with a second function, uses: how often the key has been taken. Its value needs the
-/// whole history, where out needs no event before the key's last one. Take also asks that uses is not
-/// below 0: this reads the count and always holds, even of an undefined one, past 65,534. So no list of
-/// events is too long, whatever the number of keys.
+/// The key cabinet with a second function, uses, which counts how often the key has been taken. Its value
+/// depends on the whole history, where out depends on the key's last event only. The guard of Take also asks
+/// that uses is not below 0: this reads the count and always holds, also when the count is undefined because
+/// it has passed 65,534. So a list of events may be of any length.
 pub fn counting_cabinet(keys: u16) -> RuleSet {
     let uses = Function {
         domain: 0,
@@ -63,20 +63,20 @@ pub fn attended_cabinet(keys: u16) -> RuleSet {
     RuleSet { processes: vec![process(&[], main)], ..key_cabinet(keys) }
 }
 
-/// The key of variable 0 is not out.
+/// The key that is variable 0 is in the cabinet.
 fn inside() -> Condition {
     Condition::equal(Data::now(0, Data::Variable(0)), Data::Constant(0))
 }
 
-/// All keys, none waiting for another: each taken where that may be, then brought back, again and again.
+/// For each key, independently of the others: the key is taken if the condition holds and then brought back,
+/// again and again.
 fn each_key(may_be_taken: Condition) -> Term {
     let taken = Term::guard(may_be_taken, Term::action(0, &[Variable(0)]));
     let one_key = Term::star(Term::sequence(taken, Term::action(1, &[Variable(0)])));
     Term::parallel_over(0, NO_LABELS, one_key)
 }
 
-/// Document 01's copies of P11's choice, in parallel with mask a: ten have W 59,048, eleven are refused
-/// 8.
+/// Document 01's copies of P11's choice, in parallel with mask a: ten have W 59,048, eleven are refused 8.
 pub fn copies_of_choice(copies: u16) -> RuleSet {
     let a = || Term::action(0, &[]);
     RuleSet {
@@ -104,8 +104,8 @@ const BOOK: u16 = 0;
 const LOAN: u16 = 1;
 const MEMBER: u16 = 2;
 
-/// The library of source document 002, figure 3, for so many books and members, each member with at
-/// most so many loans. What differs from the figure is said in `library_names`.
+/// The library of source document 002, figure 3, with the given numbers of books and members and of loans
+/// that a member may have at a time. What differs from the figure is listed in `library_names`.
 pub fn library(books: u16, members: u16, most_loans: u16) -> RuleSet {
     let each_book = |term| Term::parallel_over(BOOKS, NO_LABELS, term);
     let each_member = |term| Term::parallel_over(MEMBERS, NO_LABELS, term);
@@ -144,7 +144,7 @@ fn borrower() -> Function {
     Function { domain: BOOKS, at_start: Data::Undefined, at_label }
 }
 
-/// How many books the member has, or undefined if not registered.
+/// How many books the member has, or undefined if the member is not registered.
 fn nb_loans() -> Function {
     let one = || Data::Constant(1);
     let returned_by = Condition::equal(Data::Variable(0), Data::before(BORROWER, Data::Variable(1)));
@@ -157,7 +157,7 @@ fn nb_loans() -> Function {
     Function { domain: MEMBERS, at_start: Data::Undefined, at_label }
 }
 
-/// No member has the book of this variable.
+/// No member has the book that is this variable.
 fn not_lent(book: u16) -> Condition {
     Condition::equal(Data::now(BORROWER, Data::Variable(book)), Data::Undefined)
 }
@@ -167,7 +167,7 @@ fn book() -> Term {
     Term::sequence(Term::action(ACQUIRE, &[Variable(0)]), discarded)
 }
 
-/// Variable 0 is the member, variable 1 the book, as the figure has them.
+/// Variable 0 is the member, variable 1 the book, as in the figure.
 fn loan(most_loans: u16) -> Term {
     let may_borrow = Condition::less(Data::now(NB_LOANS, Data::Variable(0)), Data::Constant(most_loans));
     let lent = Term::action(LEND, &[Variable(1), Variable(0)]);

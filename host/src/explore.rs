@@ -1,7 +1,7 @@
-//! The states that a rule set reaches, explored through Start, Count and Move alone.
+//! Explores the states that a rule set reaches, through Start, Count and Move alone.
 //!
-//! Document 01, "Operations". A state is a term and a memory; two states are one if their bytes are. It is
-//! how a host would look for what its rules allow, and makes a great many calls of any implementation.
+//! Document 01, "Operations". A state is a term and a memory; two states are the same if their bytes are. A
+//! host could search its rules in this way; as a test, it makes a great many calls of an implementation.
 
 use std::collections::HashSet;
 use std::hash::{DefaultHasher, Hash, Hasher};
@@ -9,21 +9,21 @@ use std::hash::{DefaultHasher, Hash, Hasher};
 use crate::calls::Operations;
 use crate::Sizes;
 
-/// What an exploration saw.
+/// The result of an exploration.
 #[derive(Clone, Copy, Debug, Default, PartialEq, Eq)]
 pub struct Explored {
     pub states: usize,
-    /// A sum over the states, so that two explorations of other states are seen to be two.
+    /// A checksum over the states, to compare two explorations by.
     pub sum: u64,
-    /// Moves of all states together.
+    /// The number of moves, over all states.
     pub moves: usize,
-    /// States without a move.
+    /// The number of states without a move.
     pub ends: usize,
-    /// Whether every state was opened: there were not more than the most.
+    /// Whether every reachable state was visited, that is, whether there are fewer than the limit.
     pub whole: bool,
 }
 
-/// Explores the states of an admitted rule set, at most so many.
+/// Explores the states of an admitted rule set, at most `most` of them.
 pub fn explore(by: &dyn Operations, rules: &[u8], sizes: Sizes, most: usize) -> Explored {
     let (reach, cells) = (2 * sizes.reach as usize, 2 * sizes.cells as usize);
     let (mut term, mut memory) = (vec![0; reach], vec![0; cells]);

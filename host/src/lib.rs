@@ -1,9 +1,9 @@
-//! The host side of the cabinet engine: rule sets as trees and as block files, a plain admission reader
-//! written apart from the engine, a generator of right and faulty rule sets, and, where the static
-//! library is there, the engine itself.
+//! The host side of the cabinet engine: rule sets as trees and as block files; a plain reader and
+//! interpreter, written independently of the engine; generators of right and faulty rule sets and calls; and,
+//! if the static library is linked, the engine itself.
 //!
-//! Document 01 is the scope (`01-scope.md`), document 02 has the requests after it (`02-change-requests.md`);
-//! `docs/DECISIONS.md` says how their sentences are read. Each module names the paragraph that it renders.
+//! Document 01 is the scope (`01-scope.md`), document 02 has the later requests (`02-change-requests.md`);
+//! `docs/DECISIONS.md` says how their sentences are read. Each module names the paragraph that it implements.
 
 pub mod blocks;
 pub mod calls;
@@ -21,23 +21,23 @@ pub mod plot;
 pub mod rules;
 pub mod unfold;
 
-/// What Admit answers (document 01, "Operations"): C, G, W and the start term's size.
+/// What Admit returns (document 01, "Operations"): C, G, W and the start term's size.
 #[derive(Clone, Copy, Debug, PartialEq, Eq)]
 pub struct Sizes {
-    /// C: cells of a memory.
+    /// C: the number of cells of a memory.
     pub cells: u32,
-    /// G: words of a term buffer.
+    /// G: the number of words of a term buffer.
     pub reach: u32,
-    /// W: the most moves a term has.
+    /// W: the most moves that a term has.
     pub breadth: u32,
-    /// Words of the start term.
+    /// The number of words of the start term.
     pub size: u32,
 }
 
 /// The sizes, or the number of a refusal.
 pub type Answer = Result<Sizes, u8>;
 
-/// The words of the start term, or the number of a refusal.
+/// The number of words of the start term, or the number of a refusal.
 pub type Started = Result<u32, u8>;
 
 /// The number of moves, or the number of a refusal.
@@ -47,7 +47,7 @@ pub type Counted = Result<u32, u8>;
 #[derive(Clone, Copy, Debug, PartialEq, Eq)]
 pub enum Action {
     Internal,
-    /// A label and so many arguments; the others are 0.
+    /// A label and `count` arguments; the unused ones are 0.
     Visible {
         label: u16,
         count: u8,
@@ -68,7 +68,7 @@ impl Action {
     }
 }
 
-/// What Move and Present answer: the words of the successor, and the action.
+/// What Move and Present return: the number of words of the successor, and the action.
 #[derive(Clone, Copy, Debug, PartialEq, Eq)]
 pub struct Made {
     pub size: u32,
@@ -78,8 +78,8 @@ pub struct Made {
 /// What a move made, or the number of a refusal.
 pub type Moved = Result<Made, u8>;
 
-/// What Run answers: the words of the last term, and how many numbers were visible moves, internal ones
-/// and refused.
+/// What Run returns: the number of words of the last term, and how many numbers were visible moves, internal
+/// ones and refused.
 #[derive(Clone, Copy, Debug, Default, PartialEq, Eq)]
 pub struct Tally {
     pub size: u64,
@@ -98,10 +98,11 @@ impl Tally {
 /// A run's size and counts, or the number of a refusal.
 pub type Ran = Result<Tally, u8>;
 
-/// What Run is lent, in the order of eb3.h: the table, a term, a memory, and for scratch a term and a memory.
+/// The buffers that Run is lent, in the order of eb3.h: the table, a term, a memory, and as scratch a term
+/// and a memory.
 pub type LentToRun<'a> = [&'a mut [u8]; 5];
 
-/// The refusals, by the words of document 01's table and of document 02's requests.
+/// The refusals, named as in document 01's table and in document 02's requests.
 pub mod refusal {
     pub const LENGTH: u8 = 1;
     pub const BLOCK: u8 = 2;
@@ -118,19 +119,19 @@ pub mod refusal {
     pub const READER: u8 = 13;
 }
 
-/// Main's reach G may be so much, and no more.
+/// The largest reach G that main may have.
 pub const MOST_REACH: u32 = 8192;
 
-/// Main's breadth W may be so much, and no more.
+/// The largest breadth W that main may have.
 pub const MOST_BREADTH: u32 = 65535;
 
-/// Card readers are numbered from 1 to this (request K1).
+/// Card readers have the numbers 1 to this one (request K1).
 pub const READERS: u16 = 32;
 
-/// A record of Run's table: three counts of 32 bits.
+/// Bytes of a record of Run's table: three counts of 32 bits.
 pub const RECORD_BYTES: usize = 12;
 
-/// The records of all readers; a table may be longer.
+/// Bytes of the records of all readers; a table may be longer.
 pub const TABLE_BYTES: usize = RECORD_BYTES * READERS as usize;
 
 /// Words as bytes, little-endian.
@@ -138,18 +139,18 @@ pub fn bytes_of(words: &[u16]) -> Vec<u8> {
     words.iter().flat_map(|word| word.to_le_bytes()).collect()
 }
 
-/// Bytes as words; an odd last byte is none.
+/// Bytes as words; an odd last byte is dropped.
 pub fn words_of(bytes: &[u8]) -> Vec<u16> {
     bytes.chunks_exact(2).map(|pair| u16::from_le_bytes([pair[0], pair[1]])).collect()
 }
 
-/// Does the work on a stack of 256 MiB. A stream can nest 16,250 deep, and the trees here are built,
-/// spelled and dropped by recursion; the 2 MiB of a test's thread are not enough for that.
+/// Runs the work on a stack of 256 MiB. A stream can nest 16,250 deep, and the trees here are built, spelled
+/// and dropped recursively, for which the 2 MiB of a test's thread are not enough.
 pub fn on_large_stack<T: Send>(work: impl FnOnce() -> T + Send) -> T {
     on_stack_of(256 << 20, work)
 }
 
-/// Does the work on a stack of so many bytes. Memory is only taken as far down as the stack is used.
+/// Runs the work on a stack of the given size. Memory is only taken for the part of the stack that is used.
 pub fn on_stack_of<T: Send>(bytes: usize, work: impl FnOnce() -> T + Send) -> T {
     std::thread::scope(|scope| {
         let thread = std::thread::Builder::new().stack_size(bytes).spawn_scoped(scope, work);

@@ -1,15 +1,14 @@
-//! A rule set as text to read beside its block file.
+//! A rule set as text, to read together with its block file.
 //!
-//! Document 01 leaves out EB3 text; this is not that language but a rendering near to it, for people:
-//! expressions in infix, terms with the sources' operators (`.` sequence, `|` choice, `*` star, `=>`
-//! guard, `|||` interleaving, `|[a, b]|` parallel on labels a and b, and quantified forms), then the
-//! words themselves.
+//! Document 01 leaves out EB3 text; this is not that language but a similar notation, for people: expressions
+//! in infix, terms with the sources' operators (`.` sequence, `|` choice, `*` star, `=>` guard, `|||`
+//! interleaving, `|[a, b]|` parallel on labels a and b, and quantified forms), then the words of the stream.
 
 use crate::blocks;
 use crate::rules::{Argument, Condition, Data, Mask, RuleSet, Term, NO_LABELS};
 use crate::Sizes;
 
-/// What the numbers of a rule set are called, and what a reader should know first.
+/// Names for the numbers of a rule set, a title, and notes to print first.
 #[derive(Clone, Debug, Default)]
 pub struct Names {
     pub title: String,
@@ -52,8 +51,8 @@ pub fn listing(rules: &RuleSet, names: &Names, sizes: Sizes) -> String {
     text
 }
 
-/// A paragraph in lines of at most 110 characters: the first begins with the lead, the others with as
-/// many spaces as told.
+/// A paragraph in lines of at most 110 characters: the first begins with `lead`, the others with `indent`
+/// spaces.
 fn wrapped(lead: &str, paragraph: &str, indent: usize) -> String {
     let mut lines = vec![lead.to_string()];
     let mut at_start = true;
@@ -77,7 +76,7 @@ struct Printer<'a> {
     names: &'a Names,
 }
 
-/// A name, or the number where there is none.
+/// The name of a number, or the number itself if it has no name.
 fn named(names: &[String], number: u16) -> String {
     names.get(usize::from(number)).cloned().unwrap_or_else(|| format!("#{number}"))
 }
@@ -99,7 +98,7 @@ impl Printer<'_> {
         text
     }
 
-    /// A name with its parameters, variables from the given number up.
+    /// A name with its parameters, which are the variables from `first` up.
     fn head(&self, name: &str, parameters: &[u16], first: u16) -> String {
         let parameter =
             |(number, domain): (u16, &u16)| format!("x{number}: {}", named(&self.names.domains, *domain));
@@ -146,7 +145,7 @@ impl Printer<'_> {
         text
     }
 
-    /// The stream, part by part.
+    /// The words of the stream, section by section.
     fn words(&self) -> String {
         let stream = self.rules.stream();
         let [domains, labels, functions, processes] = self.rules.sections();
@@ -175,8 +174,8 @@ impl Printer<'_> {
         text
     }
 
-    /// A data expression in a place that takes what binds at least so tightly: 0 if, 1 sums, 2 the
-    /// rest.
+    /// A data expression, in brackets if its operator binds less tightly than `place`: 0 if, 1 sums and
+    /// differences, 2 the rest.
     fn data(&self, data: &Data, place: u8) -> String {
         match data {
             Data::Undefined => "undefined".to_string(),
@@ -202,8 +201,8 @@ impl Printer<'_> {
         format!("{when} {}({})", named(&self.names.functions, function), self.data(argument, 0))
     }
 
-    /// A condition in a place that takes what binds at least so tightly: 0 or, 1 and, 2 comparisons, 3
-    /// the rest.
+    /// A condition, in brackets if its operator binds less tightly than `place`: 0 or, 1 and, 2 comparisons,
+    /// 3 the rest.
     fn condition(&self, condition: &Condition, place: u8) -> String {
         let compared = |left, sign, right| {
             in_brackets(format!("{} {sign} {}", self.data(left, 1), self.data(right, 1)), place > 2)
@@ -245,7 +244,7 @@ impl Printer<'_> {
         format!("|[{}]|", labels.join(", "))
     }
 
-    /// A term, with so many variables in scope, in a place that takes what binds at least so tightly: 0
+    /// A term with `scope` variables in scope, in brackets if its operator binds less tightly than `place`: 0
     /// parallel and quantifiers, 1 choice, 2 guard, 3 sequence, 4 star, 5 the rest.
     fn term(&self, term: &Term, scope: u16, place: u8) -> String {
         let at = |term: &Term, place| self.term(term, scope, place);
@@ -274,7 +273,8 @@ impl Printer<'_> {
         in_brackets(text, binding < place)
     }
 
-    /// A quantifier directly under another needs no brackets; anything but a star or less does.
+    /// A quantifier with its inside: a quantifier directly inside another needs no brackets; other terms do
+    /// if they bind less tightly than a star.
     fn quantified(&self, operator: String, domain: u16, inner: &Term, scope: u16) -> String {
         let nested = matches!(inner, Term::ChoiceOver(..) | Term::ParallelOver(..));
         let inner = self.term(inner, scope + 1, if nested { 0 } else { 4 });

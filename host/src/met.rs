@@ -1,14 +1,14 @@
-//! How often each operation was answered how: what a test of many calls has met.
+//! Counts how often each operation returned which refusal in a test of many calls.
 //!
-//! Document 01, the table of refusals, and 13 of document 02. A test that never meets a refusal has not
-//! tested it, so it says what it met, and fails where one is missing.
+//! Document 01, the table of refusals, and 13 of document 02. A test that never gets a refusal has not tested
+//! it, so it prints what it got, and fails if one is missing.
 
 use std::collections::BTreeMap;
 use std::io::Write;
 
 use crate::calls::{Call, Operation, Reply};
 
-/// The operations besides Admit by name, each with the refusals after 1 to 8 that it has.
+/// The operations other than Admit by name, each with its refusals besides 1 to 8.
 const TABLE: [(&str, &[u8]); 5] = [
     ("start", &[9]),
     ("count", &[10, 9]),
@@ -27,7 +27,7 @@ fn name(operation: Operation) -> &'static str {
     }
 }
 
-/// Replies, by operation and refusal, 0 where it was done.
+/// The number of replies by operation and refusal; 0 means done.
 #[derive(Default)]
 pub struct Met(BTreeMap<(&'static str, u8), usize>);
 
@@ -40,7 +40,7 @@ impl Met {
         self.0.values().sum()
     }
 
-    /// The counts, a line to each operation. Written to the handle, not by println!, so that the test
+    /// Prints the counts, one line per operation. Written to the handle, not by println!, so that the test
     /// harness does not swallow them.
     pub fn say(&self, by: &str) {
         let mut output = std::io::stdout().lock();
@@ -56,7 +56,8 @@ impl Met {
         }
     }
 
-    /// Fails unless each of these operations was done and met each of its refusals.
+    /// Fails unless each of these operations was done at least once and returned each of its refusals at
+    /// least once.
     pub fn require(&self, asked: &[Operation]) {
         for (operation, more) in TABLE.iter().filter(|(known, _)| asked.iter().any(|&o| name(o) == *known)) {
             for refusal in (0..=8).chain(more.iter().copied()) {

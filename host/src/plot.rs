@@ -1,8 +1,8 @@
 //! A picture of measurements as SVG: panels side by side, each with lines over the same two logarithmic
 //! axes.
 //!
-//! For document 01's "Memory and the history machine" made visible (`bench_histories`). The picture needs
-//! nothing from outside it: shapes, and text in whatever plain font there is.
+//! Shows document 01's "Memory and the history machine" in figures (`bench_histories`). The picture is
+//! complete in itself: shapes, and text in any plain font.
 
 use std::fmt::Write;
 
@@ -18,7 +18,7 @@ pub struct Panel {
     pub lines: Vec<Line>,
 }
 
-/// A picture: what stands above it and at its axes, and its panels.
+/// A picture: its title, note and axis labels, and its panels.
 pub struct Picture {
     pub title: &'static str,
     pub note: &'static str,
@@ -29,7 +29,7 @@ pub struct Picture {
 
 const COLOURS: [&str; 3] = ["#1b5faa", "#c8560b", "#4a7a2a"];
 
-/// A panel's inside, in pixels, and the room around the panels.
+/// The size of a panel, and the margins and gap around the panels, in pixels.
 const WIDTH: f64 = 310.0;
 const HEIGHT: f64 = 290.0;
 const GAP: f64 = 54.0;
@@ -38,21 +38,21 @@ const RIGHT: f64 = 36.0;
 const TOP: f64 = 104.0;
 const BOTTOM: f64 = 62.0;
 
-/// From one power of ten to another.
+/// A logarithmic axis from one power of ten to another.
 struct Axis {
     least: i32,
     most: i32,
 }
 
 impl Axis {
-    /// The powers of ten around all values.
+    /// The axis from the largest power of ten below all values to the smallest above them.
     fn around(values: impl Iterator<Item = f64> + Clone) -> Axis {
         let least = values.clone().fold(f64::MAX, f64::min).log10().floor() as i32;
         let most = values.fold(f64::MIN_POSITIVE, f64::max).log10().ceil() as i32;
         Axis { least, most: most.max(least + 1) }
     }
 
-    /// Where a value is, from 0 at the axis's beginning to 1 at its end.
+    /// The position of a value: 0 at the beginning of the axis, 1 at its end.
     fn part(&self, value: f64) -> f64 {
         (value.log10() - f64::from(self.least)) / f64::from(self.most - self.least)
     }
@@ -97,7 +97,7 @@ impl Picture {
     }
 }
 
-/// What has been drawn, an element a line.
+/// The SVG elements so far, one per line.
 #[derive(Default)]
 struct Drawn(String);
 
@@ -143,7 +143,7 @@ impl Drawn {
         self.legend(&panel.lines, left + 12.0, bottom - 16.0);
     }
 
-    /// In the lower left corner: what is slow is so at the right.
+    /// The legend, in the lower left corner, where there are no lines: slow machines are slow at the right.
     fn legend(&mut self, lines: &[Line], left: f64, bottom: f64) {
         for (number, line) in lines.iter().enumerate() {
             let height = bottom - 18.0 * (lines.len() - 1 - number) as f64;
@@ -163,7 +163,7 @@ impl Drawn {
         self.add(format!("<path d=\"{path}\" fill=\"none\" stroke=\"{colour}\" stroke-width=\"2\"/>"));
     }
 
-    /// A point of a line: a disc, a square or a triangle, for whoever does not see the colours.
+    /// A point of a line: a disc, a square or a triangle, so that lines differ not only in colour.
     fn mark(&mut self, number: usize, (x, y): (f64, f64)) {
         let shape = match number {
             0 => "m-4 0a4 4 0 1 0 8 0a4 4 0 1 0 -8 0z",
@@ -174,7 +174,7 @@ impl Drawn {
     }
 }
 
-/// A power of ten.
+/// The label of a power of ten.
 fn power_of_ten(value: f64) -> String {
     if value < 1.0 {
         value.to_string()
@@ -183,7 +183,7 @@ fn power_of_ten(value: f64) -> String {
     }
 }
 
-/// A number above 0 by its first three figures.
+/// A number above 0, rounded to three significant figures.
 pub fn three_figures(number: f64) -> String {
     let rounded: f64 = format!("{number:.2e}").parse().expect("a number as it was written");
     match rounded {
@@ -194,7 +194,7 @@ pub fn three_figures(number: f64) -> String {
     }
 }
 
-/// A whole number, thousands set apart by commas.
+/// A whole number, with commas between thousands.
 pub fn thousands(whole: f64) -> String {
     let digits = format!("{whole:.0}");
     let mut apart = String::new();

@@ -1,12 +1,12 @@
 //! A rule set as a tree, and its spelling as stream words.
 //!
-//! Document 01, "Values and conditions" (codes 0 to 13) and "Blocks and the rule stream" (items 1 to 5,
-//! codes 20 to 29). Nothing is checked here: any number may stand anywhere, so that faulty rule sets
-//! can be built as well as right ones.
+//! Document 01, "Values and conditions" (codes 0 to 13) and "Blocks and the rule stream" (items 1 to 5, codes
+//! 20 to 29). Nothing is checked here: any number is allowed anywhere, so that faulty rule sets can be built
+//! as well as right ones.
 
 use crate::blocks;
 
-/// The only edition there is; the stream's first word.
+/// The only edition so far; it is the stream's first word.
 pub const EDITION: u16 = 1;
 
 /// A data expression, codes 0 to 7.
@@ -43,7 +43,7 @@ pub enum Argument {
 /// Labels on which the sides of a parallel synchronise: bit j of word i is label 16 × i + j.
 pub type Mask = [u16; 4];
 
-/// The mask of an interleaving.
+/// The mask of a parallel whose sides do not synchronise.
 pub const NO_LABELS: Mask = [0; 4];
 
 /// The mask with these labels, each below 64.
@@ -270,19 +270,19 @@ fn spell_terms(head: &[u16], operands: &[&Term], words: &mut Vec<u16>) {
     operands.iter().for_each(|operand| operand.spell(words));
 }
 
-/// A count as a word. Faulty sets have a few entries too many, never more than a word can count.
+/// A count as a word. Faulty sets have a few entries too many, but never more than a word can count.
 pub fn count_of<T>(entries: &[T]) -> u16 {
     u16::try_from(entries.len()).expect("a count fits into a word")
 }
 
-/// A count word, then the numbers counted.
+/// A count, then the numbers.
 fn counted(numbers: &[u16], words: &mut Vec<u16>) {
     words.push(count_of(numbers));
     words.extend_from_slice(numbers);
 }
 
 impl RuleSet {
-    /// Items 2 to 5, each as its own words: what stands behind the stream's first two words.
+    /// Items 2 to 5, each as its own list of words: the stream after its first two words.
     pub fn sections(&self) -> [Vec<u16>; 4] {
         let mut sections: [Vec<u16>; 4] = Default::default();
         let [domains, labels, functions, processes] = &mut sections;
@@ -303,7 +303,7 @@ impl RuleSet {
         sections
     }
 
-    /// The whole stream as far as it is used: edition, number of blocks, items 2 to 5.
+    /// The used words of the stream: edition, number of blocks, items 2 to 5.
     pub fn stream(&self) -> Vec<u16> {
         let mut words = vec![EDITION, 0];
         self.sections().iter().for_each(|section| words.extend_from_slice(section));

@@ -1,16 +1,15 @@
-//! Main really unfolded, and measured by document 01's definitions: the naive second way to G, W and
-//! the start term's size.
+//! Unfolds main and measures it by document 01's definitions: the naive second way to compute G, W and the
+//! start term's size.
 //!
-//! "Unfolding, size and breadth": "Calls are replaced by bodies. 27 and 28 become choices or parallels
-//! of the copies for element 0, 1 and so on, nested to the right; over one element, that copy alone.
-//! Each variable becomes a constant." It takes a tree, not bytes, and shares nothing with the plain
-//! reader; the tests hold the two against each other. Unfolding stops at a given number of words, so it
-//! is for small rule sets.
+//! "Unfolding, size and breadth": "Calls are replaced by bodies. 27 and 28 become choices or parallels of the
+//! copies for element 0, 1 and so on, nested to the right; over one element, that copy alone. Each variable
+//! becomes a constant." It takes a tree, not bytes, and shares no code with the plain reader; the tests
+//! compare the two. Unfolding stops at a given number of words, so it works for small rule sets only.
 
 use crate::rules::{Argument, Condition, Data, Mask, RuleSet, Term, NO_LABELS};
 use crate::{refusal, Answer, Sizes, MOST_BREADTH, MOST_REACH};
 
-/// A running term: codes 20 to 26 without variables. (30, done, stands in no unfolding.)
+/// A running term: codes 20 to 26 without variables. (30, done, occurs in no unfolding.)
 #[derive(Clone, Debug, PartialEq, Eq)]
 pub enum Running {
     Internal,
@@ -22,8 +21,7 @@ pub enum Running {
     Guard(Condition, Box<Running>),
 }
 
-/// What Admit must answer for a well-formed rule set, or nothing where main unfolds to more than so
-/// many words.
+/// What Admit must return for a well-formed rule set; `None` if main unfolds to more than `most_words` words.
 pub fn answer(rules: &RuleSet, most_words: usize) -> Option<Answer> {
     let main = main_of(rules, most_words)?;
     let (reach, breadth) = (reach(&main), breadth(&main));
@@ -38,13 +36,13 @@ pub fn answer(rules: &RuleSet, most_words: usize) -> Option<Answer> {
     Some(Ok(Sizes { cells, reach: reach as u32, breadth: breadth as u32, size: size(&main) as u32 }))
 }
 
-/// Main's unfolding, or nothing where it has more than so many words.
+/// Main's unfolding; `None` if it has more than `most_words` words.
 pub fn main_of(rules: &RuleSet, most_words: usize) -> Option<Running> {
     let main = rules.processes.last()?;
     Unfolding { rules, left: most_words }.term(&main.term, &[])
 }
 
-/// An unfolding under way, with the words that it may still write.
+/// An unfolding in progress, with the number of words that it may still write.
 struct Unfolding<'a> {
     rules: &'a RuleSet,
     left: usize,
@@ -202,7 +200,7 @@ pub fn reach(term: &Running) -> u64 {
     }
 }
 
-/// Breadth W, clause by clause. Unlike size and reach it can pass 2^64 in few words, so it stops there.
+/// Breadth W, clause by clause. Unlike size and reach it can exceed 2^64 in few words, so it saturates.
 pub fn breadth(term: &Running) -> u64 {
     match term {
         Running::Internal | Running::Action(..) => 1,

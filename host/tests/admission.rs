@@ -1,8 +1,7 @@
-//! Admit, tested: document 01's examples on the plain reader, the plain reader against unfolding, and,
-//! where the engine is linked (cfg `cabinet`), the engine against the plain reader on every kind of
-//! bytes.
+//! Tests of Admit: document 01's examples on the plain reader, the plain reader against unfolding, and, if
+//! the engine is linked (cfg `cabinet`), the engine against the plain reader on every kind of bytes.
 //!
-//! `ROUNDS=20` makes twenty times as many random cases.
+//! `ROUNDS=20` generates twenty times as many random cases.
 
 use std::io::Write;
 
@@ -16,7 +15,7 @@ fn sizes(cells: u32, reach: u32, breadth: u32, size: u32) -> Answer {
     Ok(Sizes { cells, reach, breadth, size })
 }
 
-/// The plain reader's answer, and the engine's, which must be the same.
+/// The plain reader's answer; asserts that the engine's is the same.
 fn admit(bytes: &[u8]) -> Answer {
     let answer = plain::admit(bytes);
     #[cfg(cabinet)]
@@ -42,7 +41,7 @@ fn key_cabinet_is_spelled_as_document_01_has_it() {
     assert_eq!(words, examples::key_cabinet(2).stream());
     let file = examples::key_cabinet(2).file();
     assert_eq!(512, file.len());
-    // The number, the sums and the edition, as the specification computes them (crates/eb3,
+    // The block number, the sums and the edition, as the specification computes them (crates/eb3,
     // Executed.antt).
     assert_eq!([0, 0, 233, 33, 1, 0], file[..6]);
 }
@@ -86,7 +85,7 @@ fn unfolding_is_what_document_01_says() {
     let key = |k: u16| vec![24, 22, 26, 8, 6, 0, 1, k, 1, 0, 21, 0, 1, k, 21, 1, 1, k];
     assert_eq!([vec![25, 0, 0, 0, 0], key(0), key(1)].concat(), words);
     assert_eq!((41, 77, 4), (unfold::size(&main), unfold::reach(&main), unfold::breadth(&main)));
-    // Three copies are nested to the right, one stands alone.
+    // Three copies are nested to the right; one copy is not put into a parallel.
     let copies = |elements| unfold::main_of(&examples::copies_of_choice(elements), 1000).unwrap();
     assert!(matches!(copies(1), unfold::Running::Choice(..)));
     match copies(3) {
@@ -126,7 +125,7 @@ fn plain_agrees_with_unfolding() {
     assert!(unfolded > 1500, "{unfolded} sets unfolded, {too_long} too long");
 }
 
-/// The two spellings, one of which knows each word's place, are one.
+/// The two spellings of a stream, `rules` and `roles`, give the same words.
 #[test]
 fn marked_words_are_the_stream() {
     on_large_stack(|| {
@@ -183,7 +182,7 @@ fn examples_are_up_to_date() {
     }
 }
 
-/// The stream of a case that went wrong, as far as it can be read.
+/// The name of a case, and the first 300 words of its stream.
 fn shown(case: &Case) -> String {
     let contents = case.bytes.chunks(512).flat_map(|block| block.get(4..).unwrap_or(&[]).chunks_exact(2));
     let words: Vec<String> =
@@ -207,16 +206,16 @@ fn check(case: &Case) -> Answer {
     answer
 }
 
-/// Every kind of case, each answered as document 01 asks where the generator knows it, and by the
-/// engine as by the plain reader; and none of the refusals left out.
+/// Every kind of case: the plain reader's answer is the one that document 01 asks for, where the generator
+/// knows it, the engine's answer is the plain reader's, and every refusal occurs.
 #[test]
 fn every_refusal_is_met() {
     let rounds = std::env::var("ROUNDS").ok().and_then(|rounds| rounds.parse().ok()).unwrap_or(1);
-    let (mut met, mut foretold) = ([0usize; 9], 0usize);
+    let (mut met, mut known) = ([0usize; 9], 0usize);
     on_large_stack(|| {
         every_case(rounds, &mut |case| {
             met[usize::from(check(&case).err().unwrap_or(0))] += 1;
-            foretold += usize::from(case.expected != Expected::Open);
+            known += usize::from(case.expected != Expected::Open);
         });
     });
     let who = if cfg!(cabinet) { "the engine and the plain reader" } else { "the plain reader alone" };
@@ -224,7 +223,7 @@ fn every_refusal_is_met() {
     let cases: usize = met.iter().sum();
     // Written to the handle, not by println!, so that the test harness does not swallow it.
     let mut output = std::io::stdout().lock();
-    writeln!(output, "{cases} cases to {who}, {foretold} with the answer foretold").unwrap();
+    writeln!(output, "{cases} cases to {who}, {known} with a known answer").unwrap();
     writeln!(output, "admitted: {}; refused {}", met[0], counts.join(", ")).unwrap();
     drop(output);
     for (answer, &count) in met.iter().enumerate() {
@@ -245,7 +244,7 @@ mod engine {
         assert_eq!(refused, admit_reply(&[]));
     }
 
-    /// Bytes need not lie at an even address, and nothing behind them counts.
+    /// A slice may begin at any address, and the bytes after it have no effect.
     #[test]
     fn bytes_at_any_address() {
         let file = examples::key_cabinet(2).file();

@@ -1,8 +1,8 @@
-//! Every kind of call, answered by the plain interpreter as the documents ask where the generator knows it:
-//! refusals by the table's order, nothing written on a refusal, everything kept that is to be kept. All
-//! between forbidden pages, so that the tests of the engine are tested too.
+//! Every kind of call on the plain interpreter: refusals in the table's order, as expected where the
+//! generator knows them; nothing written on a refusal; everything kept that must be kept. Each call is also
+//! made between forbidden pages, which tests that harness itself.
 //!
-//! `ROUNDS=20` makes twenty times as many random cases.
+//! `ROUNDS=20` generates twenty times as many random cases.
 
 use host::calls::{Call, Outcome, Plain, Reply, EVERY_OPERATION};
 use host::generate::calls::every_call;
@@ -14,12 +14,12 @@ fn rounds() -> usize {
     std::env::var("ROUNDS").ok().and_then(|rounds| rounds.parse().ok()).unwrap_or(1)
 }
 
-/// The bytes after the first `words` words are as they were.
+/// Whether the bytes after the first `words` words are unchanged.
 fn kept(before: &[u8], after: &[u8], words: u32) -> bool {
     before.len() == after.len() && before[2 * words as usize..] == after[2 * words as usize..]
 }
 
-/// What any outcome of a call must be, whatever was asked.
+/// Asserts what must hold of the outcome of any call.
 fn check(call: &Call, outcome: &Outcome) {
     let Outcome { reply, lent } = outcome;
     let refusal = reply.refusal();
@@ -31,7 +31,7 @@ fn check(call: &Call, outcome: &Outcome) {
         return;
     }
     let sizes = plain::admit(&call.given[0]).expect("a call that was not refused");
-    // The words of the term and the place of its buffer; the memory comes after it.
+    // The number of words of the term, and the index of its buffer; the memory is the next buffer.
     let (words, at) = match reply {
         Reply::Started(size) => (size.unwrap(), 0),
         Reply::Moved(made) => (made.unwrap().size, 0),

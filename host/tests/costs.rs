@@ -1,10 +1,10 @@
-//! Calls on the deepest and broadest terms take as long as their words and moves, not the square of their
-//! depth; and a number of a run takes as long, however long the list is.
+//! Calls on the deepest and broadest terms take time in proportion to their words and moves, not to the
+//! square of their depth; and each number of a run takes the same time, however long the list is.
 //!
-//! Document 01, "Unfolding, size and breadth": a term has at most 8,192 words of reach and 65,535 moves.
-//! Where something is listed or passed over anew at every level, such a term takes a hundred times as long
-//! as the plain interpreter takes, or a million times; the bound is between that and the few times that
-//! the engine takes.
+//! Document 01, "Unfolding, size and breadth": a term has at most 8,192 words of reach and 65,535 moves. If
+//! something were listed or skipped again at every level, such a term would take a hundred times as long as
+//! on the plain interpreter, or a million times; the bound here is between that and the few times that the
+//! engine takes.
 #![cfg(cabinet)]
 
 use std::time::{Duration, Instant};
@@ -14,10 +14,10 @@ use host::engine::Cabinet;
 use host::generate::{deep, lent, readers, running};
 use host::{bytes_of, examples, on_large_stack, plain};
 
-/// The engine may take so many times as long as the plain interpreter, and so much more.
+/// The engine may take `TIMES` times as long as the plain interpreter, and `MORE` in addition.
 const TIMES: u32 = 15;
 const MORE: Duration = Duration::from_micros(200);
-/// The least of so many samples counts.
+/// The minimum of this many samples is compared.
 const SAMPLES: usize = 7;
 
 const TAKE: &[u16] = &[21, 0, 1, 0];
@@ -30,7 +30,7 @@ fn nested(levels: usize, open: &[&[u16]], middle: &[u16], close: &[u16]) -> Vec<
     [&open.concat().repeat(levels), middle, &close.repeat(levels)].concat()
 }
 
-/// Two choices of so many Takes in parallel with mask Take: the square of that number of moves.
+/// Two choices of n Takes each, in parallel with mask Take: n² moves.
 fn many_moves(takes: usize) -> Vec<u16> {
     let choice = [&[&[23], TAKE].concat().repeat(takes - 1)[..], TAKE].concat();
     [ON_TAKE, &choice, &choice].concat()
@@ -55,7 +55,8 @@ fn terms() -> Vec<(&'static str, Vec<u16>)> {
     ]
 }
 
-/// How long the calls take together, the least of some samples: whatever else the machine does only adds.
+/// The time of all calls together, the minimum of some samples: other work on the machine only adds to a
+/// sample.
 fn least(by: &dyn Operations, calls: &[Call]) -> Duration {
     least_of(SAMPLES, by, calls)
 }
@@ -81,7 +82,8 @@ fn depth_costs_no_square() {
             let call = |operation, given, lent| Call { name: name.to_string(), operation, given, lent, expected: Some(0) };
             let given = vec![file.clone(), term, memory.clone()];
             let lent = vec![vec![0; 2 * reach as usize], vec![0; 4]];
-            // The first move's path is the deepest on the left, the last one's on the right.
+            // The first move's path is the deepest for nesting on the left, the last move's for nesting on
+            // the right.
             let calls = [
                 call(Operation::Count, given.clone(), Vec::new()),
                 call(Operation::Move(0), given.clone(), lent.clone()),
@@ -114,7 +116,7 @@ fn rounds_cost_no_square() {
     });
 }
 
-/// The keys are taken and brought, one after the other, so many times.
+/// A run in which the keys are taken and brought, one after the other, `rounds` times.
 fn long_run(rounds: usize) -> Call {
     let file = examples::key_cabinet(2).file();
     let sizes = plain::admit(&file).expect("the key cabinet is admitted");

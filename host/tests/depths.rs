@@ -1,7 +1,7 @@
-//! The engine's operations on the deepest nestings that there are, on the stack that eb3.h asks for.
+//! The engine's operations on the deepest nestings, on a stack of the size that eb3.h asks for.
 //!
-//! Document 01 sets no limit on nesting but those on a stream's length and on a term's reach; `EB3_STACK_BYTES`
-//! is what a host is told to give. A call that needs more ends the process.
+//! Document 01 limits nesting only by a stream's length and a term's reach; `EB3_STACK_BYTES` is what a host
+//! must provide. A call that needs more ends the process.
 #![cfg(cabinet)]
 
 use host::calls::{Call, Outcome, Plain};
@@ -16,7 +16,7 @@ const STACK_BYTES: usize = 4 << 20;
 fn every_operation_has_stack_enough() {
     let header = include_str!("../eb3.h");
     assert!(header.contains(&format!("#define EB3_STACK_BYTES {STACK_BYTES}\n")));
-    // The calls are made, and answered by the plain interpreter, on a large stack.
+    // The calls are generated, and made on the plain interpreter, on a large stack.
     let calls: Vec<(Call, Outcome)> = on_large_stack(|| {
         let calls = deep::worst().into_iter().flat_map(|deep| deep.calls());
         calls.map(|call| (call.outcome(&Plain), call)).map(|(outcome, call)| (call, outcome)).collect()

@@ -1,8 +1,8 @@
-//! The plain interpreter, tested: the laws of moves on random terms, and cells against histories.
+//! Tests of the plain interpreter: the laws of moves on random terms, and cells against histories.
 //!
 //! Document 01, "No move enlarges either, and a term has at most W moves", and "Memory and the history
-//! machine": what runs over cells must be what the machine does that keeps none. `ROUNDS=20` makes twenty
-//! times as many random cases.
+//! machine": what is computed over cells must be what the machine does, which keeps no cells. `ROUNDS=20`
+//! generates twenty times as many random cases.
 
 use host::generate::calls::{known_subjects, random_subjects, Subject};
 use host::generate::lent::{for_run, memory, Fit};
@@ -18,8 +18,9 @@ fn rounds() -> usize {
     std::env::var("ROUNDS").ok().and_then(|rounds| rounds.parse().ok()).unwrap_or(1)
 }
 
-/// What a term offers, at any memory: at most W moves, none of which enlarges reach or breadth; the new
-/// memory of an internal move is the given one; Present is Move at the smallest number.
+/// Asserts of a term at any memory: it has at most W moves, none of which enlarges reach or breadth; the new
+/// memory of an internal move is the given one; Present makes the move with the smallest number. Returns the
+/// number of moves.
 fn check_laws(subject: &Subject, state: &State) -> usize {
     let Subject { file, rules, sizes, .. } = subject;
     let (size, reach, breadth) = running::measures(rules, &words_of(&state.term));
@@ -73,7 +74,7 @@ fn laws_of_moves() {
     assert!(listed > 10_000, "{listed} moves looked at");
 }
 
-/// The moves at the end of a run, each with the memory that it leaves, are the machine's.
+/// Asserts that the moves at the end of a run, each with the memory after it, are the machine's.
 fn check_end(subject: &Subject, machine: &mut Machine, end: &State) {
     assert_eq!(histories::spelled(&machine.term), words_of(&end.term));
     assert_eq!(machine.values(), words_of(&end.memory));
@@ -97,7 +98,8 @@ fn check_end(subject: &Subject, machine: &mut Machine, end: &State) {
     }
 }
 
-/// Runs a list over cells and over the history: the same answer, the same bytes, the same moves next.
+/// Runs a list over cells and over the history: the answers and the bytes must be the same, and, if
+/// `look_on`, the moves at the end.
 fn check_run(random: &mut Random, subject: &Subject, list: &[u8], look_on: bool) -> Tally {
     let Subject { name, file, sizes, .. } = subject;
     let lent = for_run(random, *sizes, [Fit::Longer; 5]);
@@ -144,9 +146,9 @@ fn cells_and_histories_agree() {
     assert!(tally.visible > 1000 && tally.internal > 1000 && tally.refused > 1000, "{tally:?}");
 }
 
-/// The same for terms that the rule set need not reach, done anywhere, over histories that it does.
+/// The same for random terms, which the rule set need not reach, at values over histories that it does reach.
 #[test]
-fn any_terms_move_alike() {
+fn any_terms_have_the_same_moves() {
     on_large_stack(|| {
         let mut random = Random::new(29);
         let mut subjects = known_subjects();
@@ -168,8 +170,8 @@ fn any_terms_move_alike() {
     });
 }
 
-/// Some thousand events, in systems that never end: their first moves would end a star, so each number is
-/// chosen by a walk.
+/// Some thousand events, in systems that can go on for ever. The first move would often end a star, so each
+/// number is chosen among the visible moves of a walk.
 #[test]
 fn long_histories() {
     on_large_stack(|| {

@@ -1,4 +1,4 @@
-//! The plain interpreter, tested: document 01's examples, and what is said there of cells and masks.
+//! Tests of the plain interpreter: document 01's examples, and what it says of cells and masks.
 
 use host::generate::calls::Subject;
 use host::generate::readers::by_turns;
@@ -31,7 +31,7 @@ fn bare_moves(term: &[u16]) -> Vec<(Action, Vec<u16>)> {
     moves(&subject, &state).into_iter().map(|(action, next)| (action, words_of(&next.term))).collect()
 }
 
-/// Whether a condition holds, asked of a guard.
+/// Whether a condition holds, tested as a guard.
 fn holds(condition: &Condition) -> bool {
     let mut term = vec![26];
     condition.spell(&mut term);
@@ -79,10 +79,11 @@ fn p5_to_p12_terms() {
     assert_eq!(bare_moves(&beside(&[0], &[20], &[20])), both, "P10");
     assert_eq!(bare_moves(&[23, 21, 0, 21, 0]), [(a, vec![30]), (a, vec![30])], "P11");
     assert_eq!(bare_moves(&[26, 12, 13, 21, 0]), [], "P12");
-    // A guard is dropped; a sequence behind done stands alone.
+    // The successor of a guard drops it; the successor of a sequence whose left side is done is that of its
+    // right side alone.
     assert_eq!(bare_moves(&[26, 13, 22, 21, 0, 21, 1]), [(a, vec![22, 30, 21, 1])]);
     assert_eq!(bare_moves(&[22, 30, 24, 20])[1], (i, vec![22, 30, 24, 20]));
-    // Sides that move alone, left before right, before the pairs.
+    // The moves of one side come before the pairs, left's before right's.
     let mixed = |first: &[u16]| [&[23], first, &[20]].concat();
     let moves = bare_moves(&beside(&[0], &mixed(&A), &mixed(&A)));
     assert_eq!(moves.iter().map(|(action, _)| *action).collect::<Vec<_>>(), [i, i, a]);
@@ -104,7 +105,7 @@ fn key_cabinet_session() {
     let lent = [&mut table[..], &mut term, &mut memory, &mut [0; 154], &mut [0; 4]];
     let size = next.term.len() as u64 / 2;
     let tally = Tally { size, visible: 1, internal: 0, refused: 1 };
-    // 1 at reader 1, 9 at reader 2: a visible move, and a number that is no move.
+    // Move 1 at reader 1, which is visible, and 9 at reader 2, which does not exist.
     assert_eq!(Ok(tally), plain::run(&cabinet.file, &by_turns(&[1, 9]), lent));
     let zeros = vec![0; 154 - next.term.len()];
     assert_eq!([&next.term[..], &zeros, &[7; 6]].concat(), term);
@@ -129,7 +130,7 @@ fn ten_copies_have_1024_moves_and_eleven_are_refused() {
     assert_eq!(Err(8), plain::count(&eleven, &start.term, &[]));
 }
 
-/// Labels above 15, whose mask bits stand in the later words.
+/// Labels above 15, whose mask bits are in the later words.
 #[test]
 fn masks_of_many_labels() {
     let a = |label| Term::action(label, &[]);
@@ -146,8 +147,8 @@ fn masks_of_many_labels() {
     }
 }
 
-/// Before reads old cells, now new ones; what is outside a domain is undefined; any word may stand in a
-/// memory.
+/// Before reads old cells, now new ones; a value outside a domain is undefined; a memory may contain any
+/// word.
 #[test]
 fn cells_are_renewed_in_order() {
     let (before, now) = (|function| Data::before(function, Data::Variable(0)), Data::now);
@@ -193,8 +194,8 @@ fn cells_are_renewed_in_order() {
     assert_eq!(vec![by_a, by_b], after(any));
 }
 
-/// Refusals 9 to 12, each condition alone, and their order where several hold, on the key cabinet: G 77, so
-/// 154 bytes for a term; two cells, so 4 for a memory.
+/// Refusals 9 to 12, each condition alone, and their order where several hold, on the key cabinet: G is 77,
+/// so a term takes 154 bytes; there are two cells, so a memory takes 4.
 #[test]
 fn each_condition_of_9_to_12() {
     let cabinet = subject(examples::key_cabinet(2));
@@ -228,9 +229,9 @@ fn each_condition_of_9_to_12() {
         assert_eq!(Some(9), made(&term, &memory, 0, short));
         assert_eq!(Some(9), presented(&term, &memory, &take_0, short));
     }
-    // A smaller term asks for its own reach only.
+    // A smaller term needs room for its own reach only.
     assert_eq!([None, Some(9)], [[8, 4], [7, 4]].map(|sizes| made(&bytes_of(&take_0), &memory, 0, sizes)));
-    // 12: no such number, no such event; but 9 before it, 11 before 9, and 10 before 11.
+    // 12: no such number, no such event; but 9 before 12, 11 before 9, and 10 before 11.
     assert_eq!([Some(12); 2], [4, u64::MAX].map(|number| made(&term, &memory, number, right)));
     assert_eq!(Some(12), presented(&term, &memory, &[21, 1, 1, 0], right));
     assert_eq!(Some(9), made(&term, &memory, 4, [0, 0]));

@@ -1,8 +1,8 @@
 //! The engine's operations against the plain interpreter: every kind of call, between forbidden pages.
 //!
-//! Only where the engine is linked (cfg `cabinet`). `ROUNDS=20` makes
-//! twenty times as many random cases. A touch of a forbidden page ends the process without a word: with
-//! `TRACE=1` each call is named before it is made.
+//! Compiled only if the engine is linked (cfg `cabinet`). `ROUNDS=20` generates twenty times as many random
+//! cases. An access to a forbidden page ends the process without a message: with `TRACE=1` each call is named
+//! before it is made.
 #![cfg(cabinet)]
 
 use std::io::Write;
@@ -26,18 +26,18 @@ fn say(line: &str) {
     writeln!(std::io::stdout().lock(), "{line}").unwrap();
 }
 
-/// Which of the more seldom kinds of calls were made and done.
+/// How many calls of the rarer kinds were made and not refused.
 #[derive(Debug, Default)]
 struct Kinds {
-    /// The rule set of the last call: many calls in a row have the same.
+    /// The rule set of the last call, kept since many calls in a row have the same one.
     last: Option<(Vec<u8>, Sizes, RuleSet)>,
     /// Given terms whose reach is above main's.
     above_main: usize,
-    /// Given terms with done in them, not alone.
+    /// Given terms of more than one word that contain done.
     done_within: usize,
-    /// Lent buffers with a byte behind their last word.
+    /// Lent buffers with a byte after their last word.
     odd: usize,
-    /// Lent buffers with words behind those that were written.
+    /// Lent memories with cells after the last one that is written.
     longer: usize,
 }
 
@@ -75,7 +75,7 @@ impl Kinds {
 }
 
 #[test]
-fn every_call_is_answered_alike() {
+fn every_call_is_answered_as_by_the_plain_interpreter() {
     let (mut met, mut kinds) = (Met::default(), Kinds::default());
     on_large_stack(|| {
         let mut rooms = Rooms::new(65536);
@@ -93,30 +93,31 @@ fn every_call_is_answered_alike() {
             kinds.note(&call, &expected);
         });
     });
-    met.say("the engine and the plain interpreter, answered alike");
+    met.say("the engine and the plain interpreter, with equal answers");
     kinds.check();
     met.require(&EVERY_OPERATION);
 }
 
-/// What a call whose two outcomes differ was, and how they do.
+/// A description of a call whose two outcomes differ, and of the difference.
 fn difference(call: &Call, edge: Edge, plain: &Outcome, engine: &Outcome) -> String {
     let Call { name, operation, given, .. } = call;
     let words: Vec<Vec<u16>> = given[1..].iter().map(|bytes| words_of(bytes)).collect();
     format!(
-        "{name} ({operation:?}, {edge:?}): plain answers {:?}, the engine {:?}; buffers alike: {}; given {words:?}",
+        "{name} ({operation:?}, {edge:?}): plain answers {:?}, the engine {:?}; buffers equal: {}; given {words:?}",
         plain.reply,
         engine.reply,
         plain.lent == engine.lent
     )
 }
 
-/// A length of 0 may come with any pointer; then the rule set is refused 1 before anything else counts.
+/// A length of 0 may come with any pointer; then the rule set is refused 1, before any other test.
 #[test]
 fn no_bytes_and_no_pointers() {
     assert!(nothing().iter().all(|&refusal| refusal == 1));
 }
 
-/// Document 01's key cabinet: 41 words and two cells of 0; the words up to G and the bytes behind are kept.
+/// Document 01's key cabinet: 41 words and two cells of 0; the words up to G and the bytes after the cells
+/// are kept.
 #[test]
 fn the_key_cabinet_starts() {
     let rules = examples::key_cabinet(2).file();

@@ -1,7 +1,7 @@
 //! Request K10 (document 02): two histories that end with equal terms and equal values have one future.
-//! Random lists of numbers that end alike, and the same lists after both, on the plain interpreter, on the
-//! history machine and, where it is linked, on the engine. `ROUNDS=20` makes twenty times as many random
-//! cases.
+//! Random lists of numbers with the same end, and the same further lists after both, on the plain
+//! interpreter, on the history machine and, if it is linked, on the engine. `ROUNDS=20` generates twenty
+//! times as many random cases.
 
 use std::collections::HashMap;
 
@@ -14,7 +14,7 @@ use host::machines::{outcome, Run, MACHINES};
 use host::plain::histories;
 use host::{on_large_stack, Tally};
 
-/// What a run leaves: its counts, its table, main's G words and C cells.
+/// What a run leaves: its counts, its table, and as state main's G words and C cells.
 struct Left {
     tally: Tally,
     table: Vec<u8>,
@@ -29,13 +29,13 @@ fn left(run: Run, subject: &Subject, list: &[u8]) -> Left {
     Left { tally: left.tally(), table, state: (term, memory) }
 }
 
-/// What a further list adds to the counts, and to each reader's.
+/// What a further list adds to the counts, and to each reader's counts.
 fn added(first: &Left, whole: &Left) -> ([u64; 3], Vec<[u32; 3]>) {
     let (before, after) = (first.tally.counts(), whole.tally.counts());
     ([0, 1, 2].map(|count| after[count] - before[count]), readers::increases(&first.table, &whole.table))
 }
 
-/// Two lists that end alike go on alike, number by number.
+/// Asserts that after two lists with the same end each number of a further list has the same effect.
 fn check_future(subject: &Subject, one: &[u8], other: &[u8], further: &[u8]) {
     for (by, run) in MACHINES {
         let (first, second) = (left(*run, subject, one), left(*run, subject, other));
@@ -51,7 +51,7 @@ fn check_future(subject: &Subject, one: &[u8], other: &[u8], further: &[u8]) {
 }
 
 #[test]
-fn histories_that_end_alike_have_one_future() {
+fn histories_with_equal_ends_have_one_future() {
     let (pairs, unequal) = on_large_stack(|| {
         let rounds = std::env::var("ROUNDS").ok().and_then(|rounds| rounds.parse().ok()).unwrap_or(1);
         let mut random = Random::new(53);

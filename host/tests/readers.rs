@@ -1,7 +1,6 @@
-//! Request K1 (document 02): counts by card reader. Run's table and refusal 13, asked of the plain
-//! interpreter, of the history machine and, where it is linked, of the engine: of all of them, but between
-//! forbidden pages, where the history machine is not asked. The header's figures are tested, too.
-//! `ROUNDS=20` makes twenty times as many random cases.
+//! Request K1 (document 02): counts by card reader. Run's table and refusal 13, on the plain interpreter, on
+//! the history machine and, if it is linked, on the engine; between forbidden pages without the history
+//! machine. The header's numbers are tested, too. `ROUNDS=20` generates twenty times as many random cases.
 
 use host::calls::{Call, Operation, Operations, Outcome, Plain};
 use host::generate::calls::{known_subjects, random_subjects, Subject};
@@ -21,8 +20,8 @@ fn rounds() -> usize {
     std::env::var("ROUNDS").ok().and_then(|rounds| rounds.parse().ok()).unwrap_or(1)
 }
 
-/// What all of them make of a run, which is the same. A refusal has written nothing; a run has kept what
-/// comes after the readers' records.
+/// Makes a run by every implementation, and asserts that the outcomes are the same, that a refusal has
+/// written nothing, and that a run has kept the bytes after the readers' records.
 fn ran(file: &[u8], list: &[u8], lent: &[Vec<u8>; 5]) -> Outcome {
     let mut outcomes = MACHINES.iter().map(|(by, run)| (by, outcome(*run, file, list, lent)));
     let (first, left) = outcomes.next().expect("a machine");
@@ -38,12 +37,12 @@ fn ran(file: &[u8], list: &[u8], lent: &[Vec<u8>; 5]) -> Outcome {
     left
 }
 
-/// The same, and its refusal, 0 if there is none.
+/// The refusal of such a run, 0 if there is none.
 fn refusal(file: &[u8], list: &[u8], lent: &[Vec<u8>; 5]) -> u8 {
     ran(file, list, lent).reply.refusal()
 }
 
-/// Buffers with room, for an admitted rule set; the table as given.
+/// Buffers with room, for an admitted rule set, with the given table.
 fn lent_with(random: &mut Random, subject: &Subject, table: Vec<u8>) -> [Vec<u8>; 5] {
     let mut lent = for_run(random, subject.sizes, [Fit::Exact; 5]);
     lent[0] = table;
@@ -54,29 +53,30 @@ fn subject(rules: RuleSet) -> Subject {
     Subject::new("example", rules).expect("the example is admitted")
 }
 
-// Rule sets of which it is known what each number does.
+// Rule sets for which the effect of each number is known.
 
-/// A number that is a visible move, one that is an internal one, and one that is refused, in every state
-/// that these lead to.
+/// A rule set, with a number that is a visible move, one that is an internal move, and one that is refused,
+/// in every state that these numbers lead to.
 struct Known {
     subject: Subject,
     numbers: [u16; 3],
 }
 
-/// Once without a mask and once with one.
+/// One rule set without a mask and one with a mask.
 fn known() -> [Known; 2] {
     let (a, step) = (|| Term::action(0, &[]), || Term::Internal);
     let round = || Term::star(Term::choice(a(), step()));
-    // The star's end, then a and the internal step.
+    // The star's end is move 0, a is move 1 and the internal step move 2.
     let bare = Known { subject: subject(with_main(round())), numbers: [1, 2, 3] };
-    // The left star's end and internal step, the right star's end, then a in both.
+    // The left star's end and internal step are moves 0 and 1, the right star's end is move 2, and a in both
+    // is move 3.
     let both = Term::parallel(mask_of(&[0]), round(), Term::star(a()));
     [bare, Known { subject: subject(with_main(both)), numbers: [3, 1, 4] }]
 }
 
 impl Known {
-    /// Runs a list by what its numbers do (0 visible, 1 internal, 2 refused) and their readers, and holds its
-    /// counts and its table against what they must be.
+    /// Runs a list, given by the effect of each number (0 visible, 1 internal, 2 refused) and its reader, and
+    /// asserts that its counts and its table are the expected ones.
     fn run(&self, random: &mut Random, done: &[(usize, u16)], before: &[u8]) {
         let list = of_pairs(done.iter().map(|&(count, reader)| (self.numbers[count], reader)));
         let (mut expected, mut counts) = (before.to_vec(), [0; 3]);
@@ -92,7 +92,7 @@ impl Known {
     }
 }
 
-/// Any lists on tables that hold anything.
+/// Random lists on tables with any contents.
 #[test]
 fn records_are_what_the_numbers_did() {
     let mut random = Random::new(61);
@@ -107,7 +107,7 @@ fn records_are_what_the_numbers_did() {
     }
 }
 
-/// Each count of each reader alone, at 4,294,967,295 and just below it.
+/// Each count of each reader alone, from 4,294,967,295 and from one below it.
 #[test]
 fn counts_begin_again_at_0() {
     let mut random = Random::new(62);
@@ -120,7 +120,7 @@ fn counts_begin_again_at_0() {
     }
 }
 
-/// More than 16 bits hold, at one reader.
+/// More numbers at one reader than 16 bits can count.
 #[test]
 fn counts_have_32_bits() {
     let mut random = Random::new(63);
@@ -131,8 +131,8 @@ fn counts_have_32_bits() {
     }
 }
 
-/// Any rule sets: the increases of all readers sum up to the three counts, and each reader has as many as
-/// its numbers.
+/// Random rule sets: the increases of all readers add up to the three counts, and each reader's increases to
+/// the number of its numbers.
 #[test]
 fn every_number_is_counted_once() {
     let counted = on_large_stack(|| {
@@ -163,8 +163,8 @@ fn every_number_is_counted_once() {
     assert!(counted.iter().all(|&count| count > 1000), "visible, internal, refused: {counted:?}");
 }
 
-/// One number more adds 1 to one count at its reader, the one that the run's own counts name, and nothing
-/// else.
+/// One number more adds 1 to one count of its reader, the one that also increases in the run's own counts,
+/// and nothing else.
 #[test]
 fn a_number_more_adds_one_at_its_reader() {
     let mut random = Random::new(65);
@@ -188,8 +188,8 @@ fn a_number_more_adds_one_at_its_reader() {
     }
 }
 
-/// 31 records and fewer are too few; 33, 34 and parts of one more are room enough, and what comes after the
-/// 32nd keeps its values.
+/// A table of 31 records or fewer is refused; one of 33 or 34, or with part of another record, is not, and
+/// the bytes after the 32nd record keep their values.
 #[test]
 fn tables_of_every_length() {
     let mut random = Random::new(66);
@@ -211,8 +211,8 @@ fn tables_of_every_length() {
     }
 }
 
-/// 0, 33, 65,535 and others, at the first, a middle and the last place, after numbers that are moves and
-/// such as are not; and every word at the last.
+/// 0, 33, 65,535 and others as a reader, at the first, a middle and the last number, after numbers that are
+/// moves and numbers that are not; and every word at the last number.
 #[test]
 fn readers_outside_1_to_32() {
     let mut random = Random::new(67);
@@ -239,7 +239,7 @@ fn readers_outside_1_to_32() {
     }
 }
 
-/// A list cut anywhere: an odd byte after whole pairs counts for nothing; a number without its reader is
+/// A list cut at every byte: an odd byte after whole pairs is ignored; a number without its reader is
 /// refused, with an odd byte too.
 #[test]
 fn a_list_cut_in_the_middle_of_a_pair() {
@@ -261,7 +261,7 @@ fn a_list_cut_in_the_middle_of_a_pair() {
     }
 }
 
-/// A file for each refusal of a rule set.
+/// One file for each refusal of a rule set.
 fn refused_files() -> Vec<(u8, Vec<u8>)> {
     let mut files: Vec<(u8, Vec<u8>)> = Vec::new();
     let mut take = |case: Case| {
@@ -277,7 +277,7 @@ fn refused_files() -> Vec<(u8, Vec<u8>)> {
     files
 }
 
-/// Fits of the five buffers: tables of some lengths; of the others all with room, or one of them too short.
+/// Fits of the five buffers: tables of some lengths, with all other buffers roomy or one of them too short.
 fn some_fits() -> Vec<[Fit; 5]> {
     let mut some = Vec::new();
     for table in [Fit::Empty, Fit::ByteShort, Fit::Exact, Fit::Longer] {
@@ -292,7 +292,7 @@ fn some_fits() -> Vec<[Fit; 5]> {
     some
 }
 
-/// 1 to 8 before 9, 9 before 13, whichever of them apply.
+/// 1 to 8 before 9, and 9 before 13, in every combination.
 #[test]
 fn refusals_in_combination() {
     on_large_stack(|| {
@@ -316,7 +316,7 @@ fn refusals_in_combination() {
     });
 }
 
-/// Those that can be asked between forbidden pages.
+/// The implementations that can run between forbidden pages.
 fn operations() -> Vec<&'static dyn Operations> {
     vec![
         &Plain,
@@ -325,8 +325,8 @@ fn operations() -> Vec<&'static dyn Operations> {
     ]
 }
 
-/// List and table next to forbidden pages, before and after them: no byte outside is read or written. At
-/// the end of a page tables of these lengths begin at every alignment.
+/// List and table next to forbidden pages, before and after them: no byte outside is read or written. At the
+/// end of a page, tables of these lengths begin at every alignment.
 #[test]
 fn between_forbidden_pages() {
     let mut random = Random::new(70);

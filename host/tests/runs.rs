@@ -1,8 +1,9 @@
 //! The engine's Run against the plain interpreter, over cells and over histories: long runs with room in
-//! every buffer. (`operations` has the short ones, in buffers of every length; `readers` has the table's.)
+//! every buffer. (`operations` has the short ones, in buffers of every length; `readers` has the tests of the
+//! table.)
 //!
-//! Document 01, "Memory and the history machine". Only where the engine is linked (cfg `cabinet`).
-//! `ROUNDS=20` makes twenty times as many random cases.
+//! Document 01, "Memory and the history machine". Compiled only if the engine is linked (cfg `cabinet`).
+//! `ROUNDS=20` generates twenty times as many random cases.
 #![cfg(cabinet)]
 
 use host::generate::calls::{known_subjects, random_subjects, Subject};
@@ -40,7 +41,8 @@ fn check_run(random: &mut Random, subject: &Subject, length: usize) {
     let cells = outcome(plain::run, file, &list, &lent);
     for (by, run) in &MACHINES[1..] {
         if *by == "histories" && length > 250 && sizes.breadth > 500 {
-            continue; // The history machine lists every move with its successor.
+            // The history machine lists every move with its successor, which takes too long here.
+            continue;
         }
         let left = outcome(*run, file, &list, &lent);
         assert_eq!(cells.reply, left.reply, "{name}: cells (left) and {by} (right), {list:?}");

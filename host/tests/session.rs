@@ -1,7 +1,9 @@
-//! The printing program, run on bytes: document 01's session and others written out; what it does with input that is
-//! cut short or comes byte by byte; and sessions of known and random rule sets, as the plain interpreter has them.
+//! Tests of the printing program on bytes: document 01's session and others written out; input that is cut
+//! short or arrives byte by byte; and sessions of known and random rule sets, compared with the plain
+//! interpreter.
 //!
-//! Only where the program is built (cfg `session`). `ROUNDS=20` makes twenty times as many random sessions.
+//! Compiled only if the program is built (cfg `session`). `ROUNDS=20` generates twenty times as many random
+//! sessions.
 #![cfg(session)]
 
 use std::fmt::Write as _;
@@ -24,18 +26,19 @@ fn rounds() -> usize {
     std::env::var("ROUNDS").ok().and_then(|rounds| rounds.parse().ok()).unwrap_or(1)
 }
 
-fn begun() -> Child {
+fn started() -> Child {
     let piped = Stdio::piped;
     Command::new(PROGRAM).stdin(piped()).stdout(piped()).spawn().expect("the program is started")
 }
 
-/// What the program prints for this input, given in pieces of so many bytes.
+/// What the program prints for this input, sent in pieces of `piece` bytes.
 fn printed_by_pieces(input: &[u8], piece: usize) -> String {
-    let mut child = begun();
+    let mut child = started();
     let mut into = child.stdin.take().expect("a pipe");
     let mut printed = String::new();
     std::thread::scope(|scope| {
-        // A refused set's program ends before it has read everything: what cannot be written then does not matter.
+        // If the set is refused, the program ends before it has read everything: a failed write does not
+        // matter.
         scope.spawn(move || input.chunks(piece).all(|bytes| into.write_all(bytes).is_ok()));
         child.stdout.take().expect("a pipe").read_to_string(&mut printed).expect("text is printed");
     });
@@ -47,21 +50,21 @@ fn printed(input: &[u8]) -> String {
     printed_by_pieces(input, 1 << 16)
 }
 
-/// A rule set's file and the numbers behind it.
+/// A rule set's file and the numbers after it.
 fn given(rules: &RuleSet, numbers: &[u16]) -> Vec<u8> {
     [rules.file(), bytes_of(numbers)].concat()
 }
 
-// The session as the plain interpreter has it.
+// The expected session, by the plain interpreter.
 
-/// The blocks, as many as word 1 says, and what is behind them.
+/// Splits the input after the number of blocks that word 1 says.
 fn parted(input: &[u8]) -> (&[u8], &[u8]) {
     let said = input.get(6..8).map_or(1, |word| u16::from_le_bytes([word[0], word[1]]));
     let blocks = if (1..=64).contains(&said) { usize::from(said) } else { 1 };
     input.split_at(input.len().min(512 * blocks))
 }
 
-/// The state's lines. The buffers have room for every rule set.
+/// The lines of a state. The buffers are large enough for every rule set.
 fn state(rules: &[u8], taken: u64, term: &[u8], memory: &[u8]) -> String {
     let count = plain::count(rules, term, memory).expect("a state of the rule set");
     let mut lines = format!("state {taken} moves {count} cells");
@@ -125,7 +128,7 @@ fn check(name: &str, input: &[u8]) -> String {
 
 // Sessions written out.
 
-/// Document 01, word for word.
+/// Document 01's session, word for word.
 const KEY_CABINET: &str = "\
 state 0 moves 4 cells 0 0
 0 i
@@ -151,7 +154,7 @@ fn the_key_cabinet() {
     assert_eq!(start, printed(&input[..513]), "half a number");
 }
 
-/// The input that `rt` gives the program, and what it must print, are document 01's.
+/// The input that `rt` gives the program, and the output that it expects, are document 01's.
 #[test]
 fn the_stored_session() {
     let stored = |name: &str| {
@@ -204,7 +207,7 @@ fn undefined_cells() {
     assert_eq!(["5 2 0", "7 4 1 0"], [lines[6], lines[18]], "Register(0), then Lend(1, 0), in {lines:#?}");
 }
 
-/// A set without its blocks is refused 1, or 3 where whole blocks are missing, and no number is read.
+/// A set without all of its bytes is refused 1, or 3 if whole blocks are missing, and no number is read.
 #[test]
 fn input_cut_short() {
     let cabinet = examples::key_cabinet(2).file();
@@ -219,7 +222,7 @@ fn input_cut_short() {
     }
 }
 
-/// Where word 1 says no number of blocks that a file may have, one is read; else as many as it says.
+/// If word 1 is not 1 to 64, one block is read; else as many as it says.
 #[test]
 fn the_number_of_blocks() {
     let said = |blocks: u16| {
@@ -243,11 +246,12 @@ fn refused_sets() {
     let mut seen = [0usize; 9];
     on_large_stack(|| {
         let mut take = |case: Case| {
-            // Bytes that are no file whose second word is right are read in another way than Admit is given them.
-            let (rules, behind) = parted(&case.bytes);
+            // Cases with bytes after the blocks that word 1 counts are left out: the program would admit
+            // fewer bytes than the case has.
+            let (rules, rest) = parted(&case.bytes);
             let Err(refusal) = plain::admit(rules) else { return };
             let times = &mut seen[usize::from(refusal)];
-            if behind.is_empty() && *times < 20 * rounds() {
+            if rest.is_empty() && *times < 20 * rounds() {
                 *times += 1;
                 let numbers = bytes_of(&[0, 1, 2]);
                 check(&case.name, &[&case.bytes[..], &numbers].concat());
@@ -280,10 +284,11 @@ fn the_largest() {
     });
 }
 
-/// States about as long as the program's page of 4,096 bytes.
+/// States about as long as the program's output buffer of 4,096 bytes.
 #[test]
 fn a_page_filled_to_the_last_byte() {
-    // 600 moves, of which so many have a label of two digits: each makes the state a byte longer.
+    // 600 moves, of which the first `long` have a label of two digits: each of them makes the state a byte
+    // longer.
     let rules = |long: u16| {
         let moves = (0..600).map(|number| Term::action(if number < long { 63 } else { 0 }, &[]));
         let term = moves.reduce(|others, next| Term::choice(next, others)).expect("there are moves");
@@ -296,15 +301,15 @@ fn a_page_filled_to_the_last_byte() {
     };
     on_large_stack(|| {
         for (long, length) in [(580, 4094), (581, 4095), (582, 4096), (583, 4097), (584, 4098)] {
-            assert_eq!(length, check("so many long labels", &given(&rules(long), &[])).len());
+            assert_eq!(length, check("labels of two digits", &given(&rules(long), &[])).len());
             check("and a number", &given(&rules(long), &[599]));
         }
     });
 }
 
-/// Known and random rule sets, with numbers that are moves and numbers that are none.
+/// Known and random rule sets, with numbers that are moves and numbers that are not.
 #[test]
-fn sessions_are_printed_alike() {
+fn sessions_are_those_of_the_plain_interpreter() {
     on_large_stack(|| {
         let mut random = Random::new(57);
         let mut subjects = known_subjects();
@@ -318,10 +323,10 @@ fn sessions_are_printed_alike() {
     });
 }
 
-/// Whoever sends the numbers one by one sees each answer before the next is sent.
+/// If the numbers are sent one by one, each answer is printed before the next number is sent.
 #[test]
 fn each_answer_is_seen_at_once() {
-    let mut child = begun();
+    let mut child = started();
     let mut into = child.stdin.take().expect("a pipe");
     let from = BufReader::new(child.stdout.take().expect("a pipe"));
     let (sender, lines) = mpsc::channel();

@@ -1,7 +1,7 @@
-//! Whole systems through the engine and through the plain interpreter: every state that they reach, every
-//! move of a state that has many, and states that nest as deep as can be.
+//! Whole systems on the engine and on the plain interpreter: every state that they reach, every move of a
+//! state that has many, and the most deeply nested states.
 //!
-//! Document 01, "Operations" and "Moves, in order". Only where the engine is linked (cfg `cabinet`).
+//! Document 01, "Operations" and "Moves, in order". Compiled only if the engine is linked (cfg `cabinet`).
 #![cfg(cabinet)]
 
 use std::io::Write;
@@ -20,11 +20,12 @@ fn subject(name: &str, rules: RuleSet) -> Subject {
     Subject::new(name, rules).expect("an example")
 }
 
-/// Every state of the library system of source document 002, and of key cabinets, through Start, Count
-/// and Move alone.
+/// Every state of the library system of source document 002, and of key cabinets, through Start, Count and
+/// Move alone.
 #[test]
 fn systems_have_the_same_states() {
-    // A key has four states, done among them; both sides done, one more: s(n + 1) = 4 s(n) + 1.
+    // A key has four states, done among them. n + 1 keys have 4 s(n) states for those of one key and of the
+    // others, and one more, done, after both sides are done: s(n + 1) = 4 s(n) + 1.
     let systems = [
         ("key cabinet, 2 keys", examples::key_cabinet(2), 17),
         ("key cabinet, 5 keys", examples::key_cabinet(5), 1109),
@@ -43,7 +44,8 @@ fn systems_have_the_same_states() {
     });
 }
 
-/// Asks the engine between forbidden pages and the plain interpreter: both must agree.
+/// Makes a call on the engine between forbidden pages and on the plain interpreter, and asserts that the
+/// outcomes are equal.
 fn check(rooms: &mut Rooms, call: &Call) {
     let expected = call.outcome(&Plain);
     for edge in [Edge::Front, Edge::Back] {
@@ -54,9 +56,9 @@ fn check(rooms: &mut Rooms, call: &Call) {
     assert_eq!(call.expected, Some(expected.reply.refusal()), "{}", call.name);
 }
 
-/// The term of ten copies, W 59,048: each of its 1,024 moves, and the event that all of them are.
+/// The term of ten copies, W 59,048: each of its 1,024 moves, and the one event that all of them have.
 #[test]
-fn ten_copies_move_alike() {
+fn ten_copies_have_the_same_moves() {
     on_large_stack(|| {
         let Subject { file, sizes, .. } = subject("ten copies", examples::copies_of_choice(10));
         let State { term, memory } = running::start(&file, sizes);
@@ -83,9 +85,9 @@ fn ten_copies_move_alike() {
     });
 }
 
-/// The worst nestings of terms, guards and expressions.
+/// The deepest nestings of terms, guards and expressions.
 #[test]
-fn deep_states_move_alike() {
+fn deep_states_have_the_same_moves() {
     on_large_stack(|| {
         let mut rooms = Rooms::new(65536);
         let calls = deep::worst().into_iter().flat_map(|deep| deep.calls());

@@ -1,6 +1,7 @@
-//! Admits rule files with the engine and says what it answers, in words.
+//! Admits rule files with the engine and prints its answers in words.
 //!
-//! Document 01, "Operations" (Admit) and its table of refusals. Without the static library it says so.
+//! Document 01, "Operations" (Admit) and its table of refusals. If the static library is not linked, the
+//! program prints that instead.
 
 use std::process::ExitCode;
 

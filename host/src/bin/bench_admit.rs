@@ -1,9 +1,9 @@
-//! How long Admit takes: the engine beside the plain Rust reader, in one process, on the same bytes.
+//! Measures how long Admit takes: the engine and the plain Rust reader, in one process, on the same bytes.
 //!
-//! Run it in a release build (`cargo run --release --bin bench_admit`). Each sample times a batch of
-//! calls; the figures are medians over the samples, plain and engine taking turns. Without the static
-//! library the plain reader stands alone; with that of another revision (`host/before`) it takes its turn
-//! too, under "before".
+//! Run it in a release build (`cargo run --release --bin bench_admit`). Each sample times a batch of calls by
+//! each implementation in turn; the figures are medians over the samples. Without the static library only the
+//! plain reader is timed. If the engine of another revision is linked (see `host/before`), it is timed too,
+//! in the column "before".
 
 use std::hint::black_box;
 use std::time::{Duration, Instant};
@@ -12,7 +12,7 @@ use host::generate::{full, nesting};
 use host::{examples, on_large_stack, plain, Answer};
 
 const SAMPLES: usize = 301;
-/// A batch takes about this long, so that the clock's own time does not count.
+/// A batch takes about this long, so that the time to read the clock is negligible.
 const BATCH: Duration = Duration::from_micros(200);
 
 type Admit = fn(&[u8]) -> Answer;
@@ -38,7 +38,7 @@ fn main() {
     });
 }
 
-/// What is admitted, and what is refused early or late.
+/// Files of rule sets that are admitted, and one whose last block has a wrong sum.
 fn inputs() -> Vec<(&'static str, Vec<u8>)> {
     let full = full::rules().file();
     let mut damaged = full.clone();
@@ -100,7 +100,7 @@ fn calls_in_a_batch(admit: Admit, bytes: &[u8]) -> u32 {
     (BATCH.as_nanos() / one.as_nanos()).clamp(1, 100_000) as u32
 }
 
-/// Microseconds a call.
+/// Microseconds per call.
 fn sample(admit: Admit, bytes: &[u8], calls: u32) -> f64 {
     let start = Instant::now();
     for _ in 0..calls {

@@ -1,17 +1,17 @@
-//! Events per second as the history grows: Run by the engine and by the plain interpreter, which keep cells
-//! and forget the events, beside the history machine, which keeps the events and no values.
+//! Measures events per second as the history grows: Run by the engine and by the plain interpreter, which
+//! keep cells and forget the events, and the history machine, which keeps the events and no values.
 //!
 //! Document 01, "Memory and the history machine". Run it in a release build (`cargo run --release --bin
 //! bench_histories`); it prints a table for each system, as Markdown, and draws
 //! `docs/events-per-second.svg`. Without the static library the engine is left out.
 //!
-//! The lists are visible moves, chosen at random by a fixed seed, at the readers 1 to 32 by turns; the
-//! beginnings of one list serve for all lengths. Run: the time of one call over the list's beginning, its
-//! admission included, divided by the length. The history machine: the time of an event at that length, its
-//! moves listed and one of them taken, all values found anew from the events; within one event none is found
-//! twice. It is written to be plain, not fast: what counts is how its time grows. All figures are the least
-//! over several samples, since whatever else the machine does only adds to them; and they are processor time
-//! of the one thread, since a run of a second is never left alone.
+//! The lists are visible moves, chosen at random with a fixed seed, at the readers 1 to 32 in rotation; every
+//! length uses a prefix of one list. Run: the time of one call over the prefix, admission included, divided
+//! by its length. History machine: the time of one event at that length, that is, of listing the moves and
+//! taking one of them, with all values computed from the events; within one event no value is computed twice.
+//! It is written to be simple, not fast: what matters is how its time grows. Each figure is the minimum over
+//! several samples, since other work on the machine only adds to a sample; and it is processor time of the
+//! one thread, since other work always interrupts a run of a second.
 
 use std::hint::black_box;
 use std::path::Path;
@@ -28,20 +28,22 @@ use host::rules::RuleSet;
 use host::{bytes_of, examples, on_stack_of, Sizes};
 
 const LENGTHS: [usize; 6] = [10, 100, 1_000, 10_000, 100_000, 1_000_000];
-/// The history machine is measured over so many events before a length and as many from it on, so that
-/// not one term alone decides: a guard is not always there to be asked.
+/// The history machine is timed over this many events before each length and as many after it, so that the
+/// figure is not decided by a single term: not every term has a guard to evaluate.
 const AROUND: usize = 10;
-/// A sample is at least so many seconds of the history machine, or so many events of a run: the clock of a
-/// thread's time can be ten microseconds behind, and the least of many short samples would be its error.
+/// A sample takes at least this many seconds of the history machine, or this many events of a run: the clock
+/// of a thread's time can be wrong by ten microseconds, and the minimum of many short samples would pick out
+/// that error.
 const SECONDS: f64 = 0.005;
 const EVENTS: usize = 50_000;
-/// Samples are taken for so long, and at least so many.
+/// Samples are taken for this long, and at least this many of them.
 const SAMPLING: Duration = Duration::from_secs(3);
 const LEAST_SAMPLES: usize = 5;
-/// Values over a history are found by recursion, event by event: some hundred bytes each.
+/// Values over a history are computed recursively, event by event, which takes some hundred bytes of stack
+/// each.
 const STACK: usize = 2 << 30;
 
-/// The engine, where it is linked.
+/// The engine, if it is linked.
 fn engine() -> Option<&'static dyn Operations> {
     #[cfg(cabinet)]
     return Some(&host::engine::Cabinet);
@@ -49,7 +51,7 @@ fn engine() -> Option<&'static dyn Operations> {
     return None;
 }
 
-/// `struct timespec` of time.h, where it has 64 bits each.
+/// `struct timespec` of time.h, on systems where both fields have 64 bits.
 #[repr(C)]
 struct Timespec {
     seconds: i64,
@@ -63,10 +65,10 @@ extern "C" {
 /// CLOCK_THREAD_CPUTIME_ID of Linux.
 const THREAD_TIME: i32 = 3;
 
-/// Seconds that a processor has worked for this thread.
+/// Processor time of this thread, in seconds.
 fn seconds() -> f64 {
     let mut time = Timespec { seconds: 0, nanoseconds: 0 };
-    // SAFETY: the C library only writes the time, and keeps nothing.
+    // SAFETY: the C library only writes the time, and keeps no pointer to it.
     let answer = unsafe { clock_gettime(THREAD_TIME, &mut time) };
     assert_eq!(0, answer, "no clock of a thread's time");
     time.seconds as f64 + time.nanoseconds as f64 * 1e-9
@@ -98,22 +100,22 @@ fn main() {
     });
 }
 
-/// Ten million numbers: the keys are taken and brought, one after the other, again and again.
+/// Times a run of ten million numbers: the keys are taken and brought, one after the other, again and again.
 fn longest() {
     let file = examples::key_cabinet(2).file();
     let (sizes, _) = histories::rule_set(&file).expect("an admitted rule set");
     let mut runs = Runs::new(&file, sizes, &[1, 0, 3, 2].repeat(2_500_000));
     let (engine, plain) = runs.times();
-    let told = |seconds: f64| three_figures(1.0 / seconds);
+    let rate = |seconds: f64| three_figures(1.0 / seconds);
     println!(
         "Key cabinet, {} events: engine {}, plain Rust {} events/s",
         thousands(runs.length() as f64),
-        engine.map_or("-".to_string(), told),
-        told(plain)
+        engine.map_or("-".to_string(), rate),
+        rate(plain)
     );
 }
 
-/// Seconds an event, at a length.
+/// Seconds per event, at one length.
 struct Row {
     length: usize,
     engine: Option<f64>,
@@ -121,13 +123,13 @@ struct Row {
     histories: f64,
 }
 
-/// The rows of a system, from the shortest list on.
+/// The rows of one rule set, in order of length.
 fn measured(rules: &RuleSet) -> Vec<Row> {
     let file = rules.file();
     let (sizes, _) = histories::rule_set(&file).expect("an admitted rule set");
     let mut walked = walk(rules);
     let mut rows = Vec::new();
-    // From the longest on, for the machine goes back.
+    // The longest list first, since the machine can only go back to earlier histories.
     for (length, term) in LENGTHS.into_iter().zip(walked.terms.clone()).rev() {
         let histories = time_of_events(&mut walked, length, &term);
         let mut runs = Runs::new(&file, sizes, &walked.list[..length]);
@@ -143,11 +145,12 @@ fn measured(rules: &RuleSet) -> Vec<Row> {
 struct Walked<'a> {
     machine: Machine<'a>,
     list: Vec<u16>,
-    /// For each length, the term where its events begin to be measured.
+    /// For each length, the term at the first event that is timed.
     terms: Vec<Rc<Tree>>,
 }
 
-/// Visible moves by chance, somewhat more than the longest list. In these systems there always is one.
+/// A random list of visible moves, `AROUND` longer than the longest length. In these systems there is always
+/// a visible move.
 fn walk(rules: &RuleSet) -> Walked<'_> {
     let mut random = Random::new(2);
     let mut walked = Walked { machine: Machine::new(rules), list: Vec::new(), terms: Vec::new() };
@@ -164,7 +167,8 @@ fn walk(rules: &RuleSet) -> Walked<'_> {
     walked
 }
 
-/// Seconds an event of the history machine, at a length. Nothing is remembered from one to the next.
+/// Seconds per event of the history machine, at one length. No value is remembered from one event to the
+/// next.
 fn time_of_events(walked: &mut Walked, length: usize, term: &Rc<Tree>) -> f64 {
     let events = length - AROUND..length + AROUND;
     let numbers = &walked.list[events.clone()];
@@ -188,7 +192,7 @@ fn time_of_events(walked: &mut Walked, length: usize, term: &Rc<Tree>) -> f64 {
     least / numbers.len() as f64
 }
 
-/// The least of several samples.
+/// The minimum of several samples.
 fn least(mut sample: impl FnMut() -> f64) -> f64 {
     let (begin, mut samples, mut least) = (Instant::now(), 0, f64::MAX);
     while samples < LEAST_SAMPLES || begin.elapsed() < SAMPLING {
@@ -214,7 +218,7 @@ impl<'a> Runs<'a> {
         self.list.len() / 4
     }
 
-    /// Seconds an event by the engine and by the plain interpreter, which take turns.
+    /// Seconds per event of the engine and of the plain interpreter, sampled in turn.
     fn times(&mut self) -> (Option<f64>, f64) {
         let mut engine_least = f64::MAX;
         let plain = least(|| {
@@ -226,7 +230,7 @@ impl<'a> Runs<'a> {
         (engine().map(|_| engine_least), plain)
     }
 
-    /// Seconds an event.
+    /// One sample: seconds per event.
     fn sample(&mut self, by: &dyn Operations) -> f64 {
         let calls = (EVENTS / self.length()).max(1);
         let start = seconds();
@@ -236,14 +240,14 @@ impl<'a> Runs<'a> {
         (seconds() - start) / (calls * self.length()) as f64
     }
 
-    /// Every number is a visible move.
+    /// One call of Run. Every number of the list is a visible move.
     fn run(&mut self, by: &dyn Operations) {
         let lent = self.lent.each_mut().map(Vec::as_mut_slice);
         let ran = by.run(black_box(self.file), black_box(&self.list), lent);
         assert_eq!(Ok(self.length() as u64), black_box(ran).map(|tally| tally.visible));
     }
 
-    /// All three end in the same term with the same values.
+    /// Asserts that all three end in the same term with the same values.
     fn check(&mut self, walked: &mut Walked, term: &Rc<Tree>) {
         let length = self.length();
         walked.machine.undo((term.clone(), length - AROUND));
@@ -253,12 +257,12 @@ impl<'a> Runs<'a> {
         let (term, memory) = (bytes_of(&words), bytes_of(&walked.machine.values()));
         for by in [Some(&Plain as &dyn Operations), engine()].into_iter().flatten() {
             self.run(by);
-            assert!(self.lent[1] == term && self.lent[2] == memory, "Run and the history machine part");
+            assert!(self.lent[1] == term && self.lent[2] == memory, "Run and the history machine differ");
         }
     }
 }
 
-/// Events per second, and the engine's time by the plain interpreter's.
+/// Prints events per second, and the engine's time divided by the plain interpreter's.
 fn print_table(name: &str, rows: &[Row]) {
     println!("### {name}\n");
     println!(
@@ -266,14 +270,14 @@ fn print_table(name: &str, rows: &[Row]) {
     );
     println!("|---:|---:|---:|---:|---:|");
     for row in rows {
-        let told = |seconds: Option<f64>| seconds.map_or("-".to_string(), three_figures);
+        let figure = |number: Option<f64>| number.map_or("-".to_string(), three_figures);
         println!(
             "| {} | {} | {} | {} | {} |",
             thousands(row.length as f64),
-            told(row.engine.map(|seconds| 1.0 / seconds)),
-            told(Some(1.0 / row.plain)),
-            told(Some(1.0 / row.histories)),
-            told(row.engine.map(|seconds| seconds / row.plain))
+            figure(row.engine.map(|seconds| 1.0 / seconds)),
+            figure(Some(1.0 / row.plain)),
+            figure(Some(1.0 / row.histories)),
+            figure(row.engine.map(|seconds| seconds / row.plain))
         );
     }
     println!();

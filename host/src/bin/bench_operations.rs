@@ -1,12 +1,12 @@
-//! How long Start, Count, Move, Present and Run take: the engine beside the plain interpreter, in one
+//! Measures how long Start, Count, Move, Present and Run take: the engine and the plain interpreter, in one
 //! process, on the same bytes.
 //!
-//! Run it in a release build (`cargo run --release --bin bench_operations`); with words as argument, only
-//! the rows that have them in their name, and with `plain` or `engine` after them that side alone, for a
-//! profiler. Each sample times a batch of calls, plain and engine taking turns;
-//! the figures are the least over the samples, since whatever else the machine does only adds to them.
-//! Every call admits the rule set and checks the term anew. A run's numbers come from the readers 1 to 32 by
-//! turns, and both count by reader. Without the static library the plain interpreter is timed alone.
+//! Run it in a release build (`cargo run --release --bin bench_operations`). A first argument selects the
+//! rows whose names contain it; a second, `plain` or `engine`, times only that side, for a profiler. Each
+//! sample times a batch of calls by each side in turn; the figures are the minimum over the samples, since
+//! other work on the machine only adds to a sample. Every call admits the rule set and checks the term again.
+//! The numbers of a run come from the readers 1 to 32 in rotation, and both sides count by reader. Without
+//! the static library only the plain interpreter is timed.
 
 use std::hint::black_box;
 use std::time::{Duration, Instant};
@@ -21,12 +21,12 @@ use host::rules::RuleSet;
 use host::{bytes_of, examples, on_large_stack, plain, words_of};
 
 const SAMPLES: usize = 201;
-/// A batch takes about this long, so that the clock's own time does not count.
+/// A batch takes about this long, so that the time to read the clock is negligible.
 const BATCH: Duration = Duration::from_micros(500);
-/// So many numbers to a run; its time is told per number.
+/// The length of a run's list; a run's time is printed per number.
 const NUMBERS: usize = 1000;
 
-/// The engine, where it is linked.
+/// The engine, if it is linked.
 fn engine() -> Option<&'static dyn Operations> {
     #[cfg(cabinet)]
     return Some(&host::engine::Cabinet);
@@ -45,17 +45,17 @@ fn main() {
     });
 }
 
-/// Whether a row is asked for.
+/// Whether the row of this name is selected by the first argument.
 fn wanted(name: &str) -> bool {
     std::env::args().nth(1).is_none_or(|word| name.contains(&word))
 }
 
-/// Whether a row of these rules may be: its name begins with theirs.
+/// Whether some row of the rule set of this name may be selected: the names of its rows begin with it.
 fn may_be_wanted(name: &str) -> bool {
     wanted(name) || std::env::args().nth(1).is_some_and(|word| word.starts_with(name))
 }
 
-/// Whether a side is asked for, `plain` or `engine`.
+/// Whether this side, `plain` or `engine`, is selected by the second argument.
 fn side_wanted(side: &str) -> bool {
     std::env::args().nth(2).is_none_or(|word| word == side)
 }
@@ -64,7 +64,7 @@ fn subject(name: &str, rules: RuleSet) -> Subject {
     Subject::new(name, rules).expect("an admitted rule set")
 }
 
-/// Rule sets at the start and where much can happen.
+/// Rule sets, each at its start and in the state with the most moves of a random walk.
 fn systems() {
     let systems = [
         ("key cabinet, 2 keys", examples::key_cabinet(2)),
@@ -92,7 +92,7 @@ fn systems() {
     }
 }
 
-/// The state with most moves of a random walk.
+/// The state with the most moves of a random walk.
 fn busy_state(subject: &Subject) -> State {
     let mut random = Random::new(1);
     let states = running::walk(&mut random, &subject.file, subject.sizes, 40);
@@ -109,7 +109,7 @@ fn terms() {
     };
     let terms = [
         ("4,000 sequences to the left", nested(4000, &[&[22]], step, step)),
-        ("4,000 sequences behind done", nested(4000, &[&[22], done], step, &[])),
+        ("4,000 sequences after done", nested(4000, &[&[22], done], step, &[])),
         ("1,600 choices to the right", nested(1600, &[&[23], take], take, &[])),
         ("900 parallels to the left", nested(900, &[beside], take, take)),
         ("900 parallels to the right", nested(900, &[beside, take], take, &[])),
@@ -125,13 +125,13 @@ fn terms() {
     }
 }
 
-/// Two choices of so many Takes in parallel with mask Take: the square of that number of moves.
+/// Two choices of n Takes each, in parallel with mask Take: n² moves.
 fn many_moves(takes: usize) -> Vec<u16> {
     let choice = [&[23, 21, 0, 1, 0].repeat(takes - 1)[..], &[21, 0, 1, 0]].concat();
     [&[25, 1, 0, 0, 0], &choice[..], &choice].concat()
 }
 
-/// Count, and the last move by number and by its event.
+/// The rows of a state: Count, then the last move by its number and by its event.
 fn state_rows(subject: &Subject, state: &State) {
     let (_, reach, _) = running::measures(&subject.rules, &words_of(&state.term));
     let lent = vec![vec![0; 2 * reach as usize], vec![0; 2 * subject.sizes.cells as usize]];
@@ -163,7 +163,7 @@ fn state_rows(subject: &Subject, state: &State) {
     row(call("present, the last's action", Operation::Present, given, lent));
 }
 
-/// A run of visible moves as far as there are any.
+/// The row of Run: a list that takes visible moves as far as there are any.
 fn run_row(subject: &Subject) {
     if !wanted(&format!("{}: run", subject.name)) {
         return;
@@ -183,7 +183,8 @@ fn run_row(subject: &Subject) {
                 break;
             }
         }
-        // Where nothing renews a cell, the last move is taken, or a number refused.
+        // If no move found renews a cell, the list takes the last move, or 0, which is refused, if there is
+        // no move.
         let (number, after) = found.unwrap_or_else(|| {
             let last = u64::from(moves).saturating_sub(1);
             (last, if moves == 0 { state.clone() } else { next(last) })
@@ -201,7 +202,7 @@ fn run_row(subject: &Subject) {
     row(subject, &call, subject.sizes.size as usize, 0, NUMBERS);
 }
 
-/// One line: the call so many times, its time divided by its parts.
+/// Prints one row: the time of a call, divided by `parts`.
 fn row(subject: &Subject, call: &Call, words: usize, moves: u32, parts: usize) {
     let name = format!("{}: {}", subject.name, call.name);
     if !wanted(&name) {
@@ -220,16 +221,16 @@ fn row(subject: &Subject, call: &Call, words: usize, moves: u32, parts: usize) {
             engine_least = engine_least.min(sample(engine, &given, call.operation, &mut lent, calls));
         }
     }
-    let (plain, told) = (plain_least / parts as f64, engine_least / parts as f64);
-    let (told, ratio) = match engine {
+    let (plain, timed) = (plain_least / parts as f64, engine_least / parts as f64);
+    let (timed, ratio) = match engine {
         Some(engine) => {
             assert!(call.outcome(&Plain).same(&call.outcome(engine)), "{name}: answers differ");
-            (format!("{told:.3}"), format!("{:.2}", told / plain))
+            (format!("{timed:.3}"), format!("{:.2}", timed / plain))
         }
         None => ("-".to_string(), "-".to_string()),
     };
     let moves = if moves == 0 { "-".to_string() } else { moves.to_string() };
-    println!("{name:46} {words:>7} {moves:>7} {plain:>10.3} {told:>10} {ratio:>7}");
+    println!("{name:46} {words:>7} {moves:>7} {plain:>10.3} {timed:>10} {ratio:>7}");
 }
 
 fn once(by: &dyn Operations, given: &[&[u8]], operation: Operation, lent: &mut [Vec<u8>]) {
@@ -251,7 +252,7 @@ fn calls_in_a_batch(given: &[&[u8]], operation: Operation, lent: &mut [Vec<u8>])
     (BATCH.as_nanos() / one.as_nanos()).clamp(1, 100_000) as u32
 }
 
-/// Microseconds a call.
+/// Microseconds per call.
 fn sample(
     by: &dyn Operations,
     given: &[&[u8]],

@@ -1,5 +1,5 @@
 //! Writes the examples: `examples/key-cabinet.eb3` and `examples/library.eb3`, block files, each with a
-//! listing beside it.
+//! listing of the same name.
 //!
 //! Document 01, "Examples" (the key cabinet) and source document 002, figure 3 (the library). Each is
 //! admitted by the plain reader before it is written; the sizes are printed.
@@ -17,7 +17,7 @@ fn main() -> io::Result<()> {
         fs::create_dir_all(&folder)?;
         write(&folder, "key-cabinet", &examples::key_cabinet(2), &examples::key_cabinet_names())?;
         write(&folder, "library", &examples::library(2, 2, 2), &examples::library_names())?;
-        // Not written, but as large as a library gets here.
+        // Not written to a file: only its sizes are printed, for a larger library.
         admitted("library of 8 and 8", &examples::library(8, 8, 2));
         Ok(())
     })
@@ -29,7 +29,7 @@ fn write(folder: &Path, name: &str, rules: &RuleSet, names: &Names) -> io::Resul
     fs::write(folder.join(format!("{name}.txt")), listing(rules, names, sizes))
 }
 
-/// The sizes, printed; an example that is refused is a fault of this program.
+/// Prints the sizes. If an example is refused, this program is wrong.
 fn admitted(name: &str, rules: &RuleSet) -> Sizes {
     let file = rules.file();
     let sizes = plain::admit(&file).unwrap_or_else(|refusal| panic!("{name} is refused {refusal}"));

@@ -1,11 +1,11 @@
-//! The least stack on which each operation returns, for the worst nestings that there are: of rule sets
-//! that 64 blocks can hold for Admit, of states within the limits for the others.
+//! Finds the least stack on which each operation returns, for the deepest nestings: for Admit of rule sets
+//! that 64 blocks can hold, for the other operations of states within the limits.
 //!
-//! Each try runs in a child process, since an overflow kills it: a thread on a stack of so many KiB,
-//! with 64 MiB below it that may not be touched, so that a frame larger than a guard page cannot step
-//! over the end unseen. The least that passes is found by bisection. The figures include what the
-//! thread itself needs at its start (the C library asks for 16 KiB). The engine is measured where it is
-//! linked, and the plain interpreter too. For Linux.
+//! Each attempt runs in a child process, since a stack overflow kills it: a thread on a stack of the given
+//! size, with 64 MiB of forbidden pages below it, so that a frame larger than one guard page cannot step over
+//! them. The least size that passes is found by bisection. The figures include what the thread itself needs
+//! at its start (the C library asks for 16 KiB). Both the engine, if it is linked, and the plain interpreter
+//! are measured. For Linux.
 
 use std::ffi::{c_int, c_void};
 use std::process::{Command, ExitCode, Stdio};
@@ -16,14 +16,15 @@ use host::generate::deep::{self, Deep};
 use host::generate::nesting;
 use host::{on_large_stack, plain, Answer};
 
-/// The C library's least stack for a thread, the most that is tried, and the step, all in KiB.
+/// The smallest stack that the C library allows a thread, the largest that is tried, and the step, all in
+/// KiB.
 const LEAST: usize = 16;
 const MOST: usize = 256 * 1024;
 const STEP: usize = 4;
 
 type Admit = fn(&[u8]) -> Answer;
 
-/// Who is measured.
+/// An implementation to measure.
 #[derive(Clone, Copy)]
 struct Side {
     name: &'static str,
@@ -43,7 +44,7 @@ fn sides() -> Vec<Side> {
     ]
 }
 
-/// The columns behind Admit's, in the order of eb3.h.
+/// The columns after Admit's, in the order of eb3.h.
 const OPERATIONS: [&str; 5] = ["start", "count", "move", "present", "run"];
 
 fn column(operation: Operation) -> &'static str {
@@ -56,7 +57,7 @@ fn column(operation: Operation) -> &'static str {
     }
 }
 
-/// The states that are measured.
+/// The states to measure.
 fn states() -> Vec<Deep> {
     [vec![deep::shallow()], deep::worst()].concat()
 }
@@ -100,7 +101,7 @@ fn operations_table() {
     }
 }
 
-/// Bisection over stacks of whole steps.
+/// The least stack that passes, by bisection over multiples of `STEP`.
 fn least_stack(side: &str, operation: &str, shape: usize) -> String {
     let program = env::current_exe().expect("this program");
     let passes = |kib: usize| {
@@ -127,7 +128,7 @@ fn least_stack(side: &str, operation: &str, shape: usize) -> String {
     passed.to_string()
 }
 
-/// In the child: one call on a stack of so many bytes. An overflow ends the process by a signal.
+/// Run in the child: one call on a stack of the given size. An overflow ends the process by a signal.
 fn attempt(side: &str, operation: &str, shape: usize, bytes: usize) -> ExitCode {
     let side = sides().into_iter().find(|known| known.name == side).expect("a side's name");
     if operation == "admit" {
@@ -152,13 +153,13 @@ fn attempt(side: &str, operation: &str, shape: usize, bytes: usize) -> ExitCode 
 type Work<'a> = &'a mut dyn FnMut();
 
 extern "C" fn do_work(work: *mut c_void) -> *mut c_void {
-    // SAFETY: `run_on_stack` hands over a `Work` and waits for this thread.
+    // SAFETY: `run_on_stack` passes a `Work` and waits for this thread to end.
     let work = unsafe { &mut *work.cast::<Work>() };
     work();
     ptr::null_mut()
 }
 
-/// Room for a `pthread_attr_t` of any Linux.
+/// Large enough for a `pthread_attr_t` of any Linux.
 #[repr(C, align(16))]
 struct Attributes([u8; 128]);
 
@@ -185,15 +186,15 @@ extern "C" {
 
 const PROTECTION_NONE: c_int = 0;
 const PROTECTION_READ_WRITE: c_int = 3;
-/// Private, anonymous, no swap reserved.
+/// Private, anonymous, no swap space reserved.
 const MAP_FLAGS: c_int = 0x2 | 0x20 | 0x4000;
 const BELOW: usize = 64 << 20;
 
-/// std's threads have one guard page; a stack of one's own can have as much forbidden room below it as
-/// one likes.
+/// Runs the work on a stack allocated here: a thread of std has one guard page below its stack, this one has
+/// `BELOW` bytes of forbidden pages.
 fn run_on_stack(bytes: usize, mut work: Work) {
-    // SAFETY: the C library's functions by their manual pages; the stack stays mapped until the process
-    // ends.
+    // SAFETY: the C library's functions are called as their manual pages say; the stack stays mapped until
+    // the process ends.
     unsafe {
         let room = mmap(ptr::null_mut(), BELOW + bytes, PROTECTION_NONE, MAP_FLAGS, -1, 0);
         assert!(room as isize != -1, "no room for a stack");

@@ -1,5 +1,5 @@
-//! The engine of another revision (`host/before`), so that both are timed in one process. Only there with its library
-//! (cfg `before`).
+//! The engine of another revision (see `host/before`), so that both are timed in one process. Compiled only
+//! with its library (cfg `before`).
 
 use super::{answer_of, AdmitReply};
 use crate::Answer;
@@ -8,8 +8,8 @@ extern "C" {
     fn before_eb3_admit(rules: *const u8, rules_len: usize) -> AdmitReply;
 }
 
-/// Admit, as that engine answers it.
+/// Admit of that engine.
 pub fn admit(rules: &[u8]) -> Answer {
-    // SAFETY: as `admit_reply`.
+    // SAFETY: as in `admit_reply`.
     answer_of(unsafe { before_eb3_admit(rules.as_ptr(), rules.len()) })
 }

@@ -1,8 +1,7 @@
 //! Start, Count, Move and Present of the engine; Run is in `running`.
 //!
-//! Document 01, "Operations"; eb3.h: "`refusal` is 0 where the operation was done, else the number of
-//! document 01's table; then every other field is 0". A reply that is neither is a fault of the engine,
-//! and ends the test here.
+//! Document 01, "Operations"; eb3.h: "`refusal` is EB3_DONE, or the number of a refusal: then the other
+//! fields are 0". A reply of any other form is a fault of the engine, and fails the test with a panic here.
 
 use super::running;
 use crate::calls::Operations;
@@ -83,7 +82,7 @@ extern "C" {
     ) -> MoveReply;
 }
 
-/// A refusal's number where there is one, from the table and with no other field set.
+/// `Err` with the number if it is not 0. Panics if it is not in the table, or if another field is set.
 pub(super) fn refusal(number: u32, others: &[u64]) -> Result<(), u8> {
     if number == 0 {
         return Ok(());
@@ -114,7 +113,7 @@ impl MoveReply {
 /// The engine.
 pub struct Cabinet;
 
-/// Every operation given no bytes and no pointers, which eb3.h allows with length 0: the refusals.
+/// The refusals of every operation called with length 0 and null pointers, which eb3.h allows.
 pub fn nothing() -> Vec<u32> {
     let (given, lent) = (std::ptr::null(), std::ptr::null_mut());
     // SAFETY: no byte is read or written through a pointer that comes with length 0.
@@ -129,7 +128,8 @@ pub fn nothing() -> Vec<u32> {
     }
 }
 
-// SAFETY of all calls: eb3.h's slices are these, the lent ones borrowed alone; the engine keeps nothing.
+// SAFETY of all calls: the pointers and lengths are those of these slices, the lent ones are borrowed
+// exclusively, and the engine keeps no pointer.
 impl Operations for Cabinet {
     fn start(&self, rules: &[u8], term: &mut [u8], memory: &mut [u8]) -> Started {
         let reply = unsafe {

@@ -37,7 +37,8 @@ extern "C" {
 /// Run: the last term's size and the three counts, or the refusal's number.
 pub(super) fn run(rules: &[u8], list: &[u8], lent: LentToRun) -> Ran {
     let [table, term, memory, spare_term, spare_memory] = lent;
-    // SAFETY: eb3.h's slices are these, the lent ones borrowed alone; the engine keeps nothing.
+    // SAFETY: the pointers and lengths are those of these slices, the lent ones are borrowed exclusively, and
+    // the engine keeps no pointer.
     let reply = unsafe {
         eb3_run(
             rules.as_ptr(),

@@ -1,5 +1,5 @@
 //! Calls of Start, Count, Move, Present and Run: on right and wrong rule sets, terms, events, memories,
-//! numbers and buffers, alone and several faults at once, for the table's order.
+//! numbers and buffers, with one fault or several at once, to test the order of the refusals.
 //!
 //! Document 01, "Operations" and the table: 1 to 8, 10, 11, 9, 12; document 02, K1: in Run 13 after 9.
 
@@ -13,7 +13,7 @@ use crate::refusal::{NOT_OFFERED, READER, SPACE, STRANGER, TERM};
 use crate::rules::RuleSet;
 use crate::{bytes_of, examples, plain, Sizes, TABLE_BYTES};
 
-/// Who takes the calls, one by one.
+/// Receives the calls, one by one.
 pub type Taker<'a> = &'a mut dyn FnMut(Call);
 
 /// An admitted rule set.
@@ -26,7 +26,7 @@ pub struct Subject {
 }
 
 impl Subject {
-    /// Nothing where the rule set is refused.
+    /// `None` if the rule set is refused.
     pub fn new(name: impl Into<String>, rules: RuleSet) -> Option<Subject> {
         let file = rules.file();
         let sizes = plain::admit(&file).ok()?;
@@ -42,7 +42,7 @@ impl Subject {
     }
 }
 
-/// The rule sets of the examples.
+/// The rule sets of the examples, and the one with every clause.
 pub fn known_subjects() -> Vec<Subject> {
     let named = [
         ("key cabinet", examples::key_cabinet(2)),
@@ -54,7 +54,8 @@ pub fn known_subjects() -> Vec<Subject> {
     named.into_iter().filter_map(|(name, rules)| Subject::new(name, rules)).collect()
 }
 
-/// So many random rule sets of a shape that are admitted.
+/// `count` random rule sets of the shape that are admitted; fewer if 20 times as many tries do not give that
+/// many.
 pub fn random_subjects(random: &mut Random, shape: Shape, count: usize) -> Vec<Subject> {
     let mut subjects = Vec::new();
     for number in 0..20 * count {
@@ -67,7 +68,7 @@ pub fn random_subjects(random: &mut Random, shape: Shape, count: usize) -> Vec<S
     subjects
 }
 
-/// Every kind of call. `rounds` scales the random ones; 1 is a test's worth.
+/// Every kind of call. `rounds` multiplies the number of random ones; tests use 1.
 pub fn every_call(rounds: usize, take: Taker) {
     let mut random = Random::new(91);
     let random = &mut random;
@@ -85,7 +86,7 @@ pub fn every_call(rounds: usize, take: Taker) {
     refused_rules(random, take);
 }
 
-/// Calls of every operation on a rule set, with so many states of each kind.
+/// Calls of every operation on one rule set, at `states` reached states and as many arbitrary ones.
 fn every_call_of(random: &mut Random, subject: &Subject, states: usize, take: Taker) {
     starts(random, subject, take);
     runs(random, subject, states, take);
@@ -104,7 +105,7 @@ fn every_call_of(random: &mut Random, subject: &Subject, states: usize, take: Ta
     }
 }
 
-/// Every fit of the two buffers.
+/// Start with each of its two buffers in every fit.
 fn starts(random: &mut Random, subject: &Subject, take: Taker) {
     for (term, memory) in FITS.iter().flat_map(|&term| FITS.map(|memory| (term, memory))) {
         let room = term.suffices(subject.reach()) && memory.suffices(subject.cells());
@@ -118,8 +119,8 @@ fn starts(random: &mut Random, subject: &Subject, take: Taker) {
     }
 }
 
-/// Lists of numbers, most of them moves; each of the five buffers in every fit; and lists with a wrong
-/// reader, with room enough and in buffers of any length.
+/// Run with lists of numbers, most of them moves; with each of the five buffers in every fit; and with lists
+/// that have a wrong reader, in buffers with room and in buffers of any length.
 fn runs(random: &mut Random, subject: &Subject, rounds: usize, take: Taker) {
     let all_roomy = |random: &mut Random| [(); 5].map(|()| roomy(random));
     for length in (0..2 * rounds).chain([40, 100]) {
@@ -140,7 +141,8 @@ fn runs(random: &mut Random, subject: &Subject, rounds: usize, take: Taker) {
     }
 }
 
-/// A run in buffers of these fits, by a list whose readers are right or not: 9 before 13.
+/// A call of Run in buffers of these fits, with a list whose readers are right or not. 9 is expected before
+/// 13.
 fn run(
     random: &mut Random,
     subject: &Subject,
@@ -166,7 +168,7 @@ fn run(
     }
 }
 
-/// `count` move numbers, now and then one that is seldom a move, and now and then half a number after them.
+/// `count` move numbers, some of them rarely a move, and sometimes half a number after them.
 pub fn numbers(random: &mut Random, count: usize) -> Vec<u8> {
     let number = |random: &mut Random| match random.below(16) {
         0 => random.between(0, 65535),
@@ -181,20 +183,20 @@ pub fn numbers(random: &mut Random, count: usize) -> Vec<u8> {
     bytes
 }
 
-/// A call with a given term, in one of the operations that take one.
+/// Makes the calls at one state, for the operations that take a term.
 struct Asking<'a> {
     subject: &'a Subject,
     state: &'a State,
-    /// Words that the next term's buffer needs.
+    /// How many words the buffer for the next term needs.
     reach: usize,
 }
 
 impl Asking<'_> {
     fn call(&self, random: &mut Random, name: &str, operation: Operation, event: Option<&[u8]>) -> Call {
         let mut given = vec![self.subject.file.clone(), self.state.term.clone(), self.state.memory.clone()];
-        // What stands behind the cells counts for nothing.
-        let behind = [0, 0, 1, 2, 7][random.below(5)];
-        given[2].extend(noise(random, behind));
+        // Bytes after the cells have no meaning.
+        let extra = [0, 0, 1, 2, 7][random.below(5)];
+        given[2].extend(noise(random, extra));
         given.extend(event.map(<[u8]>::to_vec));
         let mut lent = Vec::new();
         if operation != Operation::Count {
@@ -204,7 +206,7 @@ impl Asking<'_> {
         Call { name: format!("{}: {name}", self.subject.name), operation, given, lent, expected: Some(0) }
     }
 
-    /// The action of a move that there is, as an event.
+    /// The action of move `number`, which exists, as an event.
     fn event(&self, number: u64) -> Vec<u8> {
         let State { term, memory } = self.state;
         let (mut next_term, mut next_memory) = (vec![0; 2 * self.reach], vec![0; 2 * self.subject.cells()]);
@@ -214,7 +216,7 @@ impl Asking<'_> {
     }
 }
 
-/// Count, moves and events at a state, with room enough and without.
+/// Count, Move and Present at a state, in buffers with room and in short ones.
 fn calls_at(random: &mut Random, subject: &Subject, state: &State, take: Taker) {
     let (_, reach, _) = running::measures(&subject.rules, &crate::words_of(&state.term));
     let asking = Asking { subject, state, reach: reach as usize };
@@ -228,7 +230,7 @@ fn calls_at(random: &mut Random, subject: &Subject, state: &State, take: Taker) 
         call.expected = Some(if number < count { 0 } else { NOT_OFFERED });
         take(call);
     }
-    // Events that are offered, by the moves just made, and such as may be.
+    // Events that are offered, namely the actions of some of the moves above, and random ones that may be.
     let offered = below.into_iter().filter(|&number| number < count).step_by(2);
     let mut events: Vec<(Vec<u8>, Option<u8>)> =
         offered.map(|number| (asking.event(number), Some(0))).collect();
@@ -238,7 +240,7 @@ fn calls_at(random: &mut Random, subject: &Subject, state: &State, take: Taker) 
         let call = asking.call(random, &format!("event {event:?}"), Operation::Present, Some(&event));
         take(Call { expected, ..call });
     }
-    // 9 before 12, and each buffer alone.
+    // 9 before 12, and each buffer too short alone.
     let event = events::right(random, &subject.rules);
     for (operation, event) in
         [(Operation::Count, None), (Operation::Move(count), None), (Operation::Present, Some(&event[..]))]
@@ -267,7 +269,7 @@ fn short(random: &mut Random, call: Call, asking: &Asking, take: Taker) {
     }
 }
 
-/// The calls of the operations that take a term, in buffers of any length.
+/// Calls that are refused for the term or the event, in buffers of any length.
 fn unfit(
     random: &mut Random,
     subject: &Subject,
@@ -297,7 +299,7 @@ fn unfit(
     }
 }
 
-/// 11 before 9, at a right term: at most so many wrong events.
+/// 11 before 9, at a right term: at most `most` wrong events.
 fn strangers(random: &mut Random, subject: &Subject, state: &State, most: usize, take: Taker) {
     let events = events::wrong(random, &subject.rules);
     for (name, event) in sample(random, events, most) {
@@ -305,7 +307,7 @@ fn strangers(random: &mut Random, subject: &Subject, state: &State, most: usize,
     }
 }
 
-/// 10 before 11 and 9: at most so many wrong terms.
+/// 10 before 11 and 9: at most `most` wrong terms.
 fn wrong(random: &mut Random, subject: &Subject, most: usize, take: Taker) {
     let depth = 1 + random.below(4) as u32;
     let right = running::arbitrary(random, &subject.rules, depth);
@@ -317,7 +319,7 @@ fn wrong(random: &mut Random, subject: &Subject, most: usize, take: Taker) {
     }
 }
 
-/// At most so many of them.
+/// A random selection of at most `most` entries.
 fn sample<T>(random: &mut Random, mut entries: Vec<T>, most: usize) -> Vec<T> {
     while entries.len() > most {
         let place = random.below(entries.len());
@@ -338,7 +340,8 @@ fn at_the_limits(random: &mut Random, subject: &Subject, take: Taker) {
     }
 }
 
-/// Rule sets from every kind of case for Admit, with nothing else right: 1 to 8 come first.
+/// Rule sets that are refused, from every kind of case for Admit, with random bytes for everything else: 1 to
+/// 8 come first.
 fn refused_rules(random: &mut Random, take: Taker) {
     let mut number = 0;
     every_case(1, &mut |case| {

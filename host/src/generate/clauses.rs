@@ -1,8 +1,8 @@
-//! One case for every clause of refusals 4, 5 and 6 that a tree can spell, and the right neighbours of
-//! each.
+//! One case for every clause of refusals 4, 5 and 6 that a tree can express, and similar cases that are
+//! admitted.
 //!
-//! Document 01, "Blocks and the rule stream", items 3 to 5 and the paragraph on term codes; the table's
-//! rows 4 to 6. (Words that no tree spells, as codes out of range, are in `faults`.)
+//! Document 01, "Blocks and the rule stream", items 3 to 5 and the paragraph on term codes; the table's rows
+//! 4 to 6. (Words that no tree can express, such as codes out of range, are in `faults`.)
 
 use super::ends::process;
 use super::{Case, Expected, Taker};
@@ -16,8 +16,8 @@ const BAD_FORM: Expected = Expected::Refused(FORM);
 const BAD_REFERENCE: Expected = Expected::Refused(REFERENCE);
 const BAD_KIND: Expected = Expected::Refused(KIND);
 
-/// Domains of 2, 3 and 3; labels a, b(0), c(1, 2); functions over domains 0 and 1; a process of
-/// parameters 0 and 1, one of none, and main.
+/// Domains of 2, 3 and 3 elements; labels a, b(0), c(1, 2); functions over domains 0 and 1; a process with
+/// parameters of domains 0 and 1, one without parameters, and main.
 pub fn base() -> RuleSet {
     let keep = |function| Data::before(function, Data::Variable(0));
     let set_if = |value| Data::choose(Condition::equal(Data::Variable(0), Data::Variable(1)), value, keep(0));
@@ -56,19 +56,19 @@ pub fn base() -> RuleSet {
     }
 }
 
-/// The base after an edit.
+/// The base rule set after an edit.
 fn edited(take: Taker, name: &str, expected: Expected, edit: impl FnOnce(&mut RuleSet)) {
     let mut rules = base();
     edit(&mut rules);
     take(Case::of_rules(name, &rules, expected));
 }
 
-/// The base with main's term replaced.
+/// The base rule set with main's term replaced.
 fn in_main(take: Taker, name: &str, expected: Expected, term: Term) {
     edited(take, name, expected, |rules| rules.processes[2].term = term);
 }
 
-/// The base with one expression of a function replaced: the empty trace's, or a label's.
+/// The base rule set with one expression of a function replaced: the empty trace's (`None`) or a label's.
 fn in_function(
     take: Taker,
     name: &str,
@@ -132,10 +132,10 @@ fn variables(take: Taker) {
         BAD_REFERENCE,
         Term::choice_over(0, guarded(Data::Variable(1))),
     );
-    let behind = Term::sequence(Term::choice_over(0, Term::Internal), guarded(Data::Variable(0)));
-    in_main(take, "variable behind its quantifier", BAD_REFERENCE, behind);
-    let behind = Term::sequence(Term::choice_over(0, Term::Internal), Term::action(1, &[Variable(0)]));
-    in_main(take, "argument behind its quantifier", BAD_REFERENCE, behind);
+    let outside = Term::sequence(Term::choice_over(0, Term::Internal), guarded(Data::Variable(0)));
+    in_main(take, "variable after its quantifier", BAD_REFERENCE, outside);
+    let outside = Term::sequence(Term::choice_over(0, Term::Internal), Term::action(1, &[Variable(0)]));
+    in_main(take, "argument after its quantifier", BAD_REFERENCE, outside);
     edited(take, "guard with a parameter too far", BAD_REFERENCE, |rules| {
         rules.processes[0].term = guarded(Data::Variable(2))
     });
@@ -165,7 +165,7 @@ fn function_numbers(take: Taker) {
     });
 }
 
-/// Before's code is refused itself where it may not stand, also with a number that would be refused 5.
+/// Where before is not allowed, its code is refused 4, also if its number would be refused 5.
 fn places_of_before(take: Taker) {
     for function in [0, 1, 2, 65535] {
         let before = || Data::before(function, Data::Constant(0));
@@ -221,7 +221,7 @@ fn term_numbers(take: Taker) {
     edited(take, "process 1 calls main", BAD_REFERENCE, call(2));
 }
 
-/// Each bit in turn for several counts of labels, in both terms that have a mask.
+/// Each mask bit in turn for several counts of labels, in both terms that have a mask.
 fn masks(take: Taker) {
     for labels in [1usize, 3, 15, 16, 17, 32, 33, 48, 63, 64] {
         let whole: Mask = mask_of(&(0..labels as u16).collect::<Vec<u16>>());
@@ -251,7 +251,8 @@ fn masked(take: Taker, labels: usize, mask: Mask, expected: Expected) {
     }
 }
 
-/// Constants below the domain's size or not; both terms that have arguments, both places.
+/// Constant arguments below the domain's size or not, in both terms that have arguments and both argument
+/// positions.
 fn constant_arguments(take: Taker) {
     for (value, expected) in [(0, ADMITTED), (1, ADMITTED), (2, BAD_KIND), (3, BAD_KIND), (65534, BAD_KIND)] {
         let called = Term::call(0, &[Constant(value), Constant(0)]);
@@ -264,8 +265,8 @@ fn constant_arguments(take: Taker) {
     }
 }
 
-/// Variables of the parameter's domain, of a smaller one, of another of equal size, and none; under
-/// quantifiers over domains 0, 1 and 2, of which the last two have three elements each.
+/// Variables of the parameter's domain, of a smaller one, of another one of equal size, and undefined ones;
+/// under quantifiers over domains 0, 1 and 2, of which the last two have three elements each.
 fn variable_arguments(take: Taker) {
     let under = |term| Term::choice_over(0, Term::choice_over(1, Term::choice_over(2, term)));
     let of_action = [
@@ -291,7 +292,8 @@ fn variable_arguments(take: Taker) {
     in_main(take, "variable in main without any", BAD_REFERENCE, Term::action(1, &[Variable(0)]));
 }
 
-/// Data under now and before are no arguments: any value, any variable.
+/// The operand of now and before is not an argument in the sense of refusal 6: any value and any variable is
+/// allowed.
 fn data_of_any_domain(take: Taker) {
     let now = |data| guarded(Data::now(0, data));
     let under = |term| Term::choice_over(0, Term::choice_over(1, term));

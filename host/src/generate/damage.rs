@@ -1,4 +1,5 @@
-//! Damaged, shortened and random bytes: refusals 1 and 2, and everything else by way of repaired sums.
+//! Damaged, shortened and random bytes: refusals 1 and 2, and, by correcting the sums afterwards, all later
+//! refusals.
 //!
 //! Document 01, "Blocks and the rule stream": lengths, block numbers and sums; and the table's order, 1
 //! before 2 before 3 before all faults of the stream.
@@ -47,8 +48,7 @@ fn whole_blocks(bytes: usize) -> bool {
     bytes.is_multiple_of(BLOCK_BYTES) && (1..=MOST_BLOCKS).contains(&(bytes / BLOCK_BYTES))
 }
 
-/// Zeros and random bytes of many lengths. Random bytes that were right blocks would be a wonder: one
-/// in 2^32.
+/// Zeros and random bytes of many lengths. That a random block has right sums is as likely as 1 in 2^32.
 fn lengths(random: &mut Random, take: Taker) {
     let near = |blocks: usize| [-2, -1, 0, 1, 2].map(|offset| (blocks * BLOCK_BYTES) as isize + offset);
     let lengths = [0, 1, 2, 3, 8, 63, 64, 65, 128].into_iter().flat_map(near).filter(|&length| length >= 0);
@@ -61,7 +61,8 @@ fn lengths(random: &mut Random, take: Taker) {
         take(Case::new(format!("{length} random bytes"), bytes, expected));
         let expected = match (whole_blocks(length), length / BLOCK_BYTES) {
             (false, _) => wrong_length,
-            (true, 1) => Expected::Refused(EDITION), // one block of zeros has its number and its sums
+            // A block of zeros has the right number and the right sums.
+            (true, 1) => Expected::Refused(EDITION),
             (true, _) => Expected::Refused(BLOCK),
         };
         take(Case::new(format!("{length} zero bytes"), vec![0; length], expected));
@@ -72,8 +73,8 @@ fn lengths(random: &mut Random, take: Taker) {
     }
 }
 
-/// The file cut after each so many bytes, and at each whole block, where only the count of blocks is
-/// wrong any more.
+/// The file cut after every multiple of `step` bytes and after every block, where only the count of blocks
+/// (word 1) is wrong.
 fn truncations(file: &[u8], step: usize, take: Taker) {
     let whole = (0..file.len()).step_by(BLOCK_BYTES);
     for length in (0..file.len()).step_by(step).chain(whole) {
@@ -92,8 +93,7 @@ fn truncations(file: &[u8], step: usize, take: Taker) {
     }
 }
 
-/// Each byte of the file in turn made another. A change from 0 to 255 or back is the one that the sums
-/// do not see.
+/// Each byte of the file in turn changed. The sums do not detect a change from 0 to 255 or back.
 fn each_byte_damaged(file: &[u8], take: Taker) {
     for at in 0..file.len() {
         for change in [1, 2, 128, 254] {
@@ -106,7 +106,7 @@ fn each_byte_damaged(file: &[u8], take: Taker) {
     }
 }
 
-/// Numbers and sums wrong in ways of their own, in the first, a middle and the last block.
+/// Wrong block numbers and wrong sums, one kind at a time, in the first, a middle and the last block.
 fn headers(file: &[u8], take: Taker) {
     let last = file.len() / BLOCK_BYTES - 1;
     for block in [0, last / 2, last] {
@@ -140,12 +140,12 @@ fn headers(file: &[u8], take: Taker) {
     large_sums(take);
 }
 
-/// A sum that is 0 is stored as 0: 255 is another byte.
+/// A sum that is 0 modulo 255 is stored as 0; 255 in its place is refused.
 fn sums_of_255(take: Taker) {
     let mut words = examples::key_cabinet(2).stream();
     words.resize(254, 0);
     for filler in 0..=255u16 {
-        // The last word is behind the end, so with a filler the set is refused 4, not 2.
+        // The last word comes after the end of the stream, so that a filler other than 0 is refused 4, not 2.
         words[253] = filler << 8;
         let file = file_of(&words);
         for (place, sum) in [(2, sums(&file).0), (3, sums(&file).1)] {
@@ -160,8 +160,8 @@ fn sums_of_255(take: Taker) {
     }
 }
 
-/// A block number 0 whose sum B, no remainder taken, is `sum`: each byte as large as the sum still allows, and the last
-/// one counts once.
+/// A block with number 0 whose sum B before the remainder is `sum`: each byte is as large as the rest of the
+/// sum allows, and the last byte counts once.
 fn block_with_sum(sum: usize) -> Vec<u8> {
     let mut block = vec![0; BLOCK_BYTES];
     let mut left = sum;
@@ -175,8 +175,8 @@ fn block_with_sum(sum: usize) -> Vec<u8> {
     block
 }
 
-/// Sums B around each power of two, up to the largest. A block that is right goes on to refusal 3, since its first word
-/// is not 1; one with a sum that is 1 more or less is refused 2.
+/// Sums B around each power of two, up to the largest. A right block is refused 3, since its first word is
+/// not 1; one whose stored sum is 1 more or less is refused 2.
 fn large_sums(take: Taker) {
     let largest = 255 * (1..=BLOCK_BYTES - HEADER_BYTES).sum::<usize>();
     let powers = (11..=24).map(|power| 1 << power);
@@ -192,8 +192,8 @@ fn large_sums(take: Taker) {
     }
 }
 
-/// 0 and 255 count alike in both sums. So a byte changed from one to the other passes as a block, and
-/// is read.
+/// The sums do not distinguish 0 and 255. So a byte changed from one to the other passes refusal 2, and the
+/// changed word is read.
 fn uncounted_change(take: Taker) {
     for rules in [examples::key_cabinet(2), examples::library(2, 2, 2), clauses::base()] {
         let (file, stream) = (rules.file(), marked(&rules));
@@ -210,11 +210,11 @@ fn uncounted_change(take: Taker) {
     }
 }
 
-/// Two faults of different rows: the earlier row answers, wherever the faults stand.
+/// Two faults of different rows of the table: the earlier row decides, wherever in the file the faults are.
 fn earlier_refusals_first(take: Taker) {
     let mut words = full::rules().stream();
     let last = words.len() - 1;
-    words[last] = 99; // 4, at the last word
+    words[last] = 99; // refused 4, at the last word
     let mut case =
         |name: &str, bytes: Vec<u8>, refusal| take(Case::new(name, bytes, Expected::Refused(refusal)));
     case("form alone", file_of(&words), FORM);
@@ -230,7 +230,7 @@ fn earlier_refusals_first(take: Taker) {
     case("length, block, edition and form", bytes, LENGTH);
 }
 
-/// Some bytes changed and nothing repaired.
+/// Some bytes changed, sums not corrected.
 fn damaged(random: &mut Random, rules: &RuleSet, take: Taker) {
     let file = rules.file();
     for changes in [1, 1, 2, 3, 10] {
@@ -243,7 +243,7 @@ fn damaged(random: &mut Random, rules: &RuleSet, take: Taker) {
     }
 }
 
-/// Some content bytes changed, and the sums made right again.
+/// Some content bytes changed, and the sums corrected.
 fn repaired(random: &mut Random, rules: &RuleSet, take: Taker) {
     let file = rules.file();
     let used = byte_of_word(rules.stream().len());
@@ -260,7 +260,7 @@ fn repaired(random: &mut Random, rules: &RuleSet, take: Taker) {
     }
 }
 
-/// Words changed, left out, doubled or moved: nearer to a right stream than random bytes are.
+/// Words changed, left out, inserted or exchanged for others: closer to a right stream than random bytes are.
 fn reworded(random: &mut Random, rules: &RuleSet, take: Taker) {
     let stream = rules.stream();
     for _ in 0..20 {
@@ -281,7 +281,7 @@ fn reworded(random: &mut Random, rules: &RuleSet, take: Taker) {
     }
 }
 
-/// A right head and then words as they come, small enough to mean something.
+/// A right head and then random words, small enough to be codes or numbers.
 fn random_streams(random: &mut Random, count: usize, take: Taker) {
     for _ in 0..count {
         let blocks = 1 + random.below(3);

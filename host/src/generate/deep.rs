@@ -1,9 +1,9 @@
-//! States that nest as deep as the limits allow, with the rule sets that they belong to: what the
-//! recursion of Start, Count, Move and Present has to bear.
+//! States that nest as deep as the limits allow, with their rule sets: the worst cases for the recursion of
+//! Start, Count, Move and Present.
 //!
-//! Document 01 sets no limit on nesting but those on a running term's reach and breadth, and, for the
-//! expressions of functions, the stream's length. (`nesting` has what Admit has to bear.) Whoever makes
-//! these needs a large stack too.
+//! Document 01 limits nesting only by a running term's reach and breadth and, for the expressions of
+//! functions, by the stream's length. (`nesting` has the worst cases for Admit.) To make these cases takes a
+//! large stack, too.
 
 use super::running::{self, State};
 use super::{lent, nesting, readers};
@@ -11,7 +11,7 @@ use crate::blocks::{blocks_for, file_of, MOST_WORDS};
 use crate::calls::{Call, Operation};
 use crate::{bytes_of, examples, plain, Sizes, MOST_REACH, TABLE_BYTES};
 
-/// A worst case by name, with its depth in codes.
+/// A worst case: its name, its depth in codes, its rule set and its state.
 #[derive(Clone, Debug)]
 pub struct Deep {
     pub name: &'static str,
@@ -21,38 +21,38 @@ pub struct Deep {
     pub state: State,
 }
 
-/// Words that open a level, the innermost words, words that close a level.
+/// A nest: the words that open a level, the innermost words, the words that close a level.
 type Nest<'a> = (&'a [u16], &'a [u16], &'a [u16]);
 
 fn spelled((open, middle, close): Nest, depth: usize) -> Vec<u16> {
     [&open.repeat(depth), middle, &close.repeat(depth)].concat()
 }
 
-/// As many levels as fit in so many words.
+/// The most levels that fit in n words.
 fn levels((open, middle, close): Nest, words: usize) -> usize {
     (words - middle.len()) / (open.len() + close.len())
 }
 
-/// A term given to the key cabinet.
+/// A term for the key cabinet.
 fn given(name: &'static str, depth: usize, words: &[u16]) -> Deep {
     let file = examples::key_cabinet(2).file();
     let sizes = plain::admit(&file).expect("the key cabinet is admitted");
     Deep { name, depth, file, sizes, state: State { term: bytes_of(words), memory: vec![0; 4] } }
 }
 
-/// A nest of terms.
+/// Nested terms.
 fn term(name: &'static str, nest: Nest) -> Deep {
     let depth = levels(nest, MOST_REACH as usize);
     given(name, depth, &spelled(nest, depth))
 }
 
-/// A nest of conditions in a guard, which holds or not.
+/// Nested conditions in the guard of an internal step; whether it holds depends on the depth.
 fn guard(name: &'static str, nest: Nest) -> Deep {
     let depth = levels(nest, MOST_REACH as usize - 2);
     given(name, depth, &[&[26], &spelled(nest, depth)[..], &[20]].concat())
 }
 
-/// Not within not, so often that the guard holds.
+/// Nested nots of an even depth, so that the guard holds.
 fn even_nots() -> Deep {
     let depth = MOST_REACH as usize - 4;
     given(
@@ -62,13 +62,14 @@ fn even_nots() -> Deep {
     )
 }
 
-/// Stars: each reaches further than it is long, so that there cannot be more.
+/// Nested stars. A star's reach exceeds the sum of its inside's reach and size, so reach grows with the
+/// square of the depth: 125 is the most within the limit.
 fn stars() -> Deep {
     given("stars", 125, &spelled((&[24], &[20], &[]), 125))
 }
 
-/// A rule set of one domain of one element, one label, and the functions and processes that these words are,
-/// in as many blocks as it takes; an internal step as the term given to it.
+/// A rule set with one domain of one element, one label, and the functions and processes that `rest` spells,
+/// in as many blocks as it takes; the given term is an internal step.
 fn stream(name: &'static str, depth: usize, rest: &[u16]) -> Deep {
     let mut words = [&[1, 0, 1, 1, 1, 0], rest].concat();
     words[1] = blocks_for(words.len()) as u16;
@@ -78,46 +79,46 @@ fn stream(name: &'static str, depth: usize, rest: &[u16]) -> Deep {
     Deep { name, depth, file, sizes, state: State { term: bytes_of(&[20]), memory } }
 }
 
-/// The same with main as the one process and as the term: it has no call and no variable.
+/// The same with main as the only process; the given term is main's, since it has no call and no variable.
 fn rule_set(name: &'static str, depth: usize, functions: &[u16], main: &[u16]) -> Deep {
     let deep = stream(name, depth, &[functions, &[1, 0], main].concat());
     Deep { state: State { term: bytes_of(main), ..deep.state }, ..deep }
 }
 
-/// One function, by its expressions for the empty trace and for the label; main is the label's action.
+/// One function with these expressions for the empty trace and for the label; main is the label's action.
 fn function(name: &'static str, depth: usize, at_start: &[u16], at_label: &[u16]) -> Deep {
     rule_set(name, depth, &[&[1, 0], at_start, at_label].concat(), &[21, 0])
 }
 
-/// Words that a stream has for one expression of one function beside another of one word.
+/// The most words that a stream has for one expression of a function whose other expression has one word.
 const EXPRESSION_WORDS: usize = MOST_WORDS - 13;
 
-/// A nest of data for the label, evaluated by Move and Present.
+/// Nested data in the expression for the label, evaluated by Move and Present.
 fn at_label(name: &'static str, nest: Nest) -> Deep {
     let depth = levels(nest, EXPRESSION_WORDS);
     function(name, depth, &[0], &spelled(nest, depth))
 }
 
-/// A nest of data for the empty trace, evaluated by Start.
+/// Nested data in the expression for the empty trace, evaluated by Start.
 fn at_start(name: &'static str, nest: Nest) -> Deep {
     let depth = levels(nest, EXPRESSION_WORDS);
     function(name, depth, &spelled(nest, depth), &[0])
 }
 
-/// Not within not, in an if: the deepest nest that an expression can be.
+/// Nested nots in the condition of an if: the deepest nest that an expression can have.
 fn nots(name: &'static str) -> Deep {
     let depth = EXPRESSION_WORDS - 4;
     function(name, depth, &[0], &[&[5], &spelled((&[12], &[13], &[]), depth)[..], &[0, 0]].concat())
 }
 
-/// A rule set whose main is a nest of terms, unfolded by Start.
+/// A rule set whose main is made of nested terms, unfolded by Start.
 fn main_of(name: &'static str, nest: Nest) -> Deep {
     let depth = levels(nest, MOST_REACH as usize);
     rule_set(name, depth, &[0], &spelled(nest, depth))
 }
 
-/// The same behind as many quantifiers over one element as there can be, which add no word: 8 in each of 31
-/// processes.
+/// The same called through as many quantifiers over one element as are possible, which add no word to the
+/// unfolding: 8 in each of 31 processes.
 fn quantified_main_of(name: &'static str, nest: Nest) -> Deep {
     let depth = levels(nest, MOST_REACH as usize);
     let innermost = spelled(nest, depth);
@@ -129,7 +130,7 @@ fn quantified_main_of(name: &'static str, nest: Nest) -> Deep {
     Deep { state: State { term: bytes_of(&innermost), ..deep.state }, ..deep }
 }
 
-/// A rule set that is as deep as Admit can meet, in a process that main does not call.
+/// A rule set as deep as Admit can be given; the deep part is in a process that main does not call.
 fn unreached(name: &'static str, shape: &str) -> Deep {
     let nesting =
         nesting::worst().into_iter().find(|nesting| nesting.name == shape).expect("a worst nesting");
@@ -138,7 +139,7 @@ fn unreached(name: &'static str, shape: &str) -> Deep {
     Deep { name, depth: nesting.depth, file: nesting.file, sizes, state }
 }
 
-/// Nothing deep: what a call takes in any case.
+/// A state without nesting, to measure what every call takes.
 pub fn shallow() -> Deep {
     let Deep { file, sizes, .. } = given("", 0, &[20]);
     let state = running::start(&file, sizes);
@@ -159,7 +160,7 @@ pub fn worst() -> Vec<Deep> {
         guard("if in conditions in a guard", (&[8, 5], &[13], &[0, 0, 0])),
         term("guards", (&[26, 13], step, &[])),
         term("sequences, left", (&[22], step, step)),
-        term("sequences behind done", (&[22, 30], step, &[])),
+        term("sequences after done", (&[22, 30], step, &[])),
         term("choices, left", (&[23], step, step)),
         term("choices, right", (&[23, 20], step, &[])),
         stars(),
@@ -189,9 +190,9 @@ pub fn worst() -> Vec<Deep> {
     ]
 }
 
-/// Runs of rule sets whose main goes round a deep or a broad term: each round begins it anew.
+/// Runs of rule sets whose main is a star of a deep or broad term: each round starts it again.
 pub fn rounds() -> Vec<Call> {
-    // Number 1 is everywhere a move, and of a star the first of a round.
+    // Move 1 exists in every state, and at the star it is the first move of a new round.
     let (step, beside) = (&[23, 20, 20][..], &[25, 0, 0, 0, 0][..]);
     let choice = [&[23, 20].repeat(60)[..], &[20]].concat();
     let list = [1; 600];
@@ -218,7 +219,7 @@ pub fn rounds() -> Vec<Call> {
 }
 
 impl Deep {
-    /// The last move of main, and some of those that follow it, each at a reader.
+    /// The last move of main, and some numbers after it, each with a reader.
     fn run_list(&self) -> Vec<u8> {
         let start = running::start(&self.file, self.sizes);
         let moves = plain::count(&self.file, &start.term, &start.memory).expect("a right term");
@@ -226,8 +227,8 @@ impl Deep {
         readers::by_turns(&[last, 0, 1, 2, last, 0])
     }
 
-    /// Start, a run from the last move of main on, Count, and the last move by its number and by its action;
-    /// those that there are.
+    /// Start, a run that begins with main's last move, Count, and the last move by its number and by its
+    /// action; those of them that exist.
     pub fn calls(&self) -> Vec<Call> {
         let Deep { file, state: State { term, memory }, .. } = self;
         let lent = vec![vec![0xa5; 2 * MOST_REACH as usize], vec![0x5a; memory.len()]];

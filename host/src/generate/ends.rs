@@ -1,4 +1,5 @@
-//! Every count and size at its ends and just outside, each in a rule set that is otherwise whole.
+//! Every count and size at both ends of its range and just outside, each in a rule set that is otherwise
+//! right.
 //!
 //! Document 01, "Blocks and the rule stream", items 2 to 5, and refusal 4: "count, size, code or
 //! constant out of range".
@@ -7,7 +8,7 @@ use super::{Case, Expected, Taker};
 use crate::refusal::FORM;
 use crate::rules::{Argument, Data, Function, Process, RuleSet, Term, NO_LABELS};
 
-/// The smallest rule set: one domain of one element, one label, main internal.
+/// The smallest rule set: one domain of one element, one label, main an internal step.
 pub fn smallest() -> RuleSet {
     RuleSet {
         domains: vec![1],
@@ -96,14 +97,14 @@ fn processes(take: Taker) {
         take(Case::of_rules(format!("a process of {count} parameters"), &rules, within(count <= 4)));
         let main = process(&vec![0; count], Term::Internal);
         let alone = RuleSet { processes: vec![main.clone()], ..smallest() };
-        let behind = RuleSet { processes: vec![process(&[0], Term::Internal), main], ..smallest() };
+        let last = RuleSet { processes: vec![process(&[0], Term::Internal), main], ..smallest() };
         take(Case::of_rules(format!("main alone of {count} parameters"), &alone, within(count == 0)));
-        take(Case::of_rules(format!("main of {count} parameters"), &behind, within(count == 0)));
+        take(Case::of_rules(format!("main of {count} parameters"), &last, within(count == 0)));
     }
 }
 
-/// At most 8 variables stand in scope, parameters and bound ones together; the code that would bind a
-/// ninth is refused, whatever its domain.
+/// At most 8 variables may be in scope, parameters and bound ones together; the code that would bind a ninth
+/// is refused, whatever its domain.
 fn variables(take: Taker) {
     for parameters in 0..=4u16 {
         for bound in 7 - parameters..=10 - parameters {
@@ -123,8 +124,8 @@ fn variables(take: Taker) {
     take(Case::of_rules("eight variables, left and bound again", &rules, Expected::Admitted));
 }
 
-/// A process of so many parameters and so many quantifiers, the innermost over the given domain, with
-/// an action that names the last variable; and main, which calls it.
+/// A process with the given numbers of parameters and of quantifiers, the innermost over the given domain,
+/// with an action whose argument is the last variable; and main, which calls it.
 fn quantified(parameters: u16, bound: u16, parallel: bool, innermost: u16) -> RuleSet {
     let last = Argument::Variable((parameters + bound).saturating_sub(1));
     let term = nested(bound, parallel, innermost, Term::action(0, &[last]));

@@ -1,4 +1,4 @@
-//! Events, right and wrong.
+//! Right and wrong events.
 //!
 //! Document 01, refusal 11: "event isn't one running leaf 20 or 21 of this rule set"; an odd last byte is
 //! refused too.
@@ -8,19 +8,19 @@ use super::running;
 use crate::bytes_of;
 use crate::rules::RuleSet;
 
-/// An event of the rule set: internal, or some action.
+/// An event of the rule set: the internal one, or an action.
 pub fn right(random: &mut Random, rules: &RuleSet) -> Vec<u8> {
     bytes_of(&if random.chance(20) { vec![20] } else { running::action(random, rules) })
 }
 
-/// Events that are none, each with what is wrong.
+/// Byte strings that are not events of the rule set, each with a name for what is wrong.
 pub fn wrong(random: &mut Random, rules: &RuleSet) -> Vec<(String, Vec<u8>)> {
     let mut events: Vec<(String, Vec<u8>)> = vec![("nothing".to_string(), Vec::new())];
     let mut words = |name: &str, words: &[u16]| events.push((name.to_string(), bytes_of(words)));
     for code in (0..=32).filter(|code| *code != 20) {
         words("a code alone", &[code]);
     }
-    words("internal and a word behind it", &[20, 0]);
+    words("internal and a word after it", &[20, 0]);
     words("internal twice", &[20, 20]);
     words("internal by its low byte", &[256 + 20]);
     let labels = rules.labels.len() as u16;
@@ -31,7 +31,7 @@ pub fn wrong(random: &mut Random, rules: &RuleSet) -> Vec<(String, Vec<u8>)> {
     for (label, parameters) in (0..).zip(&rules.labels) {
         let mut action = vec![21, label];
         parameters.iter().for_each(|_| action.extend([1, 0]));
-        words("a word behind an action", &[&action[..], &[0]].concat());
+        words("a word after an action", &[&action[..], &[0]].concat());
         words("an argument too many", &[&action[..], &[1, 0]].concat());
         words("an action of another code", &[&[22], &action[1..]].concat());
         words("an action under a guard", &[&[26, 13], &action[..]].concat());

@@ -1,5 +1,5 @@
-//! Random well-formed rule sets, and what a stream suffers: one wrong word, two, an early end, a wrong
-//! end.
+//! Random well-formed rule sets, and streams with faults: one wrong word, two wrong words, an early end, a
+//! wrong end.
 //!
 //! Document 01, refusals 3 to 6: "4, 5 and 6 by the first offending word of the stream, at one word 4
 //! before 5 before 6", "stream cut short; wrong end".
@@ -13,7 +13,7 @@ use crate::refusal::{BREADTH, EDITION, FORM, KIND, REFERENCE, SIZE};
 use crate::rules::{mask_of, Argument, RuleSet, Term, NO_LABELS};
 use crate::{examples, unfold};
 
-/// Unfolded further, a case would cost more time than it is worth.
+/// Main is not unfolded to more words than this: it would take more time than the case is worth.
 const MOST_UNFOLDED: usize = 20_000;
 
 pub fn cases(rounds: usize, take: Taker) {
@@ -42,7 +42,7 @@ pub fn cases(rounds: usize, take: Taker) {
     [examples::key_cabinet(2), clauses::base()].iter().for_each(|rules| cut_at_each_word(rules, take));
     wrong_ends(&full::rules(), Expected::Admitted, take);
     cut_at_64_blocks(take);
-    // Too large or too broad a main is found last: any fault of the stream comes first.
+    // Refusals 7 and 8 are tested last: any fault of the stream is refused before them.
     let too_large = examples::library(16, 16, 2);
     every_word_wrong(&too_large, take);
     wrong_ends(&too_large, Expected::Refused(SIZE), take);
@@ -50,7 +50,7 @@ pub fn cases(rounds: usize, take: Taker) {
     wrong_ends(&broad_cabinet(), Expected::Refused(BREADTH), take);
 }
 
-/// The key cabinet with eleven copies of P11's choice beside it, which are too broad.
+/// The key cabinet in parallel with eleven copies of P11's choice, which are refused 8.
 fn broad_cabinet() -> RuleSet {
     let mut rules = examples::key_cabinet(11);
     let take = || Term::action(0, &[Argument::Constant(0)]);
@@ -60,12 +60,14 @@ fn broad_cabinet() -> RuleSet {
     rules
 }
 
-/// A source whose seed is the shape's name, so that one shape's sets do not depend on the others'.
+/// A random source seeded with the shape's name, so that the sets of one shape do not depend on those of the
+/// others.
 fn random_like(shape: Shape) -> Random {
     Random::new(shape.name.bytes().fold(7, |seed, byte| seed * 31 + u64::from(byte)))
 }
 
-/// Answered as unfolding answers them, where main unfolds to few enough words.
+/// Random rule sets. The expected answer is computed by unfolding main, if that gives at most `MOST_UNFOLDED`
+/// words.
 fn well_formed(rounds: usize, take: Taker) {
     for shape in SHAPES {
         let mut random = random_like(shape);
@@ -82,7 +84,7 @@ fn words_of(marked: &[Marked]) -> Vec<u16> {
     marked.iter().map(|entry| entry.word).collect()
 }
 
-/// The case of a stream with one word replaced, refused by that word.
+/// The case of a stream with one word replaced, refused at that word.
 fn replaced(words: &[u16], at: usize, entry: &Marked, (fault, refusal): (u16, u8)) -> Case {
     let mut words = words.to_vec();
     words[at] = fault;
@@ -90,7 +92,7 @@ fn replaced(words: &[u16], at: usize, entry: &Marked, (fault, refusal): (u16, u8
     Case::new(name, file_of(&words), Expected::Refused(refusal))
 }
 
-/// Each word of the stream replaced by each word that must not stand there.
+/// Each word of the stream replaced by each word that is wrong there.
 fn every_word_wrong(rules: &RuleSet, take: Taker) {
     let stream = marked(rules);
     let words = words_of(&stream);
@@ -114,8 +116,8 @@ fn some_words_wrong(random: &mut Random, rules: &RuleSet, count: usize, take: Ta
     }
 }
 
-/// Each word of the stream replaced by each small number and some large ones, right or wrong: a right
-/// code or count in another's place gives what follows another meaning.
+/// Each word of the stream replaced by each small number and some large ones, right or wrong: a code or count
+/// that is allowed there changes the meaning of the words after it.
 fn each_word_anything(rules: &RuleSet, take: Taker) {
     let stream = rules.stream();
     for at in 0..stream.len() {
@@ -127,13 +129,12 @@ fn each_word_anything(rules: &RuleSet, take: Taker) {
     }
 }
 
-/// Two wrong words, each pair of refusals in both orders: the first word decides, whatever the second
-/// is.
+/// Two wrong words, for each pair of refusals in both orders: the first wrong word decides.
 fn two_words_wrong(random: &mut Random, rules: &RuleSet, count: usize, take: Taker) {
     let stream = marked(rules);
     let words = words_of(&stream);
     let by_refusal = [EDITION, FORM, REFERENCE, KIND].map(|refusal| faults_of(&stream, refusal));
-    // The key cabinet has no fault of kind: one domain, and no constant among its arguments.
+    // The key cabinet has no fault of kind: it has one domain, and no constant among its arguments.
     let found: Vec<&Vec<Fault>> = by_refusal.iter().filter(|faults| !faults.is_empty()).collect();
     for first in &found {
         for second in &found {
@@ -151,7 +152,7 @@ fn two_words_wrong(random: &mut Random, rules: &RuleSet, count: usize, take: Tak
     }
 }
 
-/// A word that must not stand in a place of the stream.
+/// A word that is wrong at a place of the stream, with its refusal.
 #[derive(Debug)]
 struct Fault {
     at: usize,
@@ -159,7 +160,7 @@ struct Fault {
     refusal: u8,
 }
 
-/// All faults of one refusal.
+/// All faults with one refusal.
 fn faults_of(stream: &[Marked], refusal: u8) -> Vec<Fault> {
     let at_word = |(at, entry): (usize, &Marked)| {
         let faults = entry.role.faults(entry.word).into_iter();
@@ -168,12 +169,12 @@ fn faults_of(stream: &[Marked], refusal: u8) -> Vec<Fault> {
     stream.iter().enumerate().flat_map(at_word).filter(|fault| fault.refusal == refusal).collect()
 }
 
-/// The stream's blocks end before each of its words in turn: the words before are made longer, inside
-/// the first function's empty-trace expression, until that word would be a block's first. (Domains and
-/// labels take less than a block, so no stream is cut before its functions.)
+/// For each word after the first function's empty-trace expression, a file that ends before it: the
+/// expression is lengthened until that word would be the first of the next block. (Domains and labels take
+/// less than a block, so no stream is cut before its functions.)
 fn cut_at_each_word(rules: &RuleSet, take: Taker) {
     let length = rules.stream().len();
-    for cut in behind_first_expression(rules)..length {
+    for cut in after_first_expression(rules)..length {
         let missing = CONTENT_WORDS - cut % CONTENT_WORDS;
         let missing = if missing == 1 { missing + CONTENT_WORDS } else { missing };
         let mut longer = rules.clone();
@@ -189,17 +190,17 @@ fn cut_at_each_word(rules: &RuleSet, take: Taker) {
     }
 }
 
-/// Where the words behind the first function's empty-trace expression begin.
-fn behind_first_expression(rules: &RuleSet) -> usize {
+/// The offset of the first word after the first function's empty-trace expression.
+fn after_first_expression(rules: &RuleSet) -> usize {
     let [domains, labels, ..] = rules.sections();
     let mut expression = Vec::new();
     rules.functions[0].at_start.spell(&mut expression);
-    // The edition and the count of blocks stand before; the function count and the function's domain
-    // between.
+    // The edition and the count of blocks come first; the function count and the function's domain precede
+    // the expression.
     2 + domains.len() + labels.len() + 2 + expression.len()
 }
 
-/// A stream that would need a 65th block, cut where the 64th ends.
+/// A stream that would need a 65th block, cut at the end of the 64th.
 fn cut_at_64_blocks(take: Taker) {
     for over in [2, 3, 10, 100, 254, 300] {
         let mut rules = full::rules();
@@ -212,7 +213,8 @@ fn cut_at_64_blocks(take: Taker) {
     }
 }
 
-/// Zeros from each word on. Zero is a code, a count and a number, so the stream may go on for a while.
+/// From each word in turn, the rest of the stream is zero. Zero is also a code, a count and a number, so
+/// several zeros may be read before one is refused.
 fn zeroed_from_each_word(rules: &RuleSet, take: Taker) {
     let words = rules.stream();
     for from in 0..words.len() {
@@ -222,7 +224,8 @@ fn zeroed_from_each_word(rules: &RuleSet, take: Taker) {
     }
 }
 
-/// A word behind the end; a last block without a used word; and right ends, which are answered as told.
+/// A word other than zero after the end, or a last block without a used word: refused 4. The same streams
+/// with a right end get the answer `right`.
 fn wrong_ends(rules: &RuleSet, right: Expected, take: Taker) {
     let exact = filled_up(rules, 0);
     let one_more = filled_up(rules, 1);
@@ -234,12 +237,12 @@ fn wrong_ends(rules: &RuleSet, right: Expected, take: Taker) {
             continue;
         }
         take(Case::new(format!("end {name}"), file_of(&words), right));
-        for behind in words.len()..blocks * CONTENT_WORDS {
+        for place in words.len()..blocks * CONTENT_WORDS {
             for wrong in [1, 256, 65535] {
                 let mut words = words.clone();
-                words.resize(behind, 0);
+                words.resize(place, 0);
                 words.push(wrong);
-                let name = format!("end {name}, {wrong} at word {behind}");
+                let name = format!("end {name}, {wrong} at word {place}");
                 take(Case::new(name, file_of(&words), Expected::Refused(FORM)));
             }
         }
@@ -257,7 +260,7 @@ fn unused_blocks(name: &str, words: &[u16], take: Taker) {
     }
 }
 
-/// The stream made longer until it fills its blocks, and so many words more.
+/// The stream lengthened to fill its blocks exactly, and by `over` words more.
 fn filled_up(rules: &RuleSet, over: usize) -> Vec<u16> {
     let words = rules.stream().len();
     let missing = (CONTENT_WORDS - words % CONTENT_WORDS) % CONTENT_WORDS + over;

@@ -1,6 +1,6 @@
-//! The largest files: 64 blocks filled to the last word with functions and processes, as benchmarks and
-//! tests want them; once with whatever comes, once with the same few phrases over and over, as a large
-//! cabinet would have them.
+//! The largest files: 64 blocks filled to the last word with functions and processes, for benchmarks and
+//! tests; one is random, the other repeats a few phrases over and over, as the rules of a large cabinet
+//! would.
 
 use super::lengthened;
 use super::random::Random;
@@ -20,8 +20,8 @@ const DEFINITIONS: Shape = Shape {
     term_depth: 3,
 };
 
-/// An admitted rule set of exactly 64 × 254 words, no two phrases alike: no processor foresees its
-/// codes.
+/// An admitted random rule set of exactly 64 × 254 words, so that a processor's branch prediction cannot
+/// learn its codes.
 pub fn rules() -> RuleSet {
     let mut random = Random::new(0);
     let mut rules = definitions(&mut random);
@@ -35,7 +35,7 @@ pub fn rules() -> RuleSet {
     filled_up(rules)
 }
 
-/// The rule set with the words that are missing put into the first function's empty-trace expression.
+/// The first function's empty-trace expression lengthened so that the stream has `MOST_WORDS` words.
 fn filled_up(mut rules: RuleSet) -> RuleSet {
     let missing = MOST_WORDS - rules.stream().len();
     let first = &mut rules.functions[0];
@@ -43,9 +43,9 @@ fn filled_up(mut rules: RuleSet) -> RuleSet {
     rules
 }
 
-/// An admitted rule set of exactly 64 × 254 words as a large cabinet would have it: 64 labels, 16
-/// functions that each say of every label "this if it is mine, else as before", and 31 processes of
-/// guarded choices; main runs two of them.
+/// An admitted rule set of exactly 64 × 254 words as a large cabinet would have it: 64 labels; 16 functions,
+/// whose expression for every label is "a constant if the parameter is the label's argument, else before"; 31
+/// processes of guarded choices; main runs two of them.
 pub fn large_cabinet() -> RuleSet {
     let labels: Vec<Vec<u16>> = (0..64).map(|label| vec![label % 16]).collect();
     let function = |number: u16| {
@@ -83,7 +83,7 @@ fn definitions(random: &mut Random) -> RuleSet {
     }
 }
 
-/// Main: some labels without parameters, each in a star of its own beside the others.
+/// Main: some labels without parameters, each in a star of its own, all in parallel.
 fn interleaved_stars(rules: &RuleSet) -> Term {
     let bare = (0..).zip(&rules.labels).filter(|(_, parameters)| parameters.is_empty());
     let star = |(label, _)| Term::star(Term::action(label, &[]));
@@ -93,11 +93,11 @@ fn interleaved_stars(rules: &RuleSet) -> Term {
 fn length_with(rules: &RuleSet, main: &Process) -> usize {
     let mut whole = rules.clone();
     whole.processes.push(main.clone());
-    // A term may not grow by one word, so two words are kept back for the last filling.
+    // `lengthened` cannot add exactly one word, so two words are reserved for the last filling.
     whole.stream().len() + 2
 }
 
-/// A process of at most so many words: random terms in sequence until the next would be too much.
+/// A process of at most `goal` words: random terms in sequence until the next would exceed it.
 fn filled_process(random: &mut Random, rules: &RuleSet, goal: usize) -> Process {
     let parameters: Vec<u16> = (0..2).map(|_| random.below(rules.domains.len()) as u16).collect();
     let mut body = Term::Internal;

@@ -1,32 +1,32 @@
-//! Buffers to be lent, and memories to be given.
+//! Buffers to lend, and memories to give.
 //!
-//! Document 01, refusal 9 and "Words past the reported size (Run: past G) and cells past C keep their
-//! values. An odd last byte is ignored and kept"; document 02, K1: "Before a run the table may hold
-//! anything." A buffer comes full of random bytes, so that what is kept can be seen.
+//! Document 01, refusal 9 and "Words past the reported size (Run: past G) and cells past C keep their values.
+//! An odd last byte is ignored and kept"; document 02, K1: "Before a run the table may hold anything."
+//! Buffers are filled with random bytes, so that a test can see what was kept.
 
 use super::random::Random;
 use crate::{Sizes, TABLE_BYTES};
 
-/// How a buffer fits so many words.
+/// The length of a buffer, compared with the words that it must have room for.
 #[derive(Clone, Copy, Debug, PartialEq, Eq)]
 pub enum Fit {
-    /// No byte at all.
+    /// No bytes.
     Empty,
-    /// A word too little.
+    /// One word too short.
     WordShort,
-    /// A byte too little: the last word is cut.
+    /// One byte too short: the last word is cut.
     ByteShort,
     Exact,
-    /// A byte that counts for nothing.
+    /// One byte more, which is ignored and kept.
     Odd,
-    /// Words and perhaps a byte that must be kept.
+    /// Some words and perhaps one byte more, which must be kept.
     Longer,
 }
 
 pub const FITS: [Fit; 6] = [Fit::Empty, Fit::WordShort, Fit::ByteShort, Fit::Exact, Fit::Odd, Fit::Longer];
 
 impl Fit {
-    /// How many bytes that is.
+    /// The length in bytes, for a buffer of n words.
     fn bytes(self, random: &mut Random, words: usize) -> usize {
         match self {
             Fit::Empty => 0,
@@ -38,7 +38,7 @@ impl Fit {
         }
     }
 
-    /// Whether so many words have room.
+    /// Whether the buffer has room for n words.
     pub fn suffices(self, words: usize) -> bool {
         words == 0 || matches!(self, Fit::Exact | Fit::Odd | Fit::Longer)
     }
@@ -49,7 +49,7 @@ impl Fit {
     }
 }
 
-/// A fit with room.
+/// A random fit that has room.
 pub fn roomy(random: &mut Random) -> Fit {
     *random.pick(&[Fit::Exact, Fit::Odd, Fit::Longer])
 }
@@ -58,8 +58,8 @@ pub fn noise(random: &mut Random, bytes: usize) -> Vec<u8> {
     (0..bytes).map(|_| random.number() as u8).collect()
 }
 
-/// A memory of so many cells: mostly small numbers, some undefined, some at the ends, some anything; as
-/// long as the fit has it.
+/// A memory of n cells, mostly small numbers, some undefined, some the largest numbers, some any word; of the
+/// length that the fit gives.
 pub fn memory(random: &mut Random, cells: usize, fit: Fit) -> Vec<u8> {
     let mut bytes = fit.buffer(random, cells);
     for cell in bytes.chunks_exact_mut(2) {
@@ -75,7 +75,7 @@ pub fn memory(random: &mut Random, cells: usize, fit: Fit) -> Vec<u8> {
     bytes
 }
 
-/// A table for Run, of the length that the fit gives: any counts, and many that soon begin at 0 again.
+/// A table for Run, of the length that the fit gives: random counts, many of them close to 4,294,967,295.
 pub fn table(random: &mut Random, fit: Fit) -> Vec<u8> {
     let mut bytes = fit.buffer(random, TABLE_BYTES / 2);
     for count in bytes.chunks_exact_mut(4) {
@@ -86,7 +86,7 @@ pub fn table(random: &mut Random, fit: Fit) -> Vec<u8> {
     bytes
 }
 
-/// What Run is lent, each as long as its fit has it.
+/// The buffers for Run, each of the length that its fit gives.
 pub fn for_run(random: &mut Random, sizes: Sizes, fits: [Fit; 5]) -> [Vec<u8>; 5] {
     let [of_table, term, memory, spare_term, spare_memory] = fits;
     let (reach, cells) = (sizes.reach as usize, sizes.cells as usize);
@@ -99,13 +99,13 @@ pub fn for_run(random: &mut Random, sizes: Sizes, fits: [Fit; 5]) -> [Vec<u8>; 5
     ]
 }
 
-/// What Run is lent, each with room.
+/// The buffers for Run, each with room.
 pub fn roomy_for_run(random: &mut Random, sizes: Sizes) -> [Vec<u8>; 5] {
     let fits = [(); 5].map(|()| roomy(random));
     for_run(random, sizes, fits)
 }
 
-/// What Run is lent for a rule set of these sizes, and no byte more: zeros.
+/// The buffers for Run for a rule set of these sizes, of the exact lengths, filled with zeros.
 pub fn zeros_for_run(sizes: Sizes) -> [Vec<u8>; 5] {
     let (reach, cells) = (2 * sizes.reach as usize, 2 * sizes.cells as usize);
     [TABLE_BYTES, reach, cells, reach, cells].map(|bytes| vec![0; bytes])

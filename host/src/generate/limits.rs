@@ -1,5 +1,5 @@
-//! Main at the limits: G 8,192 and 8,193, W 65,535 and 65,536, by each way of making them; and measures
-//! that no word, nor any number of 32 or 64 bits, can hold.
+//! Main at the limits: G 8,192 and 8,193, W 65,535 and 65,536, reached in each way that the definitions
+//! allow; and measures that do not fit a word, or a number of 32 or 64 bits.
 //!
 //! Document 01, "Unfolding, size and breadth", refusals 7 and 8, 7 before 8. Only main is judged.
 
@@ -23,14 +23,14 @@ pub fn cases(take: Taker) {
     unreached(take);
 }
 
-/// Main of the smallest rule set, or with one domain of so many elements.
+/// A case with this main and with one domain of `elements` elements.
 fn main_case(take: Taker, name: &str, elements: u16, term: Term, expected: Expected) {
     let rules = RuleSet { domains: vec![elements], ..with_main(term) };
     take(Case::of_rules(name, &rules, expected));
 }
 
-/// The sizes that a main of this size, reach and breadth is admitted with, or its refusal. There is no
-/// function.
+/// The expected answer for a main of this size, reach and breadth, in a rule set without functions: the sizes
+/// or a refusal.
 fn sized(size: u64, reach: u64, breadth: u64) -> Expected {
     if reach > u64::from(MOST_REACH) {
         return TOO_LARGE;
@@ -41,7 +41,7 @@ fn sized(size: u64, reach: u64, breadth: u64) -> Expected {
     Expected::Answer(Ok(Sizes { cells: 0, reach: reach as u32, breadth: breadth as u32, size: size as u32 }))
 }
 
-/// Terms that reach no further than their own size, from two words under the limit to two above it.
+/// Terms whose reach is their size, from two words below the limit to two words above it.
 fn reaches_by_size(take: Taker) {
     for words in 8190..=8194usize {
         let reach = words as u64;
@@ -57,7 +57,7 @@ fn reaches_by_size(take: Taker) {
     }
 }
 
-/// Stars, which reach further than their size, and each clause that takes over its operand's reach.
+/// Stars, whose reach exceeds their size, and each clause by which a term's reach depends on its operand's.
 fn reaches_by_stars(take: Taker) {
     for words in 4093..=4097usize {
         let (inner, star) = (words as u64, || Term::star(term_of(words)));
@@ -95,8 +95,8 @@ fn quantified_reaches(take: Taker) {
     }
 }
 
-/// So many quantifiers over two elements, at most 8 to a process, each process calling the one before;
-/// main is the given term around a call of the last.
+/// `quantifiers` nested quantifiers, at most 8 in a process, each process calling the one before; main is
+/// `main` of a call of the last one.
 fn quantifier_chain(
     elements: u16,
     quantifiers: usize,
@@ -117,8 +117,8 @@ fn quantifier_chain(
     RuleSet { domains: vec![elements], processes, ..with_main(Term::Internal) }
 }
 
-/// k nested choices over two elements have 2^(k + 1) - 1 words, and their star reaches 2^(k + 2): sums
-/// that wrap around to 0 at 16, 32 or 64 bits would let a set pass.
+/// k nested choices over two elements have 2^(k + 1) - 1 words, and their star has a reach of 2^(k + 2): a
+/// sum that wraps around to 0 at 16, 32 or 64 bits would let such a set pass.
 fn doubled(take: Taker) {
     for k in (1..=80usize).chain([120, 200, 248]) {
         let rules = quantifier_chain(2, k, |term| Term::choice_over(0, term), Term::star);
@@ -131,7 +131,7 @@ fn doubled(take: Taker) {
     }
 }
 
-/// W 65,535 in a few words: an action beside itself, synchronised, makes (1 + w)^n - 1.
+/// W 65,535 in few words: n copies of a choice of w actions, all synchronised, have breadth (1 + w)^n - 1.
 fn breadths(take: Taker) {
     let a = || Term::action(0, &[]);
     let choice = |n: usize| (1..n).fold(a(), |rest, _| Term::choice(a(), rest));
@@ -162,7 +162,7 @@ fn breadths(take: Taker) {
     }
 }
 
-/// 2^n - 1, and with a star or an internal step beside it 2^n, for n up to 64; nested, far beyond.
+/// Breadths 2^n - 1, and with a star or an internal step 2^n, for n up to 64; nested, far more.
 fn powers(take: Taker) {
     for n in 1..=64u16 {
         let most = || Term::parallel_over(0, mask_of(&[0]), Term::action(0, &[]));
@@ -178,7 +178,8 @@ fn powers(take: Taker) {
     main_case(take, "too large and too broad", 64, Term::star(squared), TOO_LARGE);
 }
 
-/// A process may be larger than any number here can say; only main's reach and breadth are judged.
+/// A process that main does not call may be larger than any number here can express; only main's reach and
+/// breadth are judged.
 fn unreached(take: Taker) {
     let binds: [fn(Term) -> Term; 3] = [
         |term| Term::choice_over(0, term),
@@ -191,6 +192,6 @@ fn unreached(take: Taker) {
         let rules = quantifier_chain(64, 248, bind, |call| call);
         take(Case::of_rules("64^248 words reached", &rules, TOO_LARGE));
         let rules = quantifier_chain(64, 248, bind, |call| Term::sequence(Term::Internal, Term::star(call)));
-        take(Case::of_rules("64^248 words reached behind a step", &rules, TOO_LARGE));
+        take(Case::of_rules("64^248 words reached after a step", &rules, TOO_LARGE));
     }
 }

@@ -1,9 +1,9 @@
 //! Cases for Admit: right rule sets, sets with one fault or two, sets at the limits, damaged and random
-//! bytes. And calls of the other operations: running terms, events, memories and buffers, right and
-//! wrong.
+//! bytes. And calls of the other operations: right and wrong running terms, events, memories and buffers.
 //!
-//! All are made from seeds and made the same every time. Where the generator knows what document 01
-//! asks for, the case says so, and the plain reader is tested as well as the engine.
+//! All are generated from fixed seeds, so that they are the same every time. Where the generator knows the
+//! answer that document 01 asks for, the case contains it, so that the plain reader is tested as well as the
+//! engine.
 
 pub mod calls;
 pub mod clauses;
@@ -26,15 +26,15 @@ pub mod wrong_terms;
 use crate::rules::{Condition, Data, RuleSet, Term};
 use crate::Answer;
 
-/// What a case must be answered.
+/// The answer that a case must get.
 #[derive(Clone, Copy, Debug, PartialEq, Eq)]
 pub enum Expected {
-    /// Sizes, whichever they are.
+    /// Admitted, with any sizes.
     Admitted,
-    /// Exactly this.
+    /// Exactly this answer.
     Answer(Answer),
     Refused(u8),
-    /// The generator does not know: the plain reader and the engine must agree.
+    /// Not known to the generator: the plain reader and the engine must agree.
     Open,
 }
 
@@ -49,7 +49,7 @@ impl Expected {
     }
 }
 
-/// Bytes to admit.
+/// Bytes for Admit, with the expected answer.
 #[derive(Clone, Debug)]
 pub struct Case {
     pub name: String,
@@ -67,10 +67,10 @@ impl Case {
     }
 }
 
-/// Who takes the cases, one by one: there are too many to hold.
+/// Receives the cases, one by one: there are too many to keep in memory.
 pub type Taker<'a> = &'a mut dyn FnMut(Case);
 
-/// Every kind of case. `rounds` scales the random ones; 1 is a test's worth.
+/// Every kind of case. `rounds` multiplies the number of random ones; tests use 1.
 pub fn every_case(rounds: usize, take: Taker) {
     ends::cases(take);
     clauses::cases(take);
@@ -80,8 +80,7 @@ pub fn every_case(rounds: usize, take: Taker) {
     damage::cases(rounds, take);
 }
 
-/// A condition of exactly so many words, at least 1: ands of true nested to the right, and one not if
-/// need be.
+/// A condition of exactly n words, n at least 1: ands of true nested to the right, inside a not if n is even.
 pub fn condition_of(words: usize) -> Condition {
     assert!(words > 0, "a condition has at least one word");
     let ands = (words - 1) / 2;
@@ -93,7 +92,7 @@ pub fn condition_of(words: usize) -> Condition {
     }
 }
 
-/// A term whose size and reach are exactly so many words (1, or 3 and more) and whose breadth is 1.
+/// A term whose size and reach are n words (n is 1, or 3 or more) and whose breadth is 1.
 pub fn term_of(words: usize) -> Term {
     if words == 1 {
         Term::Internal
@@ -102,8 +101,7 @@ pub fn term_of(words: usize) -> Term {
     }
 }
 
-/// The expression with exactly so many words more, 0 or at least 2; it means something else then, or
-/// nothing.
+/// A data expression n words longer, n not 1. Its value may differ from that of the given one.
 pub fn lengthened(data: Data, words: usize) -> Data {
     assert!(words != 1, "no expression grows by one word around another");
     let by_three = words % 2;

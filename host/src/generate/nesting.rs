@@ -1,29 +1,29 @@
-//! Streams that nest as deep as 64 blocks allow: what recursion has to bear.
+//! Streams that nest as deep as 64 blocks allow: the worst cases for the recursion of Admit.
 //!
-//! Document 01 sets no limit on nesting but the stream's length, "1 to 64 blocks". Each is admitted:
-//! the deep expression or term stands in a function or in a process that main does not call.
+//! Document 01 limits nesting only by the stream's length, "1 to 64 blocks". Each of these is admitted: the
+//! deep expression or term is in a function or in a process that main does not call.
 
 use super::{Case, Expected, Taker};
 use crate::blocks::{file_in, MOST_BLOCKS, MOST_WORDS};
 
-/// A worst case by name, with its depth in codes.
+/// A worst case: its name, its depth in codes and its file.
 pub struct Nesting {
     pub name: &'static str,
     pub depth: usize,
     pub file: Vec<u8>,
 }
 
-/// Edition, 64 blocks, one domain of one element, one label.
+/// Edition, 64 blocks, one domain of one element, one label without parameters.
 const HEAD: [u16; 6] = [1, 64, 1, 1, 1, 0];
-/// No function, or one that is undefined throughout.
+/// The function section: no function, or one whose two expressions are undefined.
 const NO_FUNCTION: [u16; 1] = [0];
 const FUNCTION: [u16; 4] = [1, 0, 0, 0];
-/// Two processes, the first without parameters.
+/// Two processes, the first without parameters; then main.
 const PROCESS: [u16; 2] = [2, 0];
 const MAIN: [u16; 2] = [0, 20];
 
-/// A nest: before it, words to open a level, the innermost words, words to close a level, and what must
-/// follow it.
+/// A nest: the words before it, the words that open a level, the innermost words, the words that close a
+/// level, and the words after it.
 struct Nest<'a> {
     before: &'a [u16],
     open: &'a [u16],
@@ -33,7 +33,7 @@ struct Nest<'a> {
 }
 
 impl Nest<'_> {
-    /// As many levels as fit between what goes before and after.
+    /// The file with as many levels as fit in 64 blocks.
     fn fill(&self, name: &'static str) -> Nesting {
         let around = self.before.len() + self.middle.len() + self.after.len();
         let depth = (MOST_WORDS - around) / (self.open.len() + self.close.len());
@@ -46,14 +46,14 @@ impl Nest<'_> {
     }
 }
 
-/// A nest of data in the function's expression for the label.
+/// Nested data in the function's expression for the label.
 fn data(name: &'static str, open: &[u16], middle: &[u16], close: &[u16]) -> Nesting {
     let before = [&HEAD[..], &[1, 0, 0]].concat();
     let after = [&PROCESS[..], &[20], &MAIN].concat();
     Nest { before: &before, open, middle, close, after: &after }.fill(name)
 }
 
-/// A nest of conditions in a guard of the first process.
+/// Nested conditions in a guard of the first process.
 fn condition(name: &'static str, open: &[u16], middle: &[u16], close: &[u16]) -> Nesting {
     condition_with(name, &NO_FUNCTION, open, middle, close)
 }
@@ -70,14 +70,14 @@ fn condition_with(
     Nest { before: &before, open, middle, close, after: &after }.fill(name)
 }
 
-/// A nest of terms in the first process.
+/// Nested terms in the first process.
 fn term(name: &'static str, open: &[u16], middle: &[u16], close: &[u16]) -> Nesting {
     let before = [&HEAD[..], &NO_FUNCTION, &PROCESS].concat();
     Nest { before: &before, open, middle, close, after: &MAIN }.fill(name)
 }
 
-/// 31 processes, each the given words, those after the first ending in a call of the one before; then
-/// main.
+/// 31 processes of the given words, the first ending in an internal step, each of the others in a call of the
+/// one before; then main.
 fn chain(name: &'static str, body: &[u16], rounds: usize) -> Nesting {
     let mut words = [&HEAD[..], &NO_FUNCTION, &[32]].concat();
     for process in 0..31u16 {

@@ -1,5 +1,4 @@
-//! A small deterministic source of numbers (splitmix64), so that every case can be made again from its
-//! seed.
+//! A small deterministic random source (splitmix64), so that every case can be generated again from its seed.
 
 pub struct Random {
     state: u64,
@@ -18,17 +17,17 @@ impl Random {
         mixed ^ (mixed >> 31)
     }
 
-    /// A number below a limit that is not 0. The remainder's slight unevenness does not matter here.
+    /// A number below a limit that is not 0. The slight bias of the remainder does not matter here.
     pub fn below(&mut self, limit: usize) -> usize {
         (self.number() % limit as u64) as usize
     }
 
-    /// A word from least to most, both included.
+    /// A number from least to most, both included.
     pub fn between(&mut self, least: u16, most: u16) -> u16 {
         least + self.below(usize::from(most - least) + 1) as u16
     }
 
-    /// True in so many of a hundred cases.
+    /// True with a probability of `percent` in a hundred.
     pub fn chance(&mut self, percent: usize) -> bool {
         self.below(100) < percent
     }

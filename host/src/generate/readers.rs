@@ -1,4 +1,5 @@
-//! Lists for Run, each number followed by its card reader, right and wrong; and the records of its table.
+//! Lists for Run, right and wrong, in which each number is followed by its card reader; and the records of
+//! Run's table.
 //!
 //! Document 02, K1: "Each number in Run's list, not the printing program's, is followed by a word, its
 //! reader, 1 to 32." and refusal 13.
@@ -7,10 +8,10 @@ use super::calls::numbers;
 use super::random::Random;
 use crate::{bytes_of, words_of, READERS, RECORD_BYTES, TABLE_BYTES};
 
-/// Words that are no reader; of some, a byte alone would be one.
+/// Words that are not readers; the low byte of some of them is.
 pub const NO_READERS: [u16; 8] = [0, 33, 34, 256, 257, 288, 8192, 65535];
 
-/// `count` move numbers, each at a reader, and now and then half a word after them.
+/// `count` move numbers, each with a reader, and sometimes half a word after them.
 pub fn list(random: &mut Random, count: usize) -> Vec<u8> {
     let numbers = numbers(random, count);
     let mut list = at_any(random, &words_of(&numbers));
@@ -18,7 +19,7 @@ pub fn list(random: &mut Random, count: usize) -> Vec<u8> {
     list
 }
 
-/// The numbers, each at any reader: many at a few of them, the first and the last among these.
+/// The numbers with random readers: readers 1 to 4 and 32 occur most.
 pub fn at_any(random: &mut Random, numbers: &[u16]) -> Vec<u8> {
     let mut reader = || match random.below(4) {
         0 => *random.pick(&[1, READERS]),
@@ -28,25 +29,26 @@ pub fn at_any(random: &mut Random, numbers: &[u16]) -> Vec<u8> {
     of_pairs(numbers.iter().map(|&number| (number, reader())))
 }
 
-/// The numbers, at the readers 1 to 32 by turns.
+/// The numbers with the readers 1 to 32 in rotation.
 pub fn by_turns(numbers: &[u16]) -> Vec<u8> {
     of_pairs(numbers.iter().copied().zip((1..=READERS).cycle()))
 }
 
-/// Numbers with their readers, as Run takes them.
+/// Pairs of a number and its reader, in the bytes that Run takes.
 pub fn of_pairs(pairs: impl Iterator<Item = (u16, u16)>) -> Vec<u8> {
     bytes_of(&pairs.flat_map(|(number, reader)| [number, reader]).collect::<Vec<u16>>())
 }
 
-/// A list with another reader at one of its numbers.
+/// The list with another reader at one of its numbers.
 pub fn with_reader(list: &[u8], number: usize, reader: u16) -> Vec<u8> {
     let mut list = list.to_vec();
     list[4 * number + 2..4 * number + 4].copy_from_slice(&reader.to_le_bytes());
     list
 }
 
-/// Lists that 13 turns away, each with what is wrong, made of `count` right pairs, at least one: no reader at
-/// the first, a middle and the last place, or none after the last number.
+/// Lists that are refused 13, each with a name for what is wrong, made of `count` right pairs, at least one:
+/// a word that is not a reader at the first, a middle and the last place, or a number without a reader at the
+/// end.
 pub fn wrong(random: &mut Random, count: usize) -> Vec<(String, Vec<u8>)> {
     let numbers = words_of(&numbers(random, count));
     let right = at_any(random, &numbers);

@@ -1,35 +1,34 @@
-//! What each word of a rule stream is, and which words must not stand in its place, with the refusal
-//! each would bring.
+//! The role of each word of a rule stream, and the words that are wrong in its place, each with its refusal.
 //!
-//! Document 01, "Blocks and the rule stream" and refusals 3 to 6. A well-formed stream with one such
-//! word put in is refused by that word's number and no other: everything before it is right, and
-//! nothing behind it counts any more. The stream is spelled here a second time, with scopes; the tests
-//! compare it with `rules`.
+//! Document 01, "Blocks and the rule stream" and refusals 3 to 6. A well-formed stream in which one word is
+//! replaced by such a wrong word is refused with that word's number: everything before it is right, and the
+//! words after it are not judged. The stream is spelled here a second time, with scopes; the tests compare it
+//! with that of `rules`.
 
 use crate::refusal::{EDITION, FORM, KIND, REFERENCE};
 use crate::rules::{count_of, Argument, Condition, Data, Mask, RuleSet, Term};
 
-/// The place of a word.
+/// The role of a word.
 #[derive(Clone, Debug, PartialEq, Eq)]
 pub enum Role {
     Edition,
     BlockCount,
-    /// A count or size, within its ends.
+    /// A count or size, with its range.
     Count {
         least: u16,
         most: u16,
     },
-    /// The number of a domain, variable, function, label or process: one of so many.
+    /// The number of a domain, variable, function, label or process, which must be below `defined`.
     Reference {
         defined: u16,
     },
-    /// A code of a data expression, in which before may stand or not.
+    /// A code of a data expression, where before is allowed or not.
     DataCode {
         before: bool,
     },
     Constant,
     ConditionCode,
-    /// A code of a rule term, where another variable may be bound or not.
+    /// A code of a rule term; `full` if no other variable can be bound.
     TermCode {
         full: bool,
     },
@@ -37,28 +36,29 @@ pub enum Role {
     ArgumentConstant {
         elements: u16,
     },
-    /// Of each variable in scope, whether it has the parameter's domain.
+    /// The number of a variable as argument. For each variable in scope: whether it has the parameter's
+    /// domain.
     ArgumentVariable {
         fitting: Vec<bool>,
     },
-    /// A mask word with these bits for labels that there are.
+    /// A mask word, with the bits that have a label.
     MaskWord {
         defined: u16,
     },
 }
 
-/// A word of a stream and its place.
+/// A word of a stream and its role.
 #[derive(Clone, Debug)]
 pub struct Marked {
     pub word: u16,
     pub role: Role,
 }
 
-/// Words out of any code's range, and words whose low byte alone would be a code.
+/// Words outside the range of all codes, some of which have a low byte that is a code.
 const NO_CODES: [u16; 10] = [14, 15, 19, 31, 32, 255, 256 + 1, 256 + 13, 256 + 20, 65535];
 
 impl Role {
-    /// Words that must not stand here instead of the right one, each with its refusal.
+    /// The words that are wrong here, each with its refusal; `right` is the word that the stream has.
     pub fn faults(&self, right: u16) -> Vec<(u16, u8)> {
         match self {
             Role::Edition => [0, 2, 256, 257, 65535].map(|word| (word, EDITION)).to_vec(),
@@ -97,12 +97,12 @@ impl Role {
     }
 }
 
-/// Every code that is none here, 30 among them: done stands in no rule set.
+/// Every code that is not allowed here, with refusal 4. 30, done, is allowed in no rule set.
 pub(super) fn codes_but(allowed: impl Fn(u16) -> bool) -> Vec<(u16, u8)> {
     (0..=30).chain(NO_CODES).filter(|&code| !allowed(code)).map(|code| (code, FORM)).collect()
 }
 
-/// The stream of a well-formed rule set, each word with its place.
+/// The stream of a well-formed rule set, each word with its role.
 pub fn marked(rules: &RuleSet) -> Vec<Marked> {
     let mut marking = Marking { rules, words: Vec::new(), scope: Vec::new(), defined_processes: 0 };
     let [edition, blocks] = [rules.stream()[0], rules.stream()[1]];
@@ -117,7 +117,7 @@ pub fn marked(rules: &RuleSet) -> Vec<Marked> {
     marking.words
 }
 
-/// What an expression may name.
+/// How many variables an expression may use, and how many functions by now and by before.
 #[derive(Clone, Copy)]
 struct Names {
     variables: u16,
@@ -128,7 +128,7 @@ struct Names {
 struct Marking<'a> {
     rules: &'a RuleSet,
     words: Vec<Marked>,
-    /// The domains of the variables in scope, in a process.
+    /// The domains of the variables in scope, within a process.
     scope: Vec<u16>,
     defined_processes: u16,
 }

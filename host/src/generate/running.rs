@@ -1,8 +1,7 @@
-//! Running terms of a rule set: those that it reaches, by random walks, and any others that are spelled
-//! right.
+//! Running terms of a rule set: those that it reaches, by random walks, and other well-formed ones.
 //!
-//! Document 01, "Unfolding, size and breadth", and refusal 10: a given term need not be one that the rule
-//! set reaches, and done may stand anywhere in it.
+//! Document 01, "Unfolding, size and breadth", and refusal 10: a given term need not be one that the rule set
+//! reaches, and done may occur anywhere in it.
 
 use super::random::Random;
 use super::well_formed::running_condition;
@@ -16,7 +15,7 @@ pub struct State {
     pub memory: Vec<u8>,
 }
 
-/// The start of an admitted rule set.
+/// The start state of an admitted rule set.
 pub fn start(file: &[u8], sizes: Sizes) -> State {
     let mut term = vec![0; 2 * sizes.reach as usize];
     let mut memory = vec![0; 2 * sizes.cells as usize];
@@ -25,7 +24,7 @@ pub fn start(file: &[u8], sizes: Sizes) -> State {
     State { term, memory }
 }
 
-/// The state after a move, which there is. No move enlarges a term's reach beyond main's.
+/// The state after move `number`, which exists. No move enlarges a term's reach beyond main's.
 pub fn after(file: &[u8], sizes: Sizes, state: &State, number: u64) -> State {
     let mut term = vec![0; 2 * sizes.reach as usize];
     let mut memory = vec![0; 2 * sizes.cells as usize];
@@ -34,7 +33,8 @@ pub fn after(file: &[u8], sizes: Sizes, state: &State, number: u64) -> State {
     State { term, memory }
 }
 
-/// All moves of a right term, in buffers as large as its reach asks for: actions and states after them.
+/// All moves of a well-formed term, made in buffers as large as its reach: the actions and the states after
+/// them.
 pub fn moves(rules: &RuleSet, file: &[u8], state: &State) -> Vec<(Action, State)> {
     let (_, reach, _) = measures(rules, &words_of(&state.term));
     let count = plain::count(file, &state.term, &state.memory).expect("a right term");
@@ -48,8 +48,8 @@ pub fn moves(rules: &RuleSet, file: &[u8], state: &State) -> Vec<(Action, State)
     (0..u64::from(count)).map(next).collect()
 }
 
-/// The states of a walk of at most so many random moves, the start among them. Where there is a choice,
-/// the first move is mostly left alone: it often ends a star.
+/// The states of a random walk of at most `steps` moves, the start included. Where there is a choice, later
+/// moves are more likely than the first, which often ends a star.
 pub fn walk(random: &mut Random, file: &[u8], sizes: Sizes, steps: usize) -> Vec<State> {
     let mut states = vec![start(file, sizes)];
     for _ in 0..steps {
@@ -65,7 +65,8 @@ pub fn walk(random: &mut Random, file: &[u8], sizes: Sizes, steps: usize) -> Vec
     states
 }
 
-/// A well-formed running term of the rule set, at most so deep and within the limits 7 and 8.
+/// A random well-formed running term of the rule set, of at most the given depth and within the limits 7 and
+/// 8.
 pub fn arbitrary(random: &mut Random, rules: &RuleSet, depth: u32) -> Vec<u16> {
     loop {
         let mut making = Making { random, rules, words: Vec::new() };
@@ -78,14 +79,14 @@ pub fn arbitrary(random: &mut Random, rules: &RuleSet, depth: u32) -> Vec<u16> {
     }
 }
 
-/// The words of an action of the rule set, any one.
+/// The words of a random action of the rule set.
 pub fn action(random: &mut Random, rules: &RuleSet) -> Vec<u16> {
     let mut making = Making { random, rules, words: Vec::new() };
     making.action();
     making.words
 }
 
-/// A running term in the making.
+/// A running term while it is generated.
 struct Making<'a> {
     random: &'a mut Random,
     rules: &'a RuleSet,
@@ -121,8 +122,8 @@ impl Making<'_> {
         }
     }
 
-    /// Mostly one of the first two labels with its first elements: equal actions must meet for a mask to
-    /// do anything.
+    /// Mostly one of the first two labels with the first elements: a mask has an effect only if equal actions
+    /// occur on both sides.
     fn action(&mut self) {
         let few = self.random.chance(60);
         let most = if few { self.rules.labels.len().min(2) } else { self.rules.labels.len() };
@@ -136,7 +137,7 @@ impl Making<'_> {
         }
     }
 
-    /// A third of the masks are zero; the others hold each label by an even chance.
+    /// A third of the masks are zero; each of the others contains each label with probability 1/2.
     fn mask(&mut self) -> [u16; 4] {
         let mut mask = [0; 4];
         if self.random.chance(66) {
@@ -185,7 +186,7 @@ pub fn measures(rules: &RuleSet, words: &[u16]) -> (u64, u64, u64) {
     }
 }
 
-/// How often done stands in a well-formed running term.
+/// How often done occurs in a well-formed running term.
 pub fn dones(rules: &RuleSet, words: &[u16]) -> usize {
     let (mut place, mut to_come, mut dones) = (0, 1usize, 0);
     while to_come > 0 {
@@ -208,7 +209,7 @@ pub fn dones(rules: &RuleSet, words: &[u16]) -> usize {
     dones
 }
 
-/// The words of the condition at the front.
+/// The number of words of the condition that begins at the first word.
 fn condition_size(words: &[u16]) -> usize {
     let (mut place, mut to_come) = (0, 1usize);
     while to_come > 0 {

@@ -1,13 +1,13 @@
 //! Random well-formed rule sets of many shapes.
 //!
-//! Document 01, "Blocks and the rule stream", items 2 to 5, all that stands there: expressions with now
-//! and before as far as each place allows them, guards, masks, nested quantifiers, calls of lower
-//! processes. Well-formed means past refusals 4 to 6; main may still be too large or too broad.
+//! Document 01, "Blocks and the rule stream", items 2 to 5, everything in them: expressions with now and
+//! before as far as each place allows them, guards, masks, nested quantifiers, calls of lower processes.
+//! Well-formed means not refused 4 to 6; main may still be too large or too broad.
 
 use super::random::Random;
 use crate::rules::{Argument, Condition, Data, Function, Mask, Process, RuleSet, Term, NO_LABELS};
 
-/// How large a rule set to make: each number is the most of its kind.
+/// How large a rule set to generate: each number is a maximum.
 #[derive(Clone, Copy, Debug)]
 pub struct Shape {
     pub name: &'static str,
@@ -20,7 +20,7 @@ pub struct Shape {
     pub term_depth: u32,
 }
 
-/// From sets that unfold to a few words up to sets of several blocks.
+/// From sets that unfold to a few words to sets of several blocks.
 pub const SHAPES: [Shape; 6] = [
     Shape {
         name: "tiny",
@@ -84,7 +84,7 @@ pub const SHAPES: [Shape; 6] = [
     },
 ];
 
-/// What an expression may name: variables below, functions by now, functions by before.
+/// How many variables an expression may use, and how many functions by now and by before.
 #[derive(Clone, Copy)]
 struct Names {
     variables: u16,
@@ -122,14 +122,14 @@ pub fn rule_set(random: &mut Random, shape: Shape) -> RuleSet {
     rules
 }
 
-/// A term for the next process of a rule set, with these parameters.
+/// A random term for the next process of a rule set, with these parameters.
 pub fn term(random: &mut Random, rules: &RuleSet, parameters: &[u16], shape: Shape) -> Term {
     TermMaking { random, rules, scope: parameters.to_vec(), data_depth: shape.data_depth }
         .term(shape.term_depth)
 }
 
-/// A data expression at most so deep. Constants are mostly small; the largest one that may stand occurs
-/// too.
+/// A random data expression of at most the given depth. Constants are mostly small; the largest one, 65,534,
+/// occurs too.
 fn data(random: &mut Random, names: Names, depth: u32) -> Data {
     let shallow = |random: &mut Random| data(random, names, depth.saturating_sub(1));
     match if depth == 0 { random.below(3) } else { random.below(10) } {
@@ -145,7 +145,7 @@ fn data(random: &mut Random, names: Names, depth: u32) -> Data {
     }
 }
 
-/// A guard's condition in a running term, where no variable is left.
+/// A random condition for a guard in a running term, which has no variables.
 pub fn running_condition(random: &mut Random, rules: &RuleSet, depth: u32) -> Condition {
     condition(random, Names { variables: 0, now: rules.functions.len() as u16, before: 0 }, depth)
 }
@@ -163,7 +163,7 @@ fn condition(random: &mut Random, names: Names, depth: u32) -> Condition {
     }
 }
 
-/// A process's term in the making: what stands before it, and the variables in scope by their domains.
+/// A process's term while it is generated: the rule set so far, and the domains of the variables in scope.
 struct TermMaking<'a> {
     random: &'a mut Random,
     rules: &'a RuleSet,
@@ -217,7 +217,7 @@ impl TermMaking<'_> {
         Term::Call(process as u16, arguments)
     }
 
-    /// Arguments that fit: variables of the very domain where there are any, else elements.
+    /// Arguments of the right domain: variables of that domain if there are any, else elements.
     fn arguments(&mut self, parameters: &[u16]) -> Vec<Argument> {
         let argument = |&domain: &u16| {
             let fitting: Vec<usize> =
@@ -231,7 +231,7 @@ impl TermMaking<'_> {
         parameters.iter().map(argument).collect()
     }
 
-    /// Half the masks are zero; the others hold each label by an even chance.
+    /// Half the masks are zero; each of the others contains each label with probability 1/2.
     fn mask(&mut self) -> Mask {
         let mut mask = NO_LABELS;
         if self.random.chance(50) {

@@ -1,5 +1,5 @@
-//! Running terms with one fault: each code, number, argument, mask bit and constant that may not stand
-//! where it stands; cut short; something left behind; half a word; above the limits.
+//! Running terms with one fault: a code, number, argument, mask bit or constant that is not allowed in its
+//! place; terms that are cut short, have something after them, or an odd byte; terms above the limits.
 //!
 //! Document 01, refusal 10: "a given term isn't exactly one running term of this rule set within 7's and
 //! 8's limits". And terms just within those limits, which pass.
@@ -10,7 +10,7 @@ use super::{condition_of, running};
 use crate::bytes_of;
 use crate::rules::RuleSet;
 
-/// The terms that one wrong word makes of a right one, each with what is wrong.
+/// The right term with one wrong word, in every way, each with a name for what is wrong.
 pub fn one_word(rules: &RuleSet, right: &[u16]) -> Vec<(String, Vec<u8>)> {
     let mut marking = Marking { rules, words: right, place: 0, faults: Vec::new() };
     marking.term();
@@ -25,7 +25,7 @@ pub fn one_word(rules: &RuleSet, right: &[u16]) -> Vec<(String, Vec<u8>)> {
     terms
 }
 
-/// A walk over a right term that notes, place by place, which words would be wrong there.
+/// A walk over a right term that notes for each word which words would be wrong in its place.
 struct Marking<'a> {
     rules: &'a RuleSet,
     words: &'a [u16],
@@ -34,7 +34,7 @@ struct Marking<'a> {
 }
 
 impl Marking<'_> {
-    /// The next word, which by its role must not be one of some others.
+    /// Notes the wrong words for the next word by its role, and returns that word.
     fn role(&mut self, name: &'static str, role: Role) -> u16 {
         let word = self.words[self.place];
         self.word(name, role.faults(word))
@@ -96,7 +96,7 @@ impl Marking<'_> {
         }
     }
 
-    /// No variable and no before stand in a running term.
+    /// Variables and before are not allowed in a running term.
     fn data(&mut self) {
         match self.word("data code", codes_but(|code| code <= 6 && code != 2)) {
             1 => _ = self.role("constant", Role::Constant),
@@ -118,7 +118,7 @@ impl Marking<'_> {
     }
 }
 
-/// A right term cut short and with something behind it, by words and by half a word.
+/// A right term cut short, and one with something after it, by whole words and by half a word.
 pub fn ends(random: &mut Random, right: &[u16]) -> Vec<(String, Vec<u8>)> {
     let bytes = bytes_of(right);
     let mut terms = Vec::new();
@@ -128,14 +128,14 @@ pub fn ends(random: &mut Random, right: &[u16]) -> Vec<(String, Vec<u8>)> {
             bytes[..length.min(bytes.len() - 1)].to_vec(),
         ));
     }
-    terms.push((format!("half a word behind {right:?}"), [&bytes[..], &[0]].concat()));
+    terms.push((format!("half a word after {right:?}"), [&bytes[..], &[0]].concat()));
     for word in [0, 1, 13, 20, 30, 65535] {
-        terms.push((format!("{word} behind {right:?}"), [bytes.clone(), bytes_of(&[word])].concat()));
+        terms.push((format!("{word} after {right:?}"), [bytes.clone(), bytes_of(&[word])].concat()));
     }
     terms
 }
 
-/// A term of exactly so many words, whose reach is its size and whose breadth is 1.
+/// A term of n words, whose reach is its size and whose breadth is 1.
 fn long(words: usize) -> Vec<u16> {
     let mut term = vec![26];
     condition_of(words - 2).spell(&mut term);
@@ -147,7 +147,7 @@ fn parallel(mask: u16, sides: [&[u16]; 2]) -> Vec<u16> {
     [&[25, mask, 0, 0, 0], sides[0], sides[1]].concat()
 }
 
-/// Terms at the limits: what each is, whether it passes, and its words.
+/// Terms at the limits: a name for each, whether it passes, and its words.
 pub fn limits(rules: &RuleSet) -> Vec<(&'static str, bool, Vec<u16>)> {
     let star = |inner: &[u16]| [&[24], inner].concat();
     let sequence = |left: &[u16], right: &[u16]| [&[22], left, right].concat();
@@ -156,9 +156,9 @@ pub fn limits(rules: &RuleSet) -> Vec<(&'static str, bool, Vec<u16>)> {
         &mut Random::new(3),
         &RuleSet { labels: vec![rules.labels[0].clone()], ..rules.clone() },
     );
-    // 2^16 - 1 moves: an action beside itself, synchronised.
+    // 2^16 - 1 moves: 16 copies of an action, synchronised.
     let broad = (1..16).fold(action.clone(), |inner, _| parallel(1, [&action, &inner]));
-    // Two labels at least: the mask is of the other one.
+    // The mask has label 1, not the action's: the rule set has at least two labels.
     let apart = (0..600).fold(broad.clone(), |inner, _| parallel(2, [&[30], &inner]));
     let dones = (0..600).fold(broad.clone(), |inner, _| parallel(1, [&[30], &inner]));
     vec![
@@ -178,7 +178,7 @@ pub fn limits(rules: &RuleSet) -> Vec<(&'static str, bool, Vec<u16>)> {
         ("W 65,535 in sequence", true, sequence(&broad, &broad)),
         ("W 65,536 by a star", false, star(&broad)),
         ("W 65,536 by a choice", false, choice(&broad, &[20])),
-        ("W 65,536 behind a step", false, sequence(&[20], &choice(&[20], &broad))),
+        ("W 65,536 after a step", false, sequence(&[20], &choice(&[20], &broad))),
         ("W far above 2^64", false, (0..200).fold(action.clone(), |inner, _| parallel(1, [&action, &inner]))),
     ]
 }

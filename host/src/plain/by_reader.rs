@@ -1,4 +1,4 @@
-//! Card readers, for Run over cells: refusal 13, and the table that a run adds to.
+//! Run's counts by card reader over cells: refusal 13, and the table that a run adds to.
 //!
 //! Document 02, K1: "Each number in Run's list [...] is followed by a word, its reader, 1 to 32. The host
 //! lends a table of records, one per reader, each with visible, internal and refused counts, of 32 bits in
@@ -10,7 +10,7 @@ use crate::{READERS, RECORD_BYTES};
 
 const RECORDS: usize = READERS as usize;
 
-/// The list's numbers, each with its reader. An odd last byte is ignored.
+/// The numbers of the list, each with its reader. Bytes after the last whole pair are dropped.
 pub(super) fn pairs(list: &[u8]) -> impl Iterator<Item = (usize, usize)> + '_ {
     list.chunks_exact(4).map(|pair| {
         let word = |low: usize| usize::from(u16::from_le_bytes([pair[low], pair[low + 1]]));
@@ -29,7 +29,7 @@ pub(super) fn judged(list: &[u8], table: &[u8]) -> Result<(), u8> {
     }
 }
 
-/// What became of a number, by its place in a record.
+/// What a number was; the order is that of a record's counts.
 #[derive(Clone, Copy)]
 pub(super) enum Became {
     Visible,
@@ -37,7 +37,7 @@ pub(super) enum Became {
     Refused,
 }
 
-/// What has been counted at each reader.
+/// The counts of each reader.
 #[derive(Default)]
 pub(super) struct Counts([[u64; 3]; RECORDS]);
 
@@ -47,12 +47,13 @@ impl Counts {
         self.0[reader - 1][became as usize] += 1;
     }
 
-    /// Each count over all readers.
+    /// Each count, summed over all readers.
     pub fn sums(&self) -> [u64; 3] {
         [0, 1, 2].map(|count| self.0.iter().map(|record| record[count]).sum())
     }
 
-    /// Adds to each record, modulo 4,294,967,296. What comes after the readers' records is kept.
+    /// Adds the counts to the table's records, modulo 4,294,967,296. Bytes after the readers' records keep
+    /// their values.
     pub fn add_to(&self, table: &mut [u8]) {
         for (place, &count) in table.chunks_exact_mut(4).zip(self.0.iter().flatten()) {
             let before = u32::from_le_bytes([place[0], place[1], place[2], place[3]]);

@@ -1,5 +1,5 @@
-//! An admitted rule set, decoded once: where each function's expressions and each process's term stand,
-//! and where each function's cells begin.
+//! An admitted rule set, decoded once: the offsets of each function's expressions and of each process's term,
+//! and each function's first cell.
 //!
 //! Document 01, "Blocks and the rule stream", items 2 to 5, and "Memory and the history machine": "one
 //! cell for each function and element of its domain, in that order".
@@ -22,22 +22,23 @@ impl Layout {
         self.elements[function]
     }
 
-    /// Which cell holds the function's value for this argument, if it is of the domain; undefined, the
-    /// largest word, never is.
+    /// The index of the cell that holds the function's value at this argument; `None` if the argument is
+    /// outside the domain, as undefined always is, since it is the largest word.
     #[inline]
     pub fn cell(&self, function: usize, argument: u16) -> Option<usize> {
         (argument < self.elements[function]).then(|| usize::from(self.first[function] + argument))
     }
 }
 
-/// Where the parts of the stream begin, by place behind its first two words.
+/// The offsets of the parts of the stream, counted from its third word (item 2 begins there).
 #[derive(Default)]
 struct Places {
     layout: Layout,
     cells: u16,
-    /// Function by function, the empty trace's expression and then one for each label.
+    /// For each function in turn, the offset of the empty-trace expression, then of the expression for each
+    /// label.
     expressions: Vec<u16>,
-    /// Of each process, how many parameters it has and where its term begins.
+    /// For each process, its parameter count and the offset of its term.
     processes: [(u8, u16); 32],
     process_count: usize,
 }
@@ -64,13 +65,13 @@ impl Notes for Places {
 pub(super) struct Rules {
     pub sizes: Sizes,
     pub tables: Tables,
-    /// The stream from its first word.
+    /// The whole stream, with its first two words.
     stream: Vec<u16>,
     places: Places,
 }
 
 impl Rules {
-    /// Refusals 1 to 8.
+    /// Decodes a block file, or returns refusal 1 to 8.
     pub fn admitted(bytes: &[u8]) -> Result<Rules, u8> {
         let stream = reader::open(bytes)?;
         let mut places = Places::default();
@@ -78,7 +79,7 @@ impl Rules {
         Ok(Rules { sizes, tables, stream, places })
     }
 
-    /// Items 2 to 5.
+    /// Items 2 to 5 of the stream.
     pub fn words(&self) -> &[u16] {
         &self.stream[2..]
     }
@@ -102,18 +103,19 @@ impl Rules {
         self.expression(function * (1 + usize::from(self.tables.label_count)) + 1 + label)
     }
 
-    /// The expression and all that stands behind it: where it ends, it says itself.
+    /// The words from the expression's first word to the end of the stream. An expression's codes determine
+    /// where it ends.
     fn expression(&self, number: usize) -> &[u16] {
         &self.words()[usize::from(self.places.expressions[number])..]
     }
 
-    /// How many parameters the process has, and where its term begins.
+    /// The process's parameter count and the offset of its term.
     pub fn process(&self, number: u16) -> (usize, usize) {
         let (parameters, place) = self.places.processes[usize::from(number)];
         (usize::from(parameters), usize::from(place))
     }
 
-    /// Where main's term begins: the last process is main.
+    /// The offset of main's term; main is the last process.
     pub fn main(&self) -> usize {
         usize::from(self.places.processes[self.places.process_count - 1].1)
     }

@@ -1,15 +1,15 @@
 //! The value of a data expression and the truth of a condition, over cells.
 //!
-//! Document 01, "Values and conditions". A value is a word, undefined the largest one, so that the
-//! sentences about undefined are mostly those about too large a number. The words have been checked
-//! before.
+//! Document 01, "Values and conditions". A value is a word, and undefined is the largest word, so that
+//! several tests for undefined are also tests for too large a number. The words have been checked before they
+//! are evaluated.
 
 use super::decoded::Layout;
 
-/// Undefined as it is stored.
+/// The word that stores undefined.
 pub(super) const UNDEFINED: u16 = 65535;
 
-/// What now and before read.
+/// The cells that now and before read.
 #[derive(Clone, Copy)]
 pub(super) struct Cells<'a> {
     pub layout: &'a Layout,
@@ -17,8 +17,8 @@ pub(super) struct Cells<'a> {
     pub before: &'a [u16],
 }
 
-/// An expression under evaluation: a cursor over its words. Variable 0 is the function's parameter, 1
-/// and 2 are the label's.
+/// An expression being evaluated: its words and the offset of the next one. Variable 0 is the function's
+/// parameter, variables 1 and 2 are the label's.
 pub(super) struct Evaluation<'a> {
     words: &'a [u16],
     place: usize,
@@ -26,12 +26,12 @@ pub(super) struct Evaluation<'a> {
     cells: Cells<'a>,
 }
 
-/// The data expression at the front of the words.
+/// The value of the data expression that begins at the first word.
 pub(super) fn value(words: &[u16], variables: [u16; 3], cells: Cells) -> u16 {
     Evaluation { words, place: 0, variables, cells }.data()
 }
 
-/// Whether the condition at the front of the words holds. A guard of a running term has no variables.
+/// Whether the condition that begins at the first word holds. A guard of a running term has no variables.
 pub(super) fn holds(words: &[u16], cells: Cells) -> bool {
     Evaluation { words, place: 0, variables: [UNDEFINED; 3], cells }.condition()
 }
@@ -44,7 +44,8 @@ impl Evaluation<'_> {
         word
     }
 
-    /// A data expression. A constant or a variable, which most operands are, takes no call.
+    /// A data expression. Constants and variables, the most frequent operands, are evaluated here without a
+    /// call.
     #[inline(always)]
     fn data(&mut self) -> u16 {
         match self.words[self.place] {
@@ -81,7 +82,7 @@ impl Evaluation<'_> {
         }
     }
 
-    /// If: only the branch that counts is evaluated, the other passed over.
+    /// If: evaluates the branch that the condition selects, and skips the other.
     fn chosen(&mut self) -> u16 {
         if self.condition() {
             let value = self.data();
@@ -113,7 +114,8 @@ impl Evaluation<'_> {
         }
     }
 
-    /// Passes over one expression: an operand is one expression more to come.
+    /// Skips one expression. `to_come` counts the expressions still to skip: each code adds its operands to
+    /// it.
     fn pass(&mut self) {
         let mut to_come = 1usize;
         while to_come > 0 {
@@ -125,7 +127,8 @@ impl Evaluation<'_> {
     }
 }
 
-/// Of a code of data or of a condition: the words before its operands, and how many operands it has.
+/// For a code of data or of a condition: how many words come before its operands, and how many operands it
+/// has.
 pub(super) fn shape(code: u16) -> (usize, usize) {
     match code {
         0 | 13 => (1, 0),
@@ -137,12 +140,14 @@ pub(super) fn shape(code: u16) -> (usize, usize) {
     }
 }
 
-/// Undefined if an operand is, or if the sum exceeds 65,534: the sum is above it then in any case.
+/// Undefined if an operand is undefined or the sum exceeds 65,534: in both cases the saturated sum is 65,535,
+/// undefined's word.
 fn sum(left: u16, right: u16) -> u16 {
     left.saturating_add(right)
 }
 
-/// Undefined if an operand is, or if the result is below 0. No number is as large as undefined.
+/// Undefined if an operand is undefined or the result is below 0. An undefined right operand is above every
+/// number, so that case needs no test of its own.
 fn difference(left: u16, right: u16) -> u16 {
     if left == UNDEFINED || left < right {
         UNDEFINED

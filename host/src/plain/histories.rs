@@ -1,10 +1,10 @@
-//! The history machine: no cells, the whole history. `running` has Run by it.
+//! The history machine, which keeps the whole history and no cells. Run by it is in `running`.
 //!
-//! Document 01, "Memory and the history machine": "A function's value over T is its empty-trace expression
-//! if T is empty, else its expression for T's last label; now reads values over T, before reads values
-//! over T without its last action." and "Moves, in order", sentence by sentence, on trees. Values are
-//! found by recursion over the history; what has been found is remembered, or a history of some thousand
-//! events would take forever. Nothing here is shared with the interpreter over cells but the admission.
+//! Document 01, "Memory and the history machine": "A function's value over T is its empty-trace expression if
+//! T is empty, else its expression for T's last label; now reads values over T, before reads values over T
+//! without its last action." and "Moves, in order", sentence by sentence, on trees. Values are computed
+//! recursively over the history and cached, since without a cache a history of some thousand events would
+//! take too long. Nothing here but admission is shared with the interpreter over cells.
 
 mod running;
 
@@ -25,7 +25,7 @@ pub struct Event {
     pub arguments: Vec<u16>,
 }
 
-/// A running term whose parts are shared with those that it came from.
+/// A running term that shares its parts with the terms it came from.
 #[derive(Debug)]
 pub enum Tree {
     Done,
@@ -38,45 +38,47 @@ pub enum Tree {
     Guard(Rc<Condition>, Rc<Tree>),
 }
 
-/// A move: its action, none if internal, and its successor.
+/// A move: its action, `None` if internal, and its successor.
 #[derive(Clone, Debug)]
 pub struct Move {
     pub event: Option<Event>,
     pub successor: Rc<Tree>,
 }
 
-/// A value: undefined is none.
+/// A value; `None` is undefined.
 type Value = Option<u16>;
 
-/// A value, and the age in which it was found.
+/// A cached value, and the cache's age when it was stored.
 type Known = (u32, Value);
 
-/// Of an age before all others.
+/// An empty cache entry: its age is below the cache's first age.
 const NOT_FOUND: Known = (0, None);
 
-/// The machine: a term, the list T, three counts.
+/// The machine: a term, the list T and three counts, with a cache of values.
 pub struct Machine<'a> {
     rules: &'a RuleSet,
     pub term: Rc<Tree>,
     pub history: Vec<Event>,
     pub tally: Tally,
-    /// What has been found: values over the empty history by function and element, then those over the
-    /// first event, over the first two, and so on.
+    /// The cache: the values over the empty history, by function and element, then those over the first
+    /// event, over the first two events, and so on.
     known: RefCell<Vec<Known>>,
-    /// Where each function's values begin among those over one history, and where they end.
+    /// For each function, the offset of its first value among the values over one history; one more entry
+    /// gives their number.
     places: Vec<usize>,
-    /// What was found in another age is not known any more.
+    /// The cache's age. Entries of another age are invalid.
     age: u32,
 }
 
-/// An admitted file as a tree, with its sizes.
+/// The rule set of an admitted file as a tree, with its sizes.
 pub fn rule_set(bytes: &[u8]) -> Result<(Sizes, RuleSet), u8> {
     let sizes = reader::admit(bytes)?;
     Ok((sizes, trees::rule_set(&reader::open(bytes)?[2..])))
 }
 
 impl<'a> Machine<'a> {
-    /// At first main's unfolding, the empty list and zeros. The rule set is an admitted one.
+    /// The machine at the start: main's unfolding, the empty list and zeros. The rule set must be an admitted
+    /// one.
     pub fn new(rules: &'a RuleSet) -> Machine<'a> {
         let main = unfold::main_of(rules, MOST_REACH as usize).expect("main's size is below the reach limit");
         let mut places = vec![0];
@@ -95,12 +97,12 @@ impl<'a> Machine<'a> {
         }
     }
 
-    /// Puts a running term of the rule set, any one, in the place of the machine's; T and the counts stay.
+    /// Replaces the machine's term by any running term of the rule set; T and the counts are kept.
     pub fn put(&mut self, words: &[u16]) {
         self.term = trees::running(self.rules, words);
     }
 
-    /// Takes the move of this number if there is one.
+    /// Takes the move of this number if it exists, else counts the number as refused.
     pub fn feed(&mut self, number: u16) {
         match self.moves().into_iter().nth(usize::from(number)) {
             Some(step) => self.take(step),
@@ -121,24 +123,24 @@ impl<'a> Machine<'a> {
         }
     }
 
-    /// The machine as it was before the last move, with that term and so many events. The counts stay.
+    /// Goes back to an earlier term and to the first `events` events of T. The counts are kept.
     pub fn undo(&mut self, (term, events): (Rc<Tree>, usize)) {
         self.term = term;
         self.history.truncate(events);
         self.make_room(events);
     }
 
-    /// Forgets every value that has been found; the next ones are found from T alone.
+    /// Invalidates the cache, so that values are computed from T again.
     pub fn forget(&mut self) {
         self.age += 1;
     }
 
-    /// Its moves: those of its term, with guards reading values over T.
+    /// The machine's moves: those of its term, with guards reading values over T.
     pub fn moves(&self) -> Vec<Move> {
         self.moves_of(&self.term)
     }
 
-    /// Every function's values over T, spelled as cells would be.
+    /// The values of all functions over T, as the words of cells.
     pub fn values(&self) -> Vec<u16> {
         let elements = |function: u16| {
             let domain = self.rules.functions[usize::from(function)].domain;
@@ -149,17 +151,17 @@ impl<'a> Machine<'a> {
         values.map(|(function, element)| self.value(length, function, element).unwrap_or(65535)).collect()
     }
 
-    /// Room for what is found over so many events at most; of values over more events nothing is known.
+    /// Resizes the cache to the values over at most `events` events.
     fn make_room(&mut self, events: usize) {
         let room = (1 + events) * self.per_history();
         self.known.borrow_mut().resize(room, NOT_FOUND);
     }
 
-    /// The function's value over the first so many events of T.
+    /// The function's value over the first `length` events of T.
     fn value(&self, length: usize, function: u16, element: u16) -> Value {
         let (first, end) = (self.places[usize::from(function)], self.places[usize::from(function) + 1]);
         let place = first + usize::from(element);
-        // Outside the domain there is no value.
+        // Outside the domain the value is undefined.
         if place >= end {
             return None;
         }
@@ -184,7 +186,7 @@ impl<'a> Machine<'a> {
             return self.data(&function.at_start, 0, &[element]);
         }
         let last = &self.history[length - 1];
-        // A label has two parameters at most.
+        // A label has at most two parameters.
         let mut variables = [element, 0, 0];
         variables[1..1 + last.arguments.len()].copy_from_slice(&last.arguments);
         let variables = &variables[..1 + last.arguments.len()];
@@ -277,7 +279,7 @@ fn to_done(event: Option<Event>) -> Move {
     Move { event, successor: Rc::new(Tree::Done) }
 }
 
-/// Each move, its successor followed in sequence by the term.
+/// The moves, with the term in sequence after each successor.
 fn followed(moves: Vec<Move>, term: &Rc<Tree>) -> Vec<Move> {
     let follow = |step: Move| Move {
         event: step.event,

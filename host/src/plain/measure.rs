@@ -1,11 +1,11 @@
-//! The measures of a term from those of its operands.
+//! The measures of a term, computed from those of its operands.
 //!
-//! Document 01, "Unfolding, size and breadth": size, reach G and breadth W, quantifiers included,
-//! without unfolding.
+//! Document 01, "Unfolding, size and breadth": size, reach G and breadth W, of quantifiers without unfolding
+//! them.
 
-/// Size, reach G and breadth W of a term. A process that main does not reach may measure 64^248 words,
-/// so sums and products stop at 2^32 - 1: far above both limits, and what has stopped there never falls
-/// below them again.
+/// Size, reach G and breadth W of a term. A process that main does not call may measure 64^248 words, so sums
+/// and products saturate at 2^32 - 1, which is far above both limits; a saturated measure never falls below a
+/// limit again.
 #[derive(Clone, Copy)]
 pub(super) struct Measure {
     pub size: u32,
@@ -14,7 +14,7 @@ pub(super) struct Measure {
 }
 
 impl Measure {
-    /// 20 and 21.
+    /// A leaf of n words, code 20 or 21.
     pub fn leaf(words: u32) -> Measure {
         Measure { size: words, reach: words, breadth: 1 }
     }
@@ -59,15 +59,15 @@ impl Measure {
         Measure { size, reach: size.max(self.reach), breadth: self.breadth }
     }
 
-    /// So many copies with as many choices but one between them. Each inner choice is smaller than the
-    /// whole.
+    /// n copies with n - 1 choices between them, nested to the right. The inner choices are smaller than the
+    /// whole, so its reach is the larger of its size and a copy's reach.
     pub fn choice_copies(self, copies: u32) -> Measure {
         let size = self.size.saturating_mul(copies).saturating_add(copies - 1);
         Measure { size, reach: size.max(self.reach), breadth: self.breadth.saturating_mul(copies) }
     }
 
-    /// So many copies in parallel. No rule term has breadth 0, so "the larger of 1" changes nothing;
-    /// and l + r + l × r is (1 + l) × (1 + r) - 1, which makes a power of n copies.
+    /// n copies in parallel. No rule term has breadth 0, so "the larger of 1" changes nothing; and l + r + l
+    /// × r is (1 + l) × (1 + r) - 1, so that n copies give a power.
     pub fn parallel_copies(self, copies: u32, masked: bool) -> Measure {
         let between = 5 * (copies - 1);
         let breadth = if masked {

@@ -1,4 +1,4 @@
-//! The memory: filled at start, renewed by a visible move.
+//! The memory: filled at the start, renewed by a visible move.
 //!
 //! Document 01, "Memory and the history machine": "At start the empty-trace expressions fill them,
 //! function by function. A visible move computes all cells anew in that order: now reads new cells,
@@ -8,7 +8,7 @@ use super::decoded::Rules;
 use super::evaluation::{value, Cells, UNDEFINED};
 use super::moves::Packed;
 
-/// The cells at start. There is no before: its code stands in no empty-trace expression.
+/// The cells at the start. Before is not evaluated: its code occurs in no empty-trace expression.
 pub(super) fn at_start(rules: &Rules) -> Vec<u16> {
     let layout = rules.layout();
     let mut cells = Vec::with_capacity(rules.cells());
@@ -23,7 +23,7 @@ pub(super) fn at_start(rules: &Rules) -> Vec<u16> {
     cells
 }
 
-/// The cells after a visible move. Now names lower functions only, whose cells are there already.
+/// The cells after a visible move. Now names lower functions only, whose new cells are already in `new`.
 pub(super) fn renew(rules: &Rules, action: Packed, old: &[u16], new: &mut Vec<u16>) {
     let layout = rules.layout();
     new.clear();

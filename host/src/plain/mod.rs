@@ -1,10 +1,10 @@
-//! The plain interpreter: every operation of document 01 on bytes, in plain Rust and apart from any
-//! engine.
+//! The plain interpreter: every operation of document 01 on bytes, in plain Rust, written independently of
+//! the engine.
 //!
-//! It is the other side of every differential test, and the plain Rust that the engine's speed is
-//! compared with. `reader` admits; `operations` has the others, over cells, and `by_reader` what a run counts
-//! at which card reader; `histories` runs a list once more over the whole history, on trees, and shares
-//! nothing with them but the admission.
+//! The differential tests compare the engine with it, and the benchmarks time it as the plain Rust of the
+//! same task. `reader` admits; `operations` has the other operations, over cells, and `by_reader` a run's
+//! counts by card reader; `histories` is a second implementation of Run, on trees over the whole history, and
+//! shares only admission with the others.
 
 mod by_reader;
 mod decoded;

@@ -1,22 +1,24 @@
-//! The moves of a running term, in order: counted, listed by their actions, found by number.
+//! The moves of a running term, in order: counted, listed by their actions, and made by number.
 //!
-//! Document 01, "Moves, in order". Each part that can move is visited once. Actions are listed only where
-//! a mask above asks for them or somebody wants the list; what a parallel with a mask makes of its
-//! sides' moves is noted, so that the successor of a move is built without listing anything again.
+//! Document 01, "Moves, in order". Each part that can move is visited once. Actions are listed only if an
+//! enclosing parallel with a mask needs them or the caller asks for the list. For each parallel with a mask
+//! the pairs of its sides' moves are stored, so that the successor of a move is built without listing
+//! anything again.
 
 use super::evaluation::{holds, Cells};
 use super::term::{Term, ACTION, DONE, INTERNAL};
 use crate::Action;
 
-/// An action in one number, so that equal actions are equal numbers: the label, the first and second
-/// argument and their count, a byte each. Internal has a label that no mask and no rule set has.
+/// An action as one number, so that equal actions are equal numbers: the label, the first argument, the
+/// second argument and their count, one byte each. The internal action has a label, 255, that no rule set
+/// has.
 #[derive(Clone, Copy, PartialEq, Eq)]
 pub(super) struct Packed(u32);
 
 impl Packed {
     pub const INTERNAL: Packed = Packed(u32::MAX);
 
-    /// The action of a running leaf's words, code 21.
+    /// The action of a running leaf with code 21.
     #[inline]
     pub fn of(words: &[u16]) -> Packed {
         let byte = |place: usize| words.get(place).map_or(0, |&word| u32::from(word));
@@ -36,7 +38,7 @@ impl Packed {
         (self.0 >> 16 & 255) as u16
     }
 
-    /// The label as a mask would have it. An internal move counts as outside every mask.
+    /// The label as a bit of a mask; 0 for an internal move, which counts as outside every mask.
     #[inline]
     fn bit(self) -> u64 {
         if self == Packed::INTERNAL {
@@ -55,25 +57,25 @@ impl Packed {
     }
 }
 
-/// In a pair of moves: this side does not move. No count passes 65,535, so no number is this large.
+/// In a pair of moves: this side does not move. No count exceeds 65,535, so no move has this number.
 const STAYS: u16 = 65535;
 
-/// In a mark of a parallel with a mask: no move is in the mask, so that its moves are those that it would
-/// have without. No count and no number of pairs comes near it.
+/// A flag in the mark of a parallel with a mask: neither side has a move with label in the mask, so the
+/// parallel moves as one without a mask. Counts and numbers of pairs are far smaller than this bit.
 const APART: u32 = 1 << 31;
 
-/// What a visit leaves behind for building a successor; kept from one step of a run to the next for its
-/// room alone.
+/// What a visit stores for building a successor. A run keeps it from one step to the next only to reuse its
+/// memory.
 #[derive(Default)]
 pub(super) struct Findings {
-    /// Where a choice or a parallel without a mask begins: how many moves its left side has. Where a
-    /// parallel with a mask begins: the same and `APART`, or where its pairs begin.
+    /// By offset in the term. At a choice or at a parallel without a mask: how many moves the left side has.
+    /// At a parallel with a mask: the same with the flag `APART`, or the index of its first entry in `pairs`.
     marks: Vec<u32>,
-    /// Of each move of a parallel with a mask, the move of its left side and that of its right.
+    /// For each move of a parallel with a mask, the move of its left side and that of its right side.
     pairs: Vec<(u16, u16)>,
-    /// Actions in order.
+    /// The actions listed so far, in order.
     actions: Vec<Packed>,
-    /// The labels of the actions listed, for the parallel that asks for them; perhaps some more.
+    /// A mask that contains at least the labels of the actions listed for the enclosing parallel.
     labels: u64,
 }
 
@@ -85,7 +87,7 @@ pub(super) struct Moves<'a> {
 }
 
 impl Moves<'_> {
-    /// How many moves there are.
+    /// The number of moves.
     pub fn count(&mut self) -> usize {
         self.begin();
         self.visit::<false>(0)
@@ -107,7 +109,7 @@ impl Moves<'_> {
         }
     }
 
-    /// Counts the moves of the part that begins here, and lists their actions if asked for.
+    /// Counts the moves of the part that begins at offset `at`; if `LIST`, appends their actions to the list.
     fn visit<const LIST: bool>(&mut self, at: usize) -> usize {
         match self.term.words[at] {
             INTERNAL => self.one::<LIST>(Packed::INTERNAL),
@@ -165,8 +167,8 @@ impl Moves<'_> {
         count
     }
 
-    /// Notes the pairs of a parallel whose sides' actions are listed from there on, left's being so many,
-    /// and puts the whole's actions in their place.
+    /// Stores the pairs of the parallel at `at`. The actions of its sides are listed from index `from` on,
+    /// `left` of them the left side's; they are replaced by the actions of the whole parallel.
     fn paired(&mut self, at: usize, from: usize, left: usize) -> usize {
         let Findings { marks, pairs, actions, labels } = &mut *self.findings;
         let begin = pairs.len();
@@ -186,8 +188,8 @@ impl Moves<'_> {
         count
     }
 
-    /// Writes the successor of a move of the part that begins here, and answers its action. The move has
-    /// been counted.
+    /// Writes the successor of a move of the part that begins at offset `at`, and returns its action. The
+    /// moves have been counted by a visit.
     pub fn build(&self, at: usize, number: usize, output: &mut impl Output) -> Packed {
         let term = self.term;
         match term.words[at] {
@@ -213,16 +215,17 @@ impl Moves<'_> {
         }
     }
 
-    /// The successor of a part in sequence with another part as it stands.
-    fn followed(&self, part: usize, number: usize, behind: usize, output: &mut impl Output) -> Packed {
+    /// Writes a sequence: the successor of the part at `part`, then an unchanged copy of the part at `next`.
+    /// Returns the move's action.
+    fn followed(&self, part: usize, number: usize, next: usize, output: &mut impl Output) -> Packed {
         let from = output.open(&[22]);
         let action = self.build(part, number, output);
-        output.copy(self.term, behind);
+        output.copy(self.term, next);
         output.close(from);
         action
     }
 
-    /// The sides of a parallel, those that move and those that stay.
+    /// Writes the successor of a parallel: for each side its successor, if it moves, or a copy.
     fn beside(&self, at: usize, number: usize, output: &mut impl Output) -> Packed {
         let mark = self.findings.marks[at];
         let first = (mark & !APART) as usize;
@@ -250,8 +253,8 @@ impl Moves<'_> {
     }
 }
 
-/// The moves of a parallel with a mask, by those of its sides; the actions are left's, so many, then
-/// right's.
+/// Appends the moves of a parallel with a mask to `pairs`. The first `left` actions are those of the left
+/// side's moves, the others those of the right side's.
 fn pair_up(actions: &[Packed], left: usize, mask: u64, pairs: &mut Vec<(u16, u16)>) {
     let (left, right) = actions.split_at(left);
     let outside = |&(_, action): &(u16, &Packed)| action.bit() & mask == 0;
@@ -277,17 +280,17 @@ fn done(output: &mut impl Output) -> Packed {
     Packed::INTERNAL
 }
 
-/// Where a successor is written.
+/// A destination for a successor.
 pub(super) trait Output {
-    /// Writes the words with which a part begins, and answers where it begins.
+    /// Writes the first words of a part, and returns the offset where it begins.
     fn open(&mut self, head: &[u16]) -> usize;
-    /// Writes a part of a term as it stands.
+    /// Writes an unchanged copy of the part of a term that begins at offset `at`.
     fn copy(&mut self, term: &Term, at: usize);
-    /// The part that began there ends here.
+    /// Marks the end of the part that began at offset `from`.
     fn close(&mut self, from: usize);
 }
 
-/// The term of the next step, with room for it.
+/// The next term of a run. `sizes` already has room for it.
 impl Output for Term {
     fn open(&mut self, head: &[u16]) -> usize {
         let from = self.words.len();

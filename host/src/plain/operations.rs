@@ -15,7 +15,7 @@ use super::unfolding;
 use crate::refusal::{NOT_OFFERED, SPACE};
 use crate::{Counted, LentToRun, Made, Moved, Ran, Started, Tally};
 
-/// Writes main's unfolding and the memory at start.
+/// Writes main's unfolding and the cells at the start.
 pub fn start(rules: &[u8], term: &mut [u8], memory: &mut [u8]) -> Started {
     let rules = Rules::admitted(rules)?;
     space(&rules, &[term], rules.sizes.reach as usize, &[memory])?;
@@ -24,7 +24,7 @@ pub fn start(rules: &[u8], term: &mut [u8], memory: &mut [u8]) -> Started {
     Ok(rules.sizes.size)
 }
 
-/// The number of moves.
+/// Returns the number of moves.
 pub fn count(rules: &[u8], term: &[u8], memory: &[u8]) -> Counted {
     let rules = Rules::admitted(rules)?;
     let given = term::given(&rules, term)?;
@@ -34,7 +34,7 @@ pub fn count(rules: &[u8], term: &[u8], memory: &[u8]) -> Counted {
     Ok(moves(&rules, &given.term, &cells, &mut findings).count() as u32)
 }
 
-/// Writes the successor of a move, by its number, and the new memory.
+/// Writes the successor of move `number` and the new memory.
 pub fn make_move(
     rules: &[u8],
     term: &[u8],
@@ -55,7 +55,7 @@ pub fn make_move(
     Ok(made(&rules, &moves, number as usize, next_term, next_memory))
 }
 
-/// Move with the smallest number whose action is the event.
+/// Makes the move with the smallest number whose action is the event.
 pub fn present(
     rules: &[u8],
     term: &[u8],
@@ -75,8 +75,8 @@ pub fn present(
     Ok(made(&rules, &moves, number, next_term, next_memory))
 }
 
-/// Takes the moves of a list of numbers, from the start, and counts them by their readers. The scratch
-/// buffers count only by their room.
+/// Takes the moves of a list of numbers, from the start, and counts them by reader. The scratch buffers are
+/// not used; only their lengths are tested.
 pub fn run(rules: &[u8], list: &[u8], lent: LentToRun) -> Ran {
     let [table, term, memory, spare_term, spare_memory] = lent;
     let rules = Rules::admitted(rules)?;
@@ -112,13 +112,13 @@ pub fn run(rules: &[u8], list: &[u8], lent: LentToRun) -> Ran {
     Ok(Tally { size: size as u64, visible, internal, refused })
 }
 
-/// A run's state: a term and a memory.
+/// The state of a run: a term and a memory.
 struct State {
     term: Term,
     cells: Vec<u16>,
 }
 
-/// Refusal 9: every term buffer has room for so many words, every memory for C cells.
+/// Refusal 9: every term buffer must have room for `reach` words, every memory for C cells.
 fn space(rules: &Rules, terms: &[&[u8]], reach: usize, memories: &[&[u8]]) -> Result<(), u8> {
     let room = |buffers: &[&[u8]], words: usize| buffers.iter().all(|buffer| buffer.len() / 2 >= words);
     if room(terms, reach) && room(memories, rules.cells()) {
@@ -128,12 +128,12 @@ fn space(rules: &Rules, terms: &[&[u8]], reach: usize, memories: &[&[u8]]) -> Re
     }
 }
 
-/// The first C cells of a memory: any words will do, 65,535 being undefined.
+/// The first C cells of a memory. Any word is allowed; 65,535 is undefined.
 fn cells_of(rules: &Rules, memory: &[u8]) -> Vec<u16> {
     words_of(&memory[..2 * rules.cells()])
 }
 
-/// Guards read the cells as they are before the move.
+/// The moves of a term. Guards read the cells before the move.
 fn moves<'a>(rules: &'a Rules, term: &'a Term, cells: &'a [u16], findings: &'a mut Findings) -> Moves<'a> {
     Moves { term, cells: Cells { layout: rules.layout(), now: cells, before: cells }, findings }
 }
@@ -144,7 +144,7 @@ fn write(words: &[u16], buffer: &mut [u8]) {
     }
 }
 
-/// Writes the successor and the new memory of a move that there is. An internal move changes no cell.
+/// Writes the successor and the new memory of move `number`, which exists. An internal move changes no cell.
 fn made(rules: &Rules, moves: &Moves, number: usize, next_term: &mut [u8], next_memory: &mut [u8]) -> Made {
     let mut lent = Lent { buffer: next_term, words: 0 };
     let action = moves.build(0, number, &mut lent);
@@ -160,7 +160,7 @@ fn made(rules: &Rules, moves: &Moves, number: usize, next_term: &mut [u8], next_
     Made { size, action: action.action() }
 }
 
-/// A lent buffer, and how many words have been written into it.
+/// A lent buffer, and the number of words written to it so far.
 struct Lent<'a> {
     buffer: &'a mut [u8],
     words: usize,

@@ -1,11 +1,11 @@
-//! Admission read plainly: from any bytes to the sizes or one refusal, straight from document 01 and
-//! apart from any engine.
+//! Admission: from any bytes to the sizes or a refusal, following document 01 directly and written
+//! independently of the engine.
 //!
-//! "Blocks and the rule stream" (refusals 1 to 3, then items 2 to 5), "Unfolding, size and breadth" (7
-//! and 8), and the table's order: the first offending word of the stream decides 4, 5 and 6, at one
-//! word 4 before 5 before 6. The stream is decoded once and read once, left to right, so the first
-//! refusal met is the one to answer. Main is measured on the way, without unfolding: all copies under a
-//! quantifier measure the same, since a variable takes as many words as a constant.
+//! "Blocks and the rule stream" (refusals 1 to 3, then items 2 to 5), "Unfolding, size and breadth" (7 and
+//! 8), and the table's order: the first offending word of the stream decides among 4, 5 and 6, at one word 4
+//! before 5 before 6. The stream is read once, from left to right, so the first refusal found is the answer.
+//! Main is measured on the way, without unfolding: all copies under a quantifier measure the same, since a
+//! variable takes as many words as a constant.
 
 use super::measure::Measure;
 use super::scan::{Names, Scan};
@@ -16,14 +16,14 @@ const BLOCK_BYTES: usize = 512;
 const HEADER_BYTES: usize = 4;
 const CONTENT_WORDS: usize = 254;
 
-/// Who wants to know where the parts of a stream stand, by their place behind its first two words. Admit
-/// alone does not.
+/// Receives the offsets of the parts of a stream while it is read, counted from its third word. Admit passes
+/// `()`, which ignores them.
 pub(super) trait Notes {
-    /// The next function has so many elements.
+    /// The next function begins; its domain has this many elements.
     fn function(&mut self, elements: u16);
-    /// Its next expression begins here, the empty trace's first.
+    /// The function's next expression begins at this offset, the empty trace's first.
     fn expression(&mut self, place: usize);
-    /// The next process has so many parameters, and its term begins here.
+    /// The next process has this many parameters, and its term begins at this offset.
     fn process(&mut self, parameters: u8, place: usize);
 }
 
@@ -38,7 +38,7 @@ pub fn admit(bytes: &[u8]) -> Answer {
     read(&open(bytes)?, &mut ()).map(|(sizes, _)| sizes)
 }
 
-/// Refusals 4 to 8 of a stream. Answers the sizes and what the stream declares.
+/// Refusals 4 to 8 of a stream. Returns the sizes and the tables of what the stream declares.
 pub(super) fn read(words: &[u16], notes: &mut impl Notes) -> Result<(Sizes, Tables), u8> {
     let mut reader = Reader::new(&words[2..], notes);
     let (cells, main) = reader.rules()?;
@@ -52,8 +52,8 @@ pub(super) fn read(words: &[u16], notes: &mut impl Notes) -> Result<(Sizes, Tabl
     Ok((Sizes { cells, reach: main.reach, breadth: main.breadth, size: main.size }, reader.tables))
 }
 
-/// Refusals 1 to 3: whole blocks, then every block's number and sums, then the first two words. Answers
-/// the stream.
+/// Refusals 1 to 3: whole blocks, then every block's number and sums, then the first two words. Returns the
+/// stream.
 pub(super) fn open(bytes: &[u8]) -> Result<Vec<u16>, u8> {
     let count = bytes.len() / BLOCK_BYTES;
     if !bytes.len().is_multiple_of(BLOCK_BYTES) || !(1..=64).contains(&count) {
@@ -84,9 +84,9 @@ const WEIGHTS: [u16; BLOCK_BYTES - HEADER_BYTES] = {
     weights
 };
 
-/// B sums A's successive values, so a byte counts in B once for every summed byte from it on: 510 times
-/// for byte 0, 509 for byte 1, then 508 down to 1. No sum comes near 2^32, so one remainder at the end
-/// does.
+/// B is the sum of A's successive values, so a byte counts in B once for itself and once for every later byte
+/// that is summed: 510 times for byte 0, 509 for byte 1, then 508 down to 1. The sums stay far below 2^32, so
+/// that one remainder at the end is enough.
 fn sums_right(block: &[u8]) -> bool {
     let (first, second) = (u32::from(block[0]), u32::from(block[1]));
     let (mut a, mut b) = (first + second, 510 * first + 509 * second);
@@ -115,13 +115,13 @@ impl Parameters {
     }
 }
 
-/// The domains and labels that a stream declares, and how many functions.
+/// The domains and labels that a stream declares, and the number of functions.
 pub(super) struct Tables {
     pub domain_count: u16,
     pub domains: [u8; 16],
     pub label_count: u16,
     pub labels: [Parameters; 64],
-    /// The mask bits of the labels that there are.
+    /// The mask bits that have a label.
     pub label_bits: [u16; 4],
     pub function_count: u16,
 }
@@ -132,14 +132,14 @@ impl Tables {
     }
 }
 
-/// A cursor over the stream, and what the part before it has defined.
+/// A cursor over the stream, and what the words before it have declared.
 struct Reader<'a, N> {
     scan: Scan<'a>,
     notes: &'a mut N,
     tables: Tables,
     process_count: u16,
     processes: [(Parameters, Measure); 32],
-    /// The domains of the variables in scope, in a process.
+    /// How many variables are in scope, within a process; their domains are in `scope`.
     in_scope: u16,
     scope: [u8; 8],
 }
@@ -164,7 +164,7 @@ impl<'a, N: Notes> Reader<'a, N> {
         }
     }
 
-    /// Items 2 to 5. Answers C and main's measures.
+    /// Items 2 to 5. Returns C and main's measures.
     fn rules(&mut self) -> Result<(u32, Measure), u8> {
         self.tables.domain_count = self.scan.count(1, 16)?;
         for domain in 0..usize::from(self.tables.domain_count) {
@@ -193,7 +193,7 @@ impl<'a, N: Notes> Reader<'a, N> {
         Ok(parameters)
     }
 
-    /// Item 4. Answers the cells: one for each function and element of its domain.
+    /// Item 4. Returns the number of cells: one for each function and element of its domain.
     fn functions(&mut self) -> Result<u32, u8> {
         self.tables.function_count = self.scan.count(0, 16)?;
         let mut cells = 0;
@@ -262,7 +262,7 @@ impl<'a, N: Notes> Reader<'a, N> {
         Ok(Measure::leaf(2 + 2 * u32::from(parameters.count)))
     }
 
-    /// A call names a lower process, and measures what its body does.
+    /// A call names a lower process, and has the measures of its body.
     fn call(&mut self) -> Result<Measure, u8> {
         let process = self.scan.reference(self.process_count)?;
         let (parameters, measure) = self.processes[usize::from(process)];
@@ -286,7 +286,7 @@ impl<'a, N: Notes> Reader<'a, N> {
         Ok(())
     }
 
-    /// Four mask words. Answers whether any bit is set.
+    /// Four mask words. Returns whether any bit is set.
     fn mask(&mut self) -> Result<bool, u8> {
         self.scan.mask(&self.tables.label_bits)
     }
@@ -309,8 +309,8 @@ impl<'a, N: Notes> Reader<'a, N> {
         Ok(measure)
     }
 
-    /// The last used word lies in the last block, so fewer words are left than a block has; and they
-    /// are zero.
+    /// The end of the stream: the last used word must be in the last block, so fewer words are left than a
+    /// block has; and all of them must be zero.
     fn end(&self) -> Result<(), u8> {
         let rest = self.scan.rest();
         if rest.len() < CONTENT_WORDS && rest.iter().all(|&word| word == 0) {

@@ -1,12 +1,12 @@
-//! A cursor over words, and the expressions under it.
+//! A cursor over words that reads data expressions and conditions.
 //!
-//! Document 01, "Values and conditions": the form of data and conditions, with the refusals 4 and 5 as a
-//! stream has them. In a given term any of them means 10.
+//! Document 01, "Values and conditions": the form of data and conditions, with refusals 4 and 5 as in a
+//! stream. In a given term either becomes 10.
 
 use crate::refusal::{FORM, REFERENCE};
 
-/// How many variables an expression has, how many functions now may name from 0 up, and how many before
-/// may; where that is none, in an empty-trace expression or a guard, before's code itself is refused.
+/// How many variables an expression may use, and how many functions, from 0 up, now and before may name. If
+/// before may name none, as in an empty-trace expression or a guard, its code itself is refused.
 #[derive(Clone, Copy)]
 pub(super) struct Names {
     pub variables: u16,
@@ -24,7 +24,7 @@ impl<'a> Scan<'a> {
         Scan { rest: words.iter(), length: words.len() }
     }
 
-    /// How many words have been read.
+    /// The offset of the next word.
     #[inline]
     pub fn place(&self) -> usize {
         self.length - self.rest.len()
@@ -34,7 +34,7 @@ impl<'a> Scan<'a> {
         self.rest.as_slice()
     }
 
-    /// The next word; a stream cut short is a fault of form.
+    /// The next word; refusal 4 if the stream has ended.
     #[inline]
     pub fn word(&mut self) -> Result<u16, u8> {
         self.rest.next().copied().ok_or(FORM)
@@ -51,7 +51,7 @@ impl<'a> Scan<'a> {
         }
     }
 
-    /// A number that names one of so many things.
+    /// A number that must be below `defined`.
     #[inline]
     pub fn reference(&mut self, defined: u16) -> Result<u16, u8> {
         let word = self.word()?;
@@ -62,8 +62,8 @@ impl<'a> Scan<'a> {
         }
     }
 
-    /// So many data expressions in a row. An operand is one expression more to come, so only conditions
-    /// need a call.
+    /// Reads `count` data expressions in a row. `to_come` counts the expressions still to read: each code
+    /// adds its operands to it, so that only conditions take a call.
     pub fn data(&mut self, names: Names, count: usize) -> Result<(), u8> {
         let mut to_come = count;
         while to_come > 0 {
@@ -91,7 +91,7 @@ impl<'a> Scan<'a> {
         Ok(())
     }
 
-    /// A condition; its conditions are counted likewise.
+    /// Reads a condition, counting its operands in the same way.
     pub fn condition(&mut self, names: Names) -> Result<(), u8> {
         let mut to_come = 1usize;
         while to_come > 0 {
@@ -107,7 +107,7 @@ impl<'a> Scan<'a> {
         Ok(())
     }
 
-    /// Four mask words with bits of labels that there are. Answers whether any is set.
+    /// Reads four mask words, whose bits must have a label. Returns whether any is set.
     pub fn mask(&mut self, label_bits: &[u16; 4]) -> Result<bool, u8> {
         let mut masked = false;
         for defined in label_bits {

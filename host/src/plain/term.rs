@@ -1,4 +1,4 @@
-//! A running term: its words, with the size of each of its parts; and the check of a given one.
+//! A running term: its words, with the size of each of its parts; and the check of a given term.
 //!
 //! Document 01, "Unfolding, size and breadth": "A running term uses 20 to 26 without variables, and 30
 //! for done"; refusals 10 ("a given term isn't exactly one running term of this rule set within 7's and
@@ -15,37 +15,37 @@ pub(super) const INTERNAL: u16 = 20;
 pub(super) const ACTION: u16 = 21;
 pub(super) const DONE: u16 = 30;
 
-/// The words of a running term. Where a part begins, a term or a guard's condition, `sizes` has its
-/// words; what it has elsewhere, or behind the last word, means nothing.
+/// The words of a running term. At the offset where a part begins, that is, a term or a guard's condition,
+/// `sizes` has its number of words; other entries of `sizes` have no meaning.
 pub(super) struct Term {
     pub words: Vec<u16>,
     pub sizes: Vec<u16>,
 }
 
 impl Term {
-    /// No words yet, and room for so many.
+    /// An empty term, with room for n words.
     pub fn with_room(words: usize) -> Term {
         Term { words: Vec::with_capacity(words), sizes: vec![0; words] }
     }
 
-    /// The part that began there ends here.
+    /// Stores the size of the part that began at offset `from` and ends here.
     pub fn close(&mut self, from: usize) {
         self.sizes[from] = (self.words.len() - from) as u16;
     }
 
-    /// The words of the part that begins here.
+    /// The number of words of the part that begins at this offset.
     #[inline]
     pub fn size(&self, place: usize) -> usize {
         usize::from(self.sizes[place])
     }
 
-    /// Where the next part begins.
+    /// The offset of the part after the one that begins at this offset.
     #[inline]
     pub fn after(&self, place: usize) -> usize {
         place + self.size(place)
     }
 
-    /// The four mask words of the parallel that begins here as one number: bit n is label n.
+    /// The four mask words of the parallel that begins at this offset, as one number: bit n is label n.
     #[inline]
     pub fn mask(&self, place: usize) -> u64 {
         let word = |number: usize| u64::from(self.words[place + 1 + number]) << (16 * number);
@@ -53,18 +53,19 @@ impl Term {
     }
 }
 
-/// A given term that has passed, with its reach.
+/// A given term that has been checked, with its reach.
 pub(super) struct Given {
     pub term: Term,
     pub reach: usize,
 }
 
-/// The words of a slice; an odd last byte is none.
+/// The words of a slice; an odd last byte is dropped.
 pub(super) fn words_of(bytes: &[u8]) -> Vec<u16> {
     bytes.chunks_exact(2).map(|pair| u16::from_le_bytes([pair[0], pair[1]])).collect()
 }
 
-/// Refusal 10. No part is larger than its reach, so a term of more words is not looked at.
+/// Checks a given term: refusal 10. A term is never larger than its reach, so one with more words than the
+/// limit is refused unread.
 pub(super) fn given(rules: &Rules, bytes: &[u8]) -> Result<Given, u8> {
     if bytes.len() % 2 == 1 || bytes.len() > 2 * MOST_REACH as usize {
         return Err(TERM);
@@ -79,7 +80,7 @@ pub(super) fn given(rules: &Rules, bytes: &[u8]) -> Result<Given, u8> {
     Ok(Given { term, reach: measure.reach as usize })
 }
 
-/// Refusal 11.
+/// Checks a given event: refusal 11.
 pub(super) fn event(rules: &Rules, bytes: &[u8]) -> Result<Packed, u8> {
     let words = words_of(bytes);
     if bytes.len() % 2 == 1 {
@@ -98,8 +99,9 @@ pub(super) fn event(rules: &Rules, bytes: &[u8]) -> Result<Packed, u8> {
     }
 }
 
-/// Reads a given term to its end, exactly one, and answers where each part of it begins. Operands are
-/// counted, not called; which refusal a fault would have in a stream does not matter here.
+/// Reads a given term to its end, exactly one term, and returns the offset of each of its parts. Operands are
+/// counted in `to_come`, not read recursively. Which error a fault returns does not matter: the caller turns
+/// each into 10.
 fn formed(rules: &Rules, term: &mut Term) -> Result<Vec<u16>, u8> {
     let names = Names { variables: 0, now: rules.tables.function_count, before: 0 };
     let mut parts = Vec::with_capacity(term.words.len());
@@ -133,8 +135,8 @@ fn formed(rules: &Rules, term: &mut Term) -> Result<Vec<u16>, u8> {
     }
 }
 
-/// An action's label and arguments, which are constants of the parameter's domain: there is no variable
-/// left.
+/// An action's label and arguments, which must be constants of the parameter's domain: a running term has no
+/// variables.
 fn action(rules: &Rules, scan: &mut Scan) -> Result<(), u8> {
     let label = scan.reference(rules.tables.label_count)?;
     for &domain in rules.tables.labels[usize::from(label)].as_slice() {
@@ -145,8 +147,9 @@ fn action(rules: &Rules, scan: &mut Scan) -> Result<(), u8> {
     Ok(())
 }
 
-/// Measures a term's parts from the last to the first, so that operands are measured before what they
-/// stand in, the left one last; notes the sizes on the way. Answers the measures of the whole.
+/// Measures the parts of a term from the last to the first, so that operands are measured before the part
+/// they belong to, and the left operand is on top of the stack. Stores the sizes, and returns the measures of
+/// the whole term.
 fn measured(term: &mut Term, parts: &[u16]) -> Measure {
     let mut open: Vec<Measure> = Vec::with_capacity(64);
     let mut end = term.words.len();

@@ -1,8 +1,8 @@
-//! An admitted stream read into a tree (`rules::RuleSet`), and a running term likewise, for the interpreter
+//! An admitted stream, and a running term, read into trees (`rules::RuleSet`, `Tree`), for the interpreter
 //! over histories.
 //!
-//! Document 01, "Blocks and the rule stream", items 2 to 5, and "Unfolding, size and breadth". The words
-//! have been admitted, so each is taken for what it must be.
+//! Document 01, "Blocks and the rule stream", items 2 to 5, and "Unfolding, size and breadth". The words have
+//! been admitted, so they are not checked here.
 
 use std::rc::Rc;
 
@@ -44,7 +44,7 @@ impl Reading<'_> {
         *self.rest.next().expect("an admitted stream is whole")
     }
 
-    /// A count, then so many numbers.
+    /// A count n, then n numbers.
     fn counted(&mut self) -> Vec<u16> {
         (0..self.word()).map(|_| self.word()).collect()
     }
@@ -79,7 +79,7 @@ impl Reading<'_> {
         [self.word(), self.word(), self.word(), self.word()]
     }
 
-    /// So many arguments.
+    /// n arguments.
     fn arguments(&mut self, count: usize) -> Vec<Argument> {
         let argument = |reading: &mut Self| match reading.word() {
             1 => Argument::Constant(reading.word()),
@@ -115,7 +115,7 @@ impl Reading<'_> {
             20 => Tree::Internal,
             21 => {
                 let label = self.word();
-                // The arguments' values, each behind its code.
+                // Each argument is a code followed by its value.
                 let value = |_: &u16| [self.word(), self.word()][1];
                 let arguments = rules.labels[usize::from(label)].iter().map(value).collect();
                 Tree::Action(Event { label, arguments })

@@ -54,7 +54,7 @@ impl Unfolding<'_> {
         self.term.words.len()
     }
 
-    /// The rule term at a place of the stream, unfolded. Answers the place behind it.
+    /// Unfolds the rule term at offset `at` of the stream. Returns the offset after it.
     fn term(&mut self, at: usize, scope: Scope) -> usize {
         let from = self.here();
         let code = self.stream[at];
@@ -109,7 +109,8 @@ impl Unfolding<'_> {
         end
     }
 
-    /// A condition with its variables made constants, an operand being one expression more to come.
+    /// A condition with its variables replaced by constants. `to_come` counts the expressions still to read.
+    /// Returns the offset after it.
     fn condition(&mut self, at: usize, scope: Scope) -> usize {
         let (from, mut place, mut to_come) = (self.here(), at, 1usize);
         while to_come > 0 {
@@ -129,7 +130,8 @@ impl Unfolding<'_> {
         place
     }
 
-    /// The copies of the term under a quantifier of so many words, each but the last behind this head.
+    /// The copies of the term under a quantifier, which begins `quantifier` words after `at`; each copy but
+    /// the last comes after the words `head`. Returns the offset after the term.
     fn copies(&mut self, at: usize, quantifier: usize, head: &[u16], scope: Scope) -> usize {
         let elements = self.rules.tables.elements(self.stream[at + 1]);
         let mut heads = [0; 64];
@@ -141,14 +143,14 @@ impl Unfolding<'_> {
             }
             end = self.term(at + quantifier, scope.with(element));
         }
-        // Nested to the right, all of them end here.
+        // The copies are nested to the right, so that all their parts end here.
         for &from in &heads[..usize::from(elements) - 1] {
             self.term.close(from);
         }
         end
     }
 
-    /// The body of the process, with the arguments as its variables.
+    /// The body of the process, with the arguments as its variables. Returns the offset after the call.
     fn call(&mut self, at: usize, scope: Scope) -> usize {
         let (parameters, body) = self.rules.process(self.stream[at + 1]);
         let end = at + 2 + 2 * parameters;

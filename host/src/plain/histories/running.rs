@@ -2,16 +2,17 @@
 //!
 //! Document 01, "Operations"; document 02, K1: "Every reader's increase equals, modulo 4,294,967,296, what
 //! the history machine counts at that reader's numbers; records past the thirty-second keep their values."
-//! The machine is run first, and then each count of each reader is looked up, as document 02 says it.
+//! The machine runs the whole list first; then each count of each reader is computed from what it counted, as
+//! document 02 says.
 
 use super::{rule_set, spelled, Machine};
 use crate::refusal::{READER, SPACE};
 use crate::{words_of, LentToRun, Ran, Tally};
 
-/// What the machine has counted before each number, and at the end.
+/// The machine's three counts before each number of the list, and at its end.
 type Counted = Vec<[u64; 3]>;
 
-/// Run: the same answer and the same bytes.
+/// Run, with the same answer and the same bytes as every implementation.
 pub fn run(rules: &[u8], list: &[u8], lent: LentToRun) -> Ran {
     let [table, term, memory, spare_term, spare_memory] = lent;
     let (sizes, rules) = rule_set(rules)?;
@@ -44,7 +45,7 @@ pub fn run(rules: &[u8], list: &[u8], lent: LentToRun) -> Ran {
     Ok(Tally { size, ..machine.tally })
 }
 
-/// To each count of each reader's record, what the machine counts at that reader's numbers.
+/// Adds to each count of each reader's record what the machine counted at that reader's numbers.
 fn add(readers: &[u16], counted: &Counted, table: &mut [u8]) {
     for (reader, count) in (1..=32).flat_map(|reader| [(reader, 0), (reader, 1), (reader, 2)]) {
         let numbers = (0..readers.len()).filter(|&number| readers[number] == reader);
