@@ -15,6 +15,7 @@ use Rattle.scan.specs.ReadingLaws.{number_below}
 use Rattle.eb3.specs.RuleSets.{domain_size, variable_argument}
 use Rattle.eb3.specs.Reading.{taken, refused, pick, then, number_of, by_number, number_in}
 use Rattle.eb3.specs.RuleReading.{argument_of}
+use Rattle.arguments.specs.Layout.{sizes_place, domain_count}
 use Rattle.arguments.specs.Tables.{row, declared, constant_of_domain, variable_of_domain}
 use Rattle.arguments.specs.TableLaws.{domain_at, domain_beyond, argument_is}
 use Rattle.std.specs.Prelude.{Ok, Err}
@@ -34,11 +35,11 @@ row_none T at h =
     let o : length T ≤ at + 1 = omega arith in
     sym (ap (take (get_or T at 0)) (drop_of_length-le T {i = at + 1} o) ∙ take-nil (get_or T at 0))
 
-pub size_in : (T : List ℕ) (d a e : ℕ) → a ≡ get_or T 0 0 → d < a → e ≡ get_or T (1 + d) 0 → e ≡ domain_size (declared T) d
-size_in T d a e i h k = k ∙ sym (domain_at T d (omega (arith, i)))
+pub size_there : (T : List ℕ) (d a e : ℕ) → a ≡ domain_count T → d < a → e ≡ get_or T (sizes_place d) 0 → e ≡ domain_size (declared T) d
+size_there T d a e i h k = k ∙ sym (domain_at T d (omega (arith, i)))
 
-pub size_out : (T : List ℕ) (d a : ℕ) → a ≡ get_or T 0 0 → a ≤ d → ◌≡◌ {A = ℕ} 0 (domain_size (declared T) d)
-size_out T d a i h = sym (domain_beyond T d (omega (arith, i)))
+pub size_beyond : (T : List ℕ) (d a : ℕ) → a ≡ domain_count T → a ≤ d → ◌≡◌ {A = ℕ} 0 (domain_size (declared T) d)
+size_beyond T d a i h = sym (domain_beyond T d (omega (arith, i)))
 
 pub ruleset tables = (row_front, row_none)
 

@@ -1,7 +1,7 @@
 -- What the tables declare, entry by entry, and the scope of a guard under them; and laws of the readers of masks and arguments: what is left is an end
 -- of the words (`..-end`), what was read of a mask is its words, and there is one argument for each domain.
 -- Document 01, "Blocks and the rule stream", item 5: masks and arguments, and what they are judged by.
-use Rattle.std.specs.Prelude.{◌≡◌, ℕ, zero, suc, ◌+◌, ◌-◌, ◌*◌, ◌^◌, ◌≤◌, ◌<◌, min, length, take, eqb, ltb, leb}
+use Rattle.std.specs.Prelude.{◌≡◌, ℕ, zero, suc, ◌+◌, ◌-◌, ◌^◌, ◌≤◌, ◌<◌, min, length, take, eqb, ltb, leb}
 use Rattle.std.proofs.Math.Path.{refl, ap}
 use Rattle.std.proofs.Common.{sym, ◌∙◌, subst, arith, take_at}
 use mathlib.Core.List.{List, [], ◌∷◌, ◌++◌}
@@ -26,7 +26,8 @@ use Rattle.eb3.proofs.Laws.RuleSets.{functions_counted, domain_is}
 use Rattle.eb3.proofs.Laws.Attributes.{no_domain_beyond}
 use Rattle.scan.specs.Laws.{Fine, Ends, tail_here, giving_fine, then_fine, both_ends, step_fine, pick_fine, number_ends, by_number_ends}
 use Rattle.scan.specs.RowLaws.{number_in_ends}
-use Rattle.arguments.specs.Tables.{from, row, label_place, some_function, process_row, declared, constant_of_domain, variable_of_domain}
+use Rattle.arguments.specs.Layout.{sizes_place, label_place, process_place, domain_count, label_count, function_count, process_count}
+use Rattle.arguments.specs.Tables.{from, row, some_function, process_row, declared, constant_of_domain, variable_of_domain}
 
 -- Past the end of a table there is 0.
 pub entry_beyond : (T : List ℕ) (at : ℕ) → length T ≤ at → ◌≡◌ {A = ℕ} 0 (get_or T at 0)
@@ -58,57 +59,57 @@ module _ (T : List ℕ) where
   unfolding declared
   width_declared = refl
 
-  pub domains_length : length (declared T).domains ≡ get_or T 0 0
+  pub domains_length : length (declared T).domains ≡ domain_count T
   unfolding declared
-  domains_length = from_length 0 (get_or T 0 0) (λ d. get_or T (1 + d) 0)
+  domains_length = from_length 0 (domain_count T) (λ d. get_or T (sizes_place d) 0)
 
-  pub domain_at : (d : ℕ) → d < get_or T 0 0 → domain_size (declared T) d ≡ get_or T (1 + d) 0
+  pub domain_at : (d : ℕ) → d < domain_count T → domain_size (declared T) d ≡ get_or T (sizes_place d) 0
   unfolding declared
-  domain_at d h = from_zero_at (get_or T 0 0) (λ e. get_or T (1 + e) 0) d 0 h
+  domain_at d h = from_zero_at (domain_count T) (λ e. get_or T (sizes_place e) 0) d 0 h
 
-  pub domain_beyond : (d : ℕ) → get_or T 0 0 ≤ d → domain_size (declared T) d ≡ 0
+  pub domain_beyond : (d : ℕ) → domain_count T ≤ d → domain_size (declared T) d ≡ 0
   unfolding declared
-  domain_beyond d h = from_beyond 0 (get_or T 0 0) (λ e. get_or T (1 + e) 0) d 0 h
+  domain_beyond d h = from_beyond 0 (domain_count T) (λ e. get_or T (sizes_place e) 0) d 0 h
 
-  pub labels_length : length (declared T).labels ≡ get_or T 17 0
+  pub labels_length : length (declared T).labels ≡ label_count T
   unfolding declared
-  labels_length = from_length 0 (get_or T 17 0) (λ l. row T (label_place l))
+  labels_length = from_length 0 (label_count T) (λ l. row T (label_place l))
 
-  pub label_at : (l : ℕ) → l < get_or T 17 0 → label (declared T) l ≡ row T (18 + 3 * l)
+  pub label_at : (l : ℕ) → l < label_count T → label (declared T) l ≡ row T (label_place l)
   unfolding declared
-  label_at l h = from_zero_at (get_or T 17 0) (λ k. row T (label_place k)) l [] h
+  label_at l h = from_zero_at (label_count T) (λ k. row T (label_place k)) l [] h
 
-  pub processes_length : length (declared T).processes ≡ get_or T 211 0
+  pub processes_length : length (declared T).processes ≡ process_count T
   unfolding declared
-  processes_length = from_length 0 (get_or T 211 0) (process_row T)
+  processes_length = from_length 0 (process_count T) (process_row T)
 
-  pub process_at : (p : ℕ) → p < get_or T 211 0 → (process (declared T) p).parameters ≡ row T (212 + 9 * p)
+  pub process_at : (p : ℕ) → p < process_count T → (process (declared T) p).parameters ≡ row T (process_place p)
   unfolding declared
-  process_at p h = ap (λ (P : Process). P.parameters) (from_zero_at (get_or T 211 0) (process_row T) p no_process h)
+  process_at p h = ap (λ (P : Process). P.parameters) (from_zero_at (process_count T) (process_row T) p no_process h)
 
   -- functions: so many, of one parameter each; one that is not defined counts as such too
-  functions_length : length (declared T).functions ≡ get_or T 210 0
+  functions_length : length (declared T).functions ≡ function_count T
   unfolding declared
-  functions_length = length-replicate (get_or T 210 0) some_function
+  functions_length = length-replicate (function_count T) some_function
 
-  pub functions_declared : number_of_functions (attributes (declared T)) ≡ get_or T 210 0
+  pub functions_declared : number_of_functions (attributes (declared T)) ≡ function_count T
   functions_declared = functions_counted (declared T) ∙ functions_length
 
-  function_declared : (f : ℕ) → f < get_or T 210 0 → function_rule (declared T) f ≡ some_function
+  function_declared : (f : ℕ) → f < function_count T → function_rule (declared T) f ≡ some_function
   unfolding declared
-  function_declared f h = get_or-replicate (get_or T 210 0) f some_function no_rule h
+  function_declared f h = get_or-replicate (function_count T) f some_function no_rule h
 
   pub arity_one : (f : ℕ) → arities (attributes (declared T)) f ≡ 1
-  arity_one f = go (dec_lt f (get_or T 210 0))
+  arity_one f = go (dec_lt f (function_count T))
     where
-      go : Dec (f < get_or T 210 0) → arities (attributes (declared T)) f ≡ 1
+      go : Dec (f < function_count T) → arities (attributes (declared T)) f ≡ 1
       go (yes h) =
           ap length (domain_is (declared T) f (omega (arith, functions_length)))
           ∙ length-map (function_rule (declared T) f).parameters (domain_size (declared T))
           ∙ ap (λ (F : Function). length F.parameters) (function_declared f h)
       go (no h) = ap length (no_domain_beyond (attributes (declared T)) f (omega (arith, functions_declared)))
 
-  pub guard_declared : (n : ℕ) → guard_scope (attributes (declared T)) n ≡ record { edition = edition_1; arity = λ f. 1; now = get_or T 210 0; before = 0; variables = n }
+  pub guard_declared : (n : ℕ) → guard_scope (attributes (declared T)) n ≡ record { edition = edition_1; arity = λ f. 1; now = function_count T; before = 0; variables = n }
   unfolding declared
   guard_declared n = λ i. record { edition = edition_1; arity = λ f. arity_one f i; now = functions_declared i; before = 0; variables = n }
 

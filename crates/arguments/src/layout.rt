@@ -1,6 +1,6 @@
 // Where the tables of a rule set hold what: its domains, labels and processes, and how many functions it has (document 01, "Blocks and the
 // rule stream", items 2 to 5). The tables are one array of 500 numbers, of fixed size since there is no heap. These are the places in it;
-// what they hold is `declared` and `callee` of specs/Tables.antt. A clause writes a place as its number, by which the specification knows it.
+// what they hold is `declared` and `callee` of specs/Tables.antt. A clause names a place by specs/Layout.antt, which has the same places.
 // Stays, and so does the store (store.rt of expressions), an array with places and no struct of arrays: public functions take it, and their contracts and the
 // specification go by its places, so that what is public keeps its promise.
 

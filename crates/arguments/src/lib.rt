@@ -9,6 +9,7 @@ ghost use Rattle.eb3.specs.RuleSets.{RuleSet, domain_size};
 ghost use Rattle.eb3.specs.TermReading.{mask_of};
 ghost use Rattle.eb3.specs.RuleReading.{argument_of, arguments_of};
 ghost use Rattle.scan.specs.Checking.{checked, last_of};
+ghost use Rattle.arguments.specs.Layout.{domain_count, label_count, function_count, process_count};
 ghost use Rattle.arguments.specs.Tables.{row, declared, constant_of_domain, variable_of_domain};
 
 use code_numbers::{CONSTANT, VARIABLE};
@@ -68,26 +69,26 @@ pub fn entry(tb: &[u32], at: usize) -> u32
 // Stays four functions that differ in the place: each is named where it is read, and its contract names the place that the specification knows. One
 // function with the place as a parameter would be `entry`.
 pub fn domains(tb: &[u32]) -> usize
-    ensures { result ≡ get_or tb.now 0 0 }
+    ensures { result ≡ domain_count tb.now }
 {
     entry(tb, DOMAINS) as usize
 }
 
 pub fn labels(tb: &[u32]) -> usize
-    ensures { result ≡ get_or tb.now 17 0 }
+    ensures { result ≡ label_count tb.now }
 {
     entry(tb, LABELS) as usize
 }
 
 pub fn functions(tb: &[u32]) -> usize
-    ensures { result ≡ get_or tb.now 210 0 }
+    ensures { result ≡ function_count tb.now }
 {
     entry(tb, FUNCTIONS) as usize
 }
 
 // Stays, here and in size_of: the bound is said beside the number by a rule of the project, a public function keeps its promise.
 pub fn processes(tb: &[u32]) -> usize
-    ensures { (result ≡ get_or tb.now 211 0) × (result < 4294967296) }
+    ensures { (result ≡ process_count tb.now) × (result < 4294967296) }
 {
     entry(tb, PROCESSES) as usize
 }

@@ -12,6 +12,7 @@ use Rattle.eb3.specs.Reading.{Read, refused, taken, Reader, giving, then, both, 
 use Rattle.scan.specs.Checking.{checked, last_of, Checked}
 use Rattle.scan.specs.Laws.{Ends, Tail, number_ends, last_all, last_length, last_tail, tail_at, tail_on, tail_short}
 use Rattle.scan.specs.RowLaws.{counted_ends, passed, repeat_out, repeat_in}
+use Rattle.arguments.specs.Layout.{label_words}
 use Rattle.arguments.specs.Tables.{row}
 use Rattle.declarations.specs.Entering.{put_row, put_rows, Entered}
 use Rattle.declarations.specs.Regions.{paste_front}
@@ -33,7 +34,7 @@ label_ends : (d : ℕ) → Ends (label_of d)
 label_ends d = counted_ends 0 2 (number_of 5 d) (number_ends 5 d)
 
 -- what the copy of a label's row asks
-label_fits : (n at d m x : ℕ) (t T : List ℕ) (p : Checked) → (n ≡ 0 → ⊥) → at + 3 * n ≤ length T → x ≡ get_or t 0 0 → p ≡ checked (label_of d t) → p ≡ Ok m → (at + (x + 1) ≤ length T) × (x + 1 ≤ length t)
+label_fits : (n at d m x : ℕ) (t T : List ℕ) (p : Checked) → (n ≡ 0 → ⊥) → at + label_words * n ≤ length T → x ≡ get_or t 0 0 → p ≡ checked (label_of d t) → p ≡ Ok m → (at + (x + 1) ≤ length T) × (x + 1 ≤ length t)
 label_fits n at d m x t T p z l i e h =
     let row = numbers_row 0 2 5 d m t p e h in
     (omega (arith, row.small), omega (arith, row.room))
@@ -50,7 +51,7 @@ entered_out t T n at d j p z e h =
     record { answer = a; rows = λ ls u f. absurd (let o : Err j ≡ Ok (length u) = a ∙ ap checked f in let y : ◌≡◌ {A = ℕ} 0 1 = cc in omega arith); same_length = refl }
 
 rows_more : (f : Reader (List ℕ)) (n at m : ℕ) (t l T T₁ T₂ : List ℕ) → f t ≡ taken l (last_of m t) → T₁ ≡ put_row at l T
-    → ((ls : List (List ℕ)) (u : List ℕ) → repeat n f (last_of m t) ≡ taken ls u → T₂ ≡ put_rows (at + 3) ls T₁)
+    → ((ls : List (List ℕ)) (u : List ℕ) → repeat n f (last_of m t) ≡ taken ls u → T₂ ≡ put_rows (at + label_words) ls T₁)
     → (ls : List (List ℕ)) (u : List ℕ) → repeat (suc n) f t ≡ taken ls u → T₂ ≡ put_rows at ls T
 unfolding repeat both then giving put_rows
 rows_more f n at m t l T T₁ T₂ e g ih ls u h = go (repeat n f (last_of m t)) refl (rw e at h)
@@ -59,10 +60,10 @@ rows_more f n at m t l T T₁ T₂ e g ih ls u h = go (repeat n f (last_of m t))
     go (refused j) i k = absurd (let y : ◌≡◌ {A = ℕ} 0 1 = cc in omega arith)
     go (taken ls' v) i k =
         let s : ls ≡ l ∷ ls' = cc in
-        rw s (ih ls' v i ∙ ap (put_rows (at + 3) ls') g)
+        rw s (ih ls' v i ∙ ap (put_rows (at + label_words) ls') g)
 
-entered_in : (t r T T₁ T₂ : List ℕ) (n at d m x : ℕ) (p q : Checked) → (n ≡ 0 → ⊥) → at + 3 * n ≤ length T → x ≡ get_or t 0 0 → p ≡ checked (label_of d t) → p ≡ Ok m → T₁ ≡ paste T at t (x + 1) → r ≡ last_of m t
-    → Entered r T₁ (n - 1) (at + 3) d q T₂ → Entered t T n at d q T₂
+entered_in : (t r T T₁ T₂ : List ℕ) (n at d m x : ℕ) (p q : Checked) → (n ≡ 0 → ⊥) → at + label_words * n ≤ length T → x ≡ get_or t 0 0 → p ≡ checked (label_of d t) → p ≡ Ok m → T₁ ≡ paste T at t (x + 1) → r ≡ last_of m t
+    → Entered r T₁ (n - 1) (at + label_words) d q T₂ → Entered t T n at d q T₂
 entered_in t r T T₁ T₂ zero at d m x p q z f i e h g l k = absurd (z refl)
 entered_in t r T T₁ T₂ (suc n) at d m x p q z f i e h g l k =
     let there = numbers_row 0 2 5 d m t p e h in
@@ -82,7 +83,7 @@ pub record Entering (t T₀ : List ℕ) (n at d : ℕ) (T : List ℕ) (left i : 
   pub few : i ≤ n
   pub short : left ≤ length t
   pub same_length : length T ≡ length T₀
-  pub rest : (r : Checked) (T' : List ℕ) → Entered (last_of left t) T (n - i) (at + 3 * i) d r T' → Entered t T₀ n at d r T'
+  pub rest : (r : Checked) (T' : List ℕ) → Entered (last_of left t) T (n - i) (at + label_words * i) d r T' → Entered t T₀ n at d r T'
 
 same_entered : (t u T T' : List ℕ) (n m at b d : ℕ) (r : Checked) → t ≡ u → n ≡ m → at ≡ b → Entered t T n at d r T' → Entered u T m b d r T'
 same_entered t u T T' n m at b d r e f g h = rw (← e, ← f, ← g) h
@@ -92,30 +93,30 @@ entering_start t T n at d = record {
   few = omega arith;
   short = le_refl (length t);
   same_length = refl;
-  rest = λ r T' h. same_entered _ t T T' (n - 0) n (at + 3 * 0) at d r (last_all (length t) t (le_refl (length t))) (omega arith) (omega arith) h;
+  rest = λ r T' h. same_entered _ t T T' (n - 0) n (at + label_words * 0) at d r (last_all (length t) t (le_refl (length t))) (omega arith) (omega arith) h;
 }
 
-module _ (t T₀ T u : List ℕ) (n at d left i x : ℕ) (p : Checked) (s : Entering t T₀ n at d T left i) (lt : i < n) (room : at + 3 * n ≤ length T₀) (is_u : u ≡ last_of left t) (e : p ≡ checked (label_of d u)) where
+module _ (t T₀ T u : List ℕ) (n at d left i x : ℕ) (p : Checked) (s : Entering t T₀ n at d T left i) (lt : i < n) (room : at + label_words * n ≤ length T₀) (is_u : u ≡ last_of left t) (e : p ≡ checked (label_of d u)) where
   some : n - i ≡ 0 → ⊥
   some z = omega (arith, z, lt)
 
-  place_left : at + 3 * i + 3 * (n - i) ≤ length T
+  place_left : at + label_words * i + label_words * (n - i) ≤ length T
   place_left = omega (arith, room, lt, s.same_length)
 
   pub entering_fail : (j : Refusal) → p ≡ Err j → Entered t T₀ n at d (Err j) T
-  entering_fail j h = s.rest (Err j) T (same_entered u _ T T (n - i) (n - i) (at + 3 * i) (at + 3 * i) d (Err j) is_u refl refl (entered_out u T (n - i) (at + 3 * i) d j p some e h))
+  entering_fail j h = s.rest (Err j) T (same_entered u _ T T (n - i) (n - i) (at + label_words * i) (at + label_words * i) d (Err j) is_u refl refl (entered_out u T (n - i) (at + label_words * i) d j p some e h))
 
   module _ (m : ℕ) (h : p ≡ Ok m) (first : x ≡ get_or u 0 0) where
-    entering_fits : (at + 3 * i + (x + 1) ≤ length T) × (x + 1 ≤ length u)
-    entering_fits = label_fits (n - i) (at + 3 * i) d m x u T p some place_left first e h
+    entering_fits : (at + label_words * i + (x + 1) ≤ length T) × (x + 1 ≤ length u)
+    entering_fits = label_fits (n - i) (at + label_words * i) d m x u T p some place_left first e h
 
     -- those of them that are copied
-    pub entering_front : (x + 1 ≡ length (take (x + 1) u)) × (at + 3 * i + length (take (x + 1) u) ≤ length T)
+    pub entering_front : (x + 1 ≡ length (take (x + 1) u)) × (at + label_words * i + length (take (x + 1) u) ≤ length T)
     entering_front = let e = length-take-le (x + 1) u entering_fits.1 in (sym e, rw e entering_fits.0)
 
-    pub entering_next : (T₁ : List ℕ) → T₁ ≡ paste T (at + 3 * i) (take (x + 1) u) (length (take (x + 1) u)) → Entering t T₀ n at d T₁ m (i + 1)
+    pub entering_next : (T₁ : List ℕ) → T₁ ≡ paste T (at + label_words * i) (take (x + 1) u) (length (take (x + 1) u)) → Entering t T₀ n at d T₁ m (i + 1)
     entering_next T₁ copied =
-        let g = copied ∙ sym (paste_front T u (at + 3 * i) (x + 1) entering_fits.1) in
+        let g = copied ∙ sym (paste_front T u (at + label_words * i) (x + 1) entering_fits.1) in
         let w = passed u m (label_of d u) (label_ends d u) (sym h ∙ e) in
         let tail : Tail (last_of m u) t = tail_on (last_of m u) u t (rw is_u (last_tail left t)) w.0 in
         let same : last_of m t ≡ last_of m u = ap (λ k. last_of k t) (sym w.1) ∙ tail_at (last_of m u) t tail in
@@ -123,11 +124,11 @@ module _ (t T₀ T u : List ℕ) (n at d left i x : ℕ) (p : Checked) (s : Ente
         record {
           few = omega (arith, lt);
           short = omega (arith, w.1, tail_short (last_of m u) t tail);
-          same_length = ap length g ∙ length-paste T (at + 3 * i) u (x + 1) fits.0 fits.1 ∙ s.same_length;
-          rest = λ r T' k. s.rest r T' (same_entered u _ T T' (n - i) (n - i) (at + 3 * i) (at + 3 * i) d r is_u refl refl
-              (entered_in u (last_of m u) T T₁ T' (n - i) (at + 3 * i) d m x p r some place_left first e h g refl
-              (same_entered (last_of m t) (last_of m u) T₁ T' (n - (i + 1)) (n - i - 1) (at + 3 * (i + 1)) (at + 3 * i + 3) d r same (omega arith) (omega arith) k)));
+          same_length = ap length g ∙ length-paste T (at + label_words * i) u (x + 1) fits.0 fits.1 ∙ s.same_length;
+          rest = λ r T' k. s.rest r T' (same_entered u _ T T' (n - i) (n - i) (at + label_words * i) (at + label_words * i) d r is_u refl refl
+              (entered_in u (last_of m u) T T₁ T' (n - i) (at + label_words * i) d m x p r some place_left first e h g refl
+              (same_entered (last_of m t) (last_of m u) T₁ T' (n - (i + 1)) (n - i - 1) (at + label_words * (i + 1)) (at + label_words * i + label_words) d r same (omega arith) (omega arith) k)));
         }
 
 pub entering_end : (t T₀ T : List ℕ) (n at d left i : ℕ) → Entering t T₀ n at d T left i → n ≤ i → Entered t T₀ n at d (Ok left) T
-entering_end t T₀ T n at d left i s h = s.rest (Ok left) T (subst (λ y. Entered (last_of left t) T (n - i) (at + 3 * i) d (Ok y) T) (last_length left t s.short) (entered_none (last_of left t) T (n - i) (at + 3 * i) d (omega arith)))
+entering_end t T₀ T n at d left i s h = s.rest (Ok left) T (subst (λ y. Entered (last_of left t) T (n - i) (at + label_words * i) d (Ok y) T) (last_length left t s.short) (entered_none (last_of left t) T (n - i) (at + label_words * i) d (omega arith)))

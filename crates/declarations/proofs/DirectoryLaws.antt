@@ -1,6 +1,6 @@
 -- Laws of the directory: what a reading took is found where it stood, and what keeps the places keeps what is found by them.
 -- Document 01, "Blocks and the rule stream", items 2 to 5; refusals 4 and 5.
-use Rattle.std.specs.Prelude.{◌≡◌, refl, List, [], ◌∷◌, ◌++◌, ℕ, suc, ◌+◌, ◌*◌, ◌-◌, ◌%◌, ◌<◌, length, get_or, Ok}
+use Rattle.std.specs.Prelude.{◌≡◌, refl, List, [], ◌∷◌, ◌++◌, ℕ, suc, ◌+◌, ◌-◌, ◌%◌, ◌<◌, length, get_or, Ok}
 use Rattle.std.proofs.Common.{sym, ap, ◌∙◌, subst, arith, length-append}
 use Rattle.eb3.specs.Expressions.{Data}
 use Rattle.eb3.specs.Scopes.{Scope, DataInScope}
@@ -18,8 +18,8 @@ use Rattle.eb3.proofs.Laws.ExpressionReading.{data_sound}
 use Rattle.scan.specs.Checking.{checked, last_of, Checked}
 use Rattle.scan.specs.Laws.{Tail, Fine, Ends, tail_at, tail_on, tail_short, number_ends}
 use Rattle.scan.specs.RowLaws.{counted_ends}
-use Rattle.arguments.specs.Tables.{process_place}
-use Rattle.declarations.specs.Directory.{Stands, Standing, FunctionRow, ProcessRows}
+use Rattle.arguments.specs.Layout.{processes_place, process_place, body_in, body_at}
+use Rattle.declarations.specs.Directory.{Stands, Standing, FunctionRow, ProcessRows, row_width, first_cell_in, at_start_in}
 
 -- ── readings that took something, taken apart ──
 
@@ -93,29 +93,29 @@ standing_more w t D at (c ∷ ds) d s h =
     let e : at + suc (length ds) ≡ suc at + length ds = omega arith in
     (s.0, standing_more w t D (suc at) ds d s.1 (subst (λ n. Stands t (get_or D n 0) (data_words w d)) e h))
 
-pub row_stays : (w : ℕ) (domains t D D' : List ℕ) (at begin : ℕ) (F : Function) → ((j : ℕ) → j < at + (3 + length F.at_label) → get_or D' j 0 ≡ get_or D j 0) → FunctionRow w domains t D at begin F → FunctionRow w domains t D' at begin F
+pub row_stays : (w : ℕ) (domains t D D' : List ℕ) (at begin : ℕ) (F : Function) → ((j : ℕ) → j < at + row_width (length F.at_label) → get_or D' j 0 ≡ get_or D j 0) → FunctionRow w domains t D at begin F → FunctionRow w domains t D' at begin F
 row_stays w domains t D D' at begin F h r = record {
   cells = h at (omega arith) ∙ r.cells;
-  begins = h (at + 1) (omega arith) ∙ r.begins;
-  expressions = standing_kept w t D D' (at + 2) (F.at_start ∷ F.at_label) (λ j b. h j (omega arith)) r.expressions;
+  begins = h (at + first_cell_in) (omega arith) ∙ r.begins;
+  expressions = standing_kept w t D D' (at + at_start_in) (F.at_start ∷ F.at_label) (λ j b. h j (omega arith)) r.expressions;
 }
 
 -- ── processes ──
 
-pub rows_kept : (w : ℕ) (t T T' : List ℕ) (p : ℕ) (Ps : List Process) → ((j : ℕ) → 211 < j → j < 212 + 9 * (p + length Ps) → get_or T' j 0 ≡ get_or T j 0) → ProcessRows w t T p Ps → ProcessRows w t T' p Ps
+pub rows_kept : (w : ℕ) (t T T' : List ℕ) (p : ℕ) (Ps : List Process) → ((j : ℕ) → processes_place < j → j < process_place (p + length Ps) → get_or T' j 0 ≡ get_or T j 0) → ProcessRows w t T p Ps → ProcessRows w t T' p Ps
 rows_kept w t T T' p [] h r = tt
 rows_kept w t T T' p (P ∷ Ps) h r = (
-  subst (λ n. Stands t n (rule_words w P.term)) (sym (h (212 + 9 * p + 8) (omega arith) (omega arith))) r.0,
+  subst (λ n. Stands t n (rule_words w P.term)) (sym (h (process_place p + body_in) (omega arith) (omega arith))) r.0,
   rows_kept w t T T' (suc p) Ps (λ j a b. h j a (omega arith)) r.1,
 )
 
-pub rows_more : (w : ℕ) (t T : List ℕ) (p : ℕ) (Ps : List Process) (P : Process) → ProcessRows w t T p Ps → Stands t (get_or T (process_place (p + length Ps) + 8) 0) (rule_words w P.term) → ProcessRows w t T p (Ps ++ (P ∷ []))
+pub rows_more : (w : ℕ) (t T : List ℕ) (p : ℕ) (Ps : List Process) (P : Process) → ProcessRows w t T p Ps → Stands t (body_at T (p + length Ps)) (rule_words w P.term) → ProcessRows w t T p (Ps ++ (P ∷ []))
 rows_more w t T p [] P r h =
     let e : p + 0 ≡ p = omega arith in
-    (subst (λ n. Stands t (get_or T (process_place n + 8) 0) (rule_words w P.term)) e h, tt)
+    (subst (λ n. Stands t (body_at T n) (rule_words w P.term)) e h, tt)
 rows_more w t T p (Q ∷ Ps) P r h =
     let e : p + suc (length Ps) ≡ suc p + length Ps = omega arith in
-    (r.0, rows_more w t T (suc p) Ps P r.1 (subst (λ n. Stands t (get_or T (process_place n + 8) 0) (rule_words w P.term)) e h))
+    (r.0, rows_more w t T (suc p) Ps P r.1 (subst (λ n. Stands t (body_at T n) (rule_words w P.term)) e h))
 
 -- Where a process was read, its term is after its parameters.
 pub term_stands : (R : RuleSet) (hi : ℕ) (whole t : List ℕ) (P : Process) (u : List ℕ) → Tail t whole → read_process R hi t ≡ taken P u

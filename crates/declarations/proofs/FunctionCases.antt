@@ -15,6 +15,7 @@ use Rattle.eb3.specs.RuleReading.{function_from, read_function}
 use Rattle.scan.specs.Checking.{checked, last_of, Checked}
 use Rattle.scan.specs.Laws.{Fine, tail_at, both_in, both_out, number_word}
 use Rattle.grammar.specs.Laws.{data_ends}
+use Rattle.arguments.specs.Layout.{domain_count, label_count}
 use Rattle.arguments.specs.Tables.{edition_in, declared}
 use Rattle.declarations.specs.declared.Counted.{Counted}
 use Rattle.declarations.specs.Entering.{labels_of, cells_of, all_cells, function_cells, functions_cells, CellsBound, found_cells}
@@ -29,7 +30,7 @@ use Rattle.refusals.specs.Numbers.{refusal}
 -- ── both kinds ──
 
 abbrev pub labels_for : List ℕ → ℕ → ℕ → Reader (List Data)
-labels_for T n i = label_expressions T n i (get_or T 17 0)
+labels_for T n i = label_expressions T n i (label_count T)
 
 module _ (T t : List ℕ) (n i : ℕ) (p : Checked) (e : p ≡ checked (read_data 1 (at_start i) t)) where
   start : p ≡ checked (start_of T n i t)
@@ -50,14 +51,14 @@ one_parameter d m t e = rw (number_word 5 d m t e)
 abbrev pub sizes_in : List ℕ → List ℕ
 sizes_in T = (declared T).domains
 
-function_is : (T t : List ℕ) (n i : ℕ) → function_of T n i t ≡ giving function_from (both (repeat 1 (number_of 5 (get_or T 0 0))) (both (start_of T n i) (labels_for T n i)) t)
+function_is : (T t : List ℕ) (n i : ℕ) → function_of T n i t ≡ giving function_from (both (repeat 1 (number_of 5 (domain_count T))) (both (start_of T n i) (labels_for T n i)) t)
 unfolding read_function
-function_is T t n i = ap (λ c. giving function_from (both (repeat c (number_of 5 (get_or T 0 0))) (both (start_of T n i) (labels_for T n i)) t)) (one_each n i)
+function_is T t n i = ap (λ c. giving function_from (both (repeat c (number_of 5 (domain_count T))) (both (start_of T n i) (labels_for T n i)) t)) (one_each n i)
 
 -- with its parameter read
-pub function_on : (T t : List ℕ) (n i m : ℕ) → Ok m ≡ checked (number_of 5 (get_or T 0 0) t) → function_of T n i t ≡ giving function_from (giving (λ b. (get_or t 0 0 ∷ [], b)) (both (start_of T n i) (labels_for T n i) (last_of m t)))
+pub function_on : (T t : List ℕ) (n i m : ℕ) → Ok m ≡ checked (number_of 5 (domain_count T) t) → function_of T n i t ≡ giving function_from (giving (λ b. (get_or t 0 0 ∷ [], b)) (both (start_of T n i) (labels_for T n i) (last_of m t)))
 unfolding both then
-function_on T t n i m e = function_is T t n i ∙ rw (one_parameter (get_or T 0 0) m t e)
+function_on T t n i m e = function_is T t n i ∙ rw (one_parameter (domain_count T) m t e)
 
 cells_given : (D : List ℕ) (w o z : ℕ) (r : Read (Data × List Data)) → Ok o ≡ checked r → z ≡ get_or D w 0 → found_cells o z ≡ function_cells D (giving function_from (giving (λ b. (w ∷ [], b)) r))
 unfolding checked giving function_cells cells_of cell_count
@@ -75,13 +76,13 @@ none_given D w j (refused k) e =
 none_given D w j (taken b u) e = absurd (let y : ◌≡◌ {A = ℕ} 0 1 = cc in omega arith)
 
 -- d is how many domains there are
-module _ (T t : List ℕ) (n i d : ℕ) (p : Checked) (w : d ≡ get_or T 0 0) (e : p ≡ checked (number_of 5 d t)) where
-  there : p ≡ checked (number_of 5 (get_or T 0 0) t)
+module _ (T t : List ℕ) (n i d : ℕ) (p : Checked) (w : d ≡ domain_count T) (e : p ≡ checked (number_of 5 d t)) where
+  there : p ≡ checked (number_of 5 (domain_count T) t)
   there = e ∙ ap (λ y. checked (number_of 5 y t)) w
 
   pub function_out : (j : Refusal) → p ≡ Err j → Err j ≡ function_cells (sizes_in T) (function_of T n i t)
   unfolding giving both then repeat function_cells
-  function_out j h = let x = checked_refused (number_of 5 (get_or T 0 0) t) j (sym h ∙ there) in rw (function_is T t n i, x.read) (ap Err x.named)
+  function_out j h = let x = checked_refused (number_of 5 (domain_count T) t) j (sym h ∙ there) in rw (function_is T t n i, x.read) (ap Err x.named)
 
   module _ (m : ℕ) (r : List ℕ) (q : Checked) (h : p ≡ Ok m) (s : r ≡ last_of m t) (f : q ≡ checked (both (start_of T n i) (labels_for T n i) r)) where
     rest : q ≡ checked (both (start_of T n i) (labels_for T n i) (last_of m t))
@@ -141,7 +142,7 @@ module _ (T t : List ℕ) (n k i : ℕ) (p : Result Counted Refusal) (z : k ≡ 
 
   module _ (one : Counted) (r : List ℕ) (q : Result Counted Refusal) (h : p ≡ Ok one) (s : r ≡ last_of one.left t) (f : q ≡ functions_cells (sizes_in T) (series (k - 1) (i + 1) (function_of T n) r)) where
     it : (F : Function) × ((function_of T n i t ≡ taken F (last_of one.left t)) × (one.cells ≡ cells_of (sizes_in T) F))
-    it = left_of (sizes_in T) t one.left one.cells (function_of T n i t) (function_ends (edition_in T) (get_or T 0 0) (labels_of T 0 (get_or T 17 0)) (replicate n 1) i t) (sym h ∙ e)
+    it = left_of (sizes_in T) t one.left one.cells (function_of T n i t) (function_ends (edition_in T) (domain_count T) (labels_of T 0 (label_count T)) (replicate n 1) i t) (sym h ∙ e)
 
     whole : series k i (function_of T n) t ≡ one_more it.0 (series (k - 1) (i + 1) (function_of T n) (last_of one.left t))
     unfolding both then

@@ -1,6 +1,6 @@
 -- The expressions for labels, read by a loop: what holds before each turn (`Sofar`), and a case for each way out.
 -- Document 01, "Blocks and the rule stream", item 4; refusals 4 and 5.
-use Prim.Native.Nat.{ℕ, suc, ◌+◌, ◌-◌, ◌*◌, ◌%◌, ◌≤◌, ◌<◌}
+use Prim.Native.Nat.{ℕ, suc, ◌+◌, ◌-◌, ◌%◌, ◌≤◌, ◌<◌}
 use native.Mathlib.Nat.{le_refl}
 use native.Mathlib.Numerals.{add-one}
 use native.Mathlib.Omega.{arith}
@@ -17,6 +17,7 @@ use Rattle.scan.specs.Laws.{Tail, tail_on, last_all, tail_at, tail_short, got, l
 use Rattle.scan.specs.ReadingLaws.{checked_refused, not_taken, same_refused, refused_checked, RefusedAs}
 use Rattle.scan.specs.RowLaws.{passed}
 use Rattle.grammar.specs.Laws.{data_ends}
+use Rattle.arguments.specs.Layout.{label_place}
 use Rattle.arguments.specs.Tables.{edition_in, from, row}
 use Rattle.declarations.specs.Entering.{labels_of}
 use Rattle.declarations.specs.ScopeFacts.{at_label, label_scope}
@@ -82,11 +83,11 @@ sofar_end t T D₀ n i k at D left l s h =
     same_taken a b u v e = cc
 
 -- One more: R is the label's row, and u what is left.
-labels_next : (T : List ℕ) (l k : ℕ) → l < k → labels_of T l (k - l) ≡ row T (18 + 3 * l) ∷ labels_of T (l + 1) (k - (l + 1))
+labels_next : (T : List ℕ) (l k : ℕ) → l < k → labels_of T l (k - l) ≡ row T (label_place l) ∷ labels_of T (l + 1) (k - (l + 1))
 unfolding from
 labels_next T l k h =
     let e : k - l ≡ suc (k - (l + 1)) = omega arith in
-    ap (labels_of T l) e ∙ ap (λ m. row T (18 + 3 * l) ∷ labels_of T m (k - (l + 1))) (sym (add-one l))
+    ap (labels_of T l) e ∙ ap (λ m. row T (label_place l) ∷ labels_of T m (k - (l + 1))) (sym (add-one l))
 
 refused_on : (ds : List Data) (b : List ℕ) (bs : List (List ℕ)) (f : List ℕ → Reader Data) (t : List ℕ) (j : Refusal) → RefusedAs j (f b t) → RefusedAs j (giving (λ es. ds ++ es) (for_each (b ∷ bs) f t))
 unfolding giving for_each both then
@@ -102,14 +103,14 @@ taken_on ds b bs f t d u e = rw e (go (for_each bs f u))
     go (taken es v) = ap (λ l. taken l v) (sym (append_assoc ds (d ∷ []) es))
 
 module _ (t T D₀ R u D D₁ : List ℕ) (n i k at left l : ℕ) (p : Checked) (s : Sofar t T D₀ n i k at D left l) (lt : l < k) (g : D₁ ≡ set D (at + l) (left % 4294967296)) (is_u : u ≡ last_of left t)
-    (r : R ≡ row T (18 + 3 * l)) (e : p ≡ checked (read_data 1 (at_label n i (length R)) u)) where
+    (r : R ≡ row T (label_place l)) (e : p ≡ checked (read_data 1 (at_label n i (length R)) u)) where
   abbrev this : Reader Data
-  this = for_label T n i (row T (18 + 3 * l))
+  this = for_label T n i (row T (label_place l))
 
   here : p ≡ checked (this u)
   here = e ∙ ap (λ S. checked (read_data 1 S u)) (label_scope T n i (length R)) ∙ ap (λ ds. checked (for_label T n i ds u)) r
 
-  on : label_expressions T n i k t ≡ giving (λ es. s.ds ++ es) (for_each (row T (18 + 3 * l) ∷ labels_of T (l + 1) (k - (l + 1))) (for_label T n i) u)
+  on : label_expressions T n i k t ≡ giving (λ es. s.ds ++ es) (for_each (row T (label_place l) ∷ labels_of T (l + 1) (k - (l + 1))) (for_label T n i) u)
   on = s.reading ∙ (λ j. giving (λ es. s.ds ++ es) (for_each (labels_next T l k lt j) (for_label T n i) (sym is_u j)))
 
   as_long : length D₁ ≡ length D₀
@@ -121,7 +122,7 @@ module _ (t T D₀ R u D D₁ : List ℕ) (n i k at left l : ℕ) (p : Checked) 
   pub sofar_fail : (j : Refusal) → p ≡ Err j → LabelsNoted T n i k t D₀ at (Err j) D₁
   unfolding checked
   sofar_fail j h =
-      let f : RefusedAs j (label_expressions T n i k t) = same_refused _ _ j on (refused_on s.ds (row T (18 + 3 * l)) (labels_of T (l + 1) (k - (l + 1))) (for_label T n i) u j (checked_refused (this u) j (sym h ∙ here))) in
+      let f : RefusedAs j (label_expressions T n i k t) = same_refused _ _ j on (refused_on s.ds (row T (label_place l)) (labels_of T (l + 1) (k - (l + 1))) (for_label T n i) u j (checked_refused (this u) j (sym h ∙ here))) in
       record {
         answer = refused_checked _ j f;
         same_length = as_long;
@@ -157,7 +158,7 @@ module _ (t T D₀ R u D D₁ : List ℕ) (n i k at left l : ℕ) (p : Checked) 
       ds = s.ds ++ (it.0 ∷ []);
       count = length-append s.ds (it.0 ∷ []) ∙ ap (λ c. c + 1) s.count;
       reading =
-          on ∙ taken_on s.ds (row T (18 + 3 * l)) (labels_of T (l + 1) (k - (l + 1))) (for_label T n i) u it.0 (last_of m u) it.1
+          on ∙ taken_on s.ds (row T (label_place l)) (labels_of T (l + 1) (k - (l + 1))) (for_label T n i) u it.0 (last_of m u) it.1
           ∙ ap (λ v. giving (λ es. (s.ds ++ (it.0 ∷ [])) ++ es) (rest_of T n i (l + 1) (k - (l + 1)) v)) same;
       found = λ whole tl small room.
           let place : get_or D₁ (at + l) 0 ≡ length u % 4294967296 =

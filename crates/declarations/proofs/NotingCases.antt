@@ -18,13 +18,14 @@ use Rattle.scan.specs.Checking.{checked, last_of, Checked}
 use Rattle.scan.specs.Laws.{Tail, Fine, tail_at, tail_on, tail_short, last_tail, last_all, last_last, last_length}
 use Rattle.scan.specs.ReadingLaws.{checked_refused, not_taken}
 use Rattle.grammar.specs.Laws.{data_ends}
+use Rattle.arguments.specs.Layout.{domain_count, label_count}
 use Rattle.arguments.specs.Tables.{edition_in, declared}
 use Rattle.arguments.specs.TableLaws.{from_length}
 use Rattle.declarations.specs.declared.Counted.{Counted}
 use Rattle.declarations.specs.Entering.{labels_of, cells_of, function_cells, functions_cells, found_cells, CellsBound}
 use Rattle.declarations.specs.ScopeFacts.{at_start, start_scope}
 use Rattle.declarations.specs.FunctionLaws.{function_ends}
-use Rattle.declarations.specs.Directory.{Standing, FunctionRow, FunctionRows, row_width}
+use Rattle.declarations.specs.Directory.{Standing, FunctionRow, FunctionRows, row_width, first_cell_in, at_start_in}
 use Rattle.declarations.proofs.DirectoryLaws.{giving_taken, both_taken, for_each_count, left_is, stands_noted, row_stays}
 use Rattle.declarations.specs.Noting.{start_of, for_label, label_expressions, expressions_of, function_of, LabelsNoted, ExpressionsNoted, FunctionNoted, FunctionsNoted}
 use Rattle.declarations.proofs.FunctionCases.{sizes_in, expressions_out, expressions_in, function_on, function_out, function_stops, function_in, functions_next, functions_none, functions_out, functions_stop, functions_in, one_bound}
@@ -72,7 +73,7 @@ module _ (T t D D₁ : List ℕ) (n i at : ℕ) (g : D₁ ≡ set D at (length t
         found = λ whole b u tl small room f. absurd (not_taken (expressions_of T n i t) j b u (checked_refused (expressions_of T n i t) j a) f);
       }
 
-  pub expressions_noted : (r D₂ : List ℕ) (q : Checked) (m : ℕ) → p ≡ Ok m → r ≡ last_of m t → LabelsNoted T n i (get_or T 17 0) r D₁ (at + 1) q D₂ → ExpressionsNoted T n i t D at q D₂
+  pub expressions_noted : (r D₂ : List ℕ) (q : Checked) (m : ℕ) → p ≡ Ok m → r ≡ last_of m t → LabelsNoted T n i (label_count T) r D₁ (at + 1) q D₂ → ExpressionsNoted T n i t D at q D₂
   expressions_noted r D₂ q m h s l =
       let o = expressions_in T t n i p e r q m h s l.answer in
       record {
@@ -80,9 +81,9 @@ module _ (T t D D₁ : List ℕ) (n i at : ℕ) (g : D₁ ≡ set D at (length t
         same_length = l.same_length ∙ noted_length D D₁ at _ g;
         kept = λ j b. l.kept j (omega arith) ∙ noted_other D D₁ at _ g j b;
         found = λ whole b u tl small room f.
-            let k = both_taken (start_of T n i) (label_expressions T n i (get_or T 17 0)) t b u f in
+            let k = both_taken (start_of T n i) (label_expressions T n i (label_count T)) t b u f in
             let v : k.0 ≡ r = left_is (start_of T n i) (data_ends (edition_in T).width _) t p m b.0 k.0 (e ∙ ap (λ S. checked (read_data 1 S t)) (start_scope T n i)) h k.1 ∙ sym s in
-            let rest : label_expressions T n i (get_or T 17 0) r ≡ taken b.1 u = ap (label_expressions T n i (get_or T 17 0)) (sym v) ∙ k.2 in
+            let rest : label_expressions T n i (label_count T) r ≡ taken b.1 u = ap (label_expressions T n i (label_count T)) (sym v) ∙ k.2 in
             let place : get_or D₂ at 0 ≡ length t % 4294967296 = l.kept at (omega arith) ∙ noted_here D D₁ at _ g (omega arith) in (
               stands_noted _ whole t D₂ at b.0 k.0 tl small place k.1,
               subst (λ y. Standing (edition_in T).width whole D₂ y b.1) (add-one at) (l.found whole b.1 u (tail_on r t whole tl (subst (λ y. Tail y t) (sym s) (last_tail m t))) small (omega (arith, noted_length D D₁ at _ g)) rest),
@@ -96,7 +97,7 @@ unfolding cells_of cell_count
 one_cells D w b = omega arith
 
 -- d is how many domains there are
-module _ (T t D : List ℕ) (n i at begin d : ℕ) (p : Checked) (w : d ≡ get_or T 0 0) (e : p ≡ checked (number_of 5 d t)) where
+module _ (T t D : List ℕ) (n i at begin d : ℕ) (p : Checked) (w : d ≡ domain_count T) (e : p ≡ checked (number_of 5 d t)) where
   pub function_refused : (j : Refusal) → p ≡ Err j → FunctionNoted T n i t D at begin (Err j) D
   function_refused j h =
       let o = function_out T t n i d p w e j h in
@@ -104,30 +105,30 @@ module _ (T t D : List ℕ) (n i at begin d : ℕ) (p : Checked) (w : d ≡ get_
 
   -- x is the domain, z its size
   module _ (m x z : ℕ) (r D₁ D₂ D₃ : List ℕ) (q : Checked) (h : p ≡ Ok m) (s : r ≡ last_of m t) (y : x ≡ get_or t 0 0) (c : z ≡ domain_size (declared T) x) (low : z < 4294967296)
-      (g₁ : D₁ ≡ set D at (z % 4294967296)) (g₂ : D₂ ≡ set D₁ (at + 1) (begin % 4294967296)) (l : ExpressionsNoted T n i r D₂ (at + 2) q D₃) where
+      (g₁ : D₁ ≡ set D at (z % 4294967296)) (g₂ : D₂ ≡ set D₁ (at + first_cell_in) (begin % 4294967296)) (l : ExpressionsNoted T n i r D₂ (at + at_start_in) q D₃) where
     long : length D₂ ≡ length D
-    long = noted_length D₁ D₂ (at + 1) _ g₂ ∙ noted_length D D₁ at _ g₁
+    long = noted_length D₁ D₂ (at + first_cell_in) _ g₂ ∙ noted_length D D₁ at _ g₁
 
     others : (j : ℕ) → j < at → get_or D₃ j 0 ≡ get_or D j 0
-    others j b = l.kept j (omega arith) ∙ noted_other D₁ D₂ (at + 1) _ g₂ j (omega arith) ∙ noted_other D D₁ at _ g₁ j b
+    others j b = l.kept j (omega arith) ∙ noted_other D₁ D₂ (at + first_cell_in) _ g₂ j (omega arith) ∙ noted_other D D₁ at _ g₁ j b
 
     pub function_stopped : (j : Refusal) → q ≡ Err j → FunctionNoted T n i t D at begin (Err j) D₃
     function_stopped j b =
         let o = function_stops T t n i d p w e m r q h s l.answer j b in
         record { answer = o; same_length = l.same_length ∙ long; kept = others; found = λ whole F u tl small room f. absurd (no_function (sizes_in T) (function_of T n i t) j F u o f) }
 
-    row_found : (whole : List ℕ) (F : Function) (u : List ℕ) → Tail t whole → length whole < 4294967296 → at + row_width (get_or T 17 0) ≤ length D → function_of T n i t ≡ taken F u
+    row_found : (whole : List ℕ) (F : Function) (u : List ℕ) → Tail t whole → length whole < 4294967296 → at + row_width (label_count T) ≤ length D → function_of T n i t ≡ taken F u
         → FunctionRow (edition_in T).width (sizes_in T) whole D₃ at begin F
     row_found whole F u tl small room f =
-        let number : Ok m ≡ checked (number_of 5 (get_or T 0 0) t) = sym h ∙ e ∙ ap (λ v. checked (number_of 5 v t)) w in
+        let number : Ok m ≡ checked (number_of 5 (domain_count T) t) = sym h ∙ e ∙ ap (λ v. checked (number_of 5 v t)) w in
         let k = giving_taken function_from _ F u (sym (function_on T t n i m number) ∙ f) in
         let b = giving_taken (λ b. (get_or t 0 0 ∷ [], b)) (expressions_of T n i (last_of m t)) k.0 u k.1 in
         let is : F ≡ function_from (get_or t 0 0 ∷ [], b.0) = k.2 ∙ ap function_from b.2 in
         let rest : expressions_of T n i r ≡ taken b.0 u = ap (expressions_of T n i) s ∙ b.1 in
         let size : z % 4294967296 ≡ z = omega arith in
         subst (FunctionRow (edition_in T).width (sizes_in T) whole D₃ at begin) (sym is) record {
-          cells = l.kept at (omega arith) ∙ noted_other D₁ D₂ (at + 1) _ g₂ at (omega arith) ∙ noted_here D D₁ at _ g₁ (omega arith) ∙ size ∙ c ∙ ap (λ v. get_or (sizes_in T) v 0) y ∙ sym (one_cells (sizes_in T) (get_or t 0 0) b.0);
-          begins = l.kept (at + 1) (omega arith) ∙ noted_here D₁ D₂ (at + 1) _ g₂ (omega (arith, noted_length D D₁ at _ g₁));
+          cells = l.kept at (omega arith) ∙ noted_other D₁ D₂ (at + first_cell_in) _ g₂ at (omega arith) ∙ noted_here D D₁ at _ g₁ (omega arith) ∙ size ∙ c ∙ ap (λ v. get_or (sizes_in T) v 0) y ∙ sym (one_cells (sizes_in T) (get_or t 0 0) b.0);
+          begins = l.kept (at + first_cell_in) (omega arith) ∙ noted_here D₁ D₂ (at + first_cell_in) _ g₂ (omega (arith, noted_length D D₁ at _ g₁));
           expressions = l.found whole b.0 u (tail_on r t whole tl (subst (λ v. Tail v t) (sym s) (last_tail m t))) small (omega (arith, long)) rest;
         }
 
@@ -140,7 +141,7 @@ module _ (T t D : List ℕ) (n i at begin d : ℕ) (p : Checked) (w : d ≡ get_
     }
 
 -- where its row begins
-pub placed : (T t D D' : List ℕ) (n i at begin : ℕ) (r : Result Counted Refusal) → at ≡ row_width (get_or T 17 0) * i → FunctionNoted T n i t D at begin r D' → FunctionNoted T n i t D (row_width (get_or T 17 0) * i) begin r D'
+pub placed : (T t D D' : List ℕ) (n i at begin : ℕ) (r : Result Counted Refusal) → at ≡ row_width (label_count T) * i → FunctionNoted T n i t D at begin r D' → FunctionNoted T n i t D (row_width (label_count T) * i) begin r D'
 placed T t D D' n i at begin r e N = subst (λ a. FunctionNoted T n i t D a begin r D') e N
 
 -- ── functions ──
@@ -175,18 +176,18 @@ functions_noted_none T t D n zero i begin z = record {
   answer = functions_none T t n zero i z;
   same_length = refl;
   kept = λ j b. refl;
-  found = λ whole Fs u tl small room f. (let y : [] ≡ Fs = cc in subst (FunctionRows (edition_in T).width (sizes_in T) whole D (row_width (get_or T 17 0)) i begin) y tt);
+  found = λ whole Fs u tl small room f. (let y : [] ≡ Fs = cc in subst (FunctionRows (edition_in T).width (sizes_in T) whole D (row_width (label_count T)) i begin) y tt);
 }
 functions_noted_none T t D n (suc k) i begin z = absurd (omega arith)
 
 -- a label's expression each
-label_count : (T t : List ℕ) (n i : ℕ) (F : Function) (u : List ℕ) → function_of T n i t ≡ taken F u → length F.at_label ≡ get_or T 17 0
+expressions_counted : (T t : List ℕ) (n i : ℕ) (F : Function) (u : List ℕ) → function_of T n i t ≡ taken F u → length F.at_label ≡ label_count T
 unfolding read_function
-label_count T t n i F u f =
+expressions_counted T t n i F u f =
     let k = giving_taken function_from _ F u f in
     let b = both_taken _ (expressions_of T n i) t k.0 u k.1 in
-    let c = both_taken (start_of T n i) (label_expressions T n i (get_or T 17 0)) b.0 k.0.1 u b.2 in
-    ap (λ (F : Function). length F.at_label) k.2 ∙ for_each_count (labels_of T 0 (get_or T 17 0)) (for_label T n i) c.0 k.0.1.1 u c.2 ∙ from_length 0 (get_or T 17 0) _
+    let c = both_taken (start_of T n i) (label_expressions T n i (label_count T)) b.0 k.0.1 u b.2 in
+    ap (λ (F : Function). length F.at_label) k.2 ∙ for_each_count (labels_of T 0 (label_count T)) (for_label T n i) c.0 k.0.1.1 u c.2 ∙ from_length 0 (label_count T) _
 
 steps : (w i k : ℕ) → (k ≡ 0 → ⊥) → (w * (i + 1) ≡ w * i + w) × (w * i + w ≤ w * (i + k)) × (w * (i + 1 + (k - 1)) ≡ w * (i + k))
 steps w i k z =
@@ -205,9 +206,9 @@ cells_left D t m c r F v fine e g =
     let o : c ≡ cells_of D F = ap (λ x. x.cells) q in
     (sym (tail_at v t (subst (Fine t) g fine)) ∙ ap (λ n. last_of n t) l, o)
 
-module _ (T t D D₁ : List ℕ) (n k i begin : ℕ) (p : Result Counted Refusal) (z : k ≡ 0 → ⊥) (N : FunctionNoted T n i t D (row_width (get_or T 17 0) * i) begin p D₁) where
+module _ (T t D D₁ : List ℕ) (n k i begin : ℕ) (p : Result Counted Refusal) (z : k ≡ 0 → ⊥) (N : FunctionNoted T n i t D (row_width (label_count T) * i) begin p D₁) where
   abbrev w : ℕ
-  w = row_width (get_or T 17 0)
+  w = row_width (label_count T)
 
   functions_refused : (j : Refusal) → p ≡ Err j → FunctionsNoted T n k i t D begin (Err j) D₁
   functions_refused j h =
@@ -237,11 +238,11 @@ module _ (T t D D₁ : List ℕ) (n k i begin : ℕ) (p : Result Counted Refusal
         let st = steps w i k z in
         let y = giving_taken (λ p. p.0 ∷ p.1) _ Fs u (sym (functions_next T t n k i z) ∙ f) in
         let b = both_taken (function_of T n i) (series (k - 1) (i + 1) (function_of T n)) t y.0 u y.1 in
-        let left = cells_left (sizes_in T) t one.left one.cells (function_of T n i t) y.0.0 b.0 (function_ends (edition_in T) (get_or T 0 0) (labels_of T 0 (get_or T 17 0)) (replicate n 1) i t) (sym h ∙ N.answer) b.1 in
+        let left = cells_left (sizes_in T) t one.left one.cells (function_of T n i t) y.0.0 b.0 (function_ends (edition_in T) (domain_count T) (labels_of T 0 (label_count T)) (replicate n 1) i t) (sym h ∙ N.answer) b.1 in
         let rest : series (k - 1) (i + 1) (function_of T n) r ≡ taken y.0.1 u = ap (series (k - 1) (i + 1) (function_of T n)) (s ∙ sym left.0) ∙ b.2 in
         let row : FunctionRow (edition_in T).width (sizes_in T) whole D₁ (w * i) begin y.0.0 = N.found whole y.0.0 b.0 tl small (omega (arith, st.1)) b.1 in
         let here : FunctionRow (edition_in T).width (sizes_in T) whole D₂ (w * i) begin y.0.0 = row_stays (edition_in T).width (sizes_in T) whole D₁ D₂ (w * i) begin y.0.0
-        (λ j v. M.kept j (omega (arith, st.0, label_count T t n i y.0.0 b.0 b.1))) row in
+        (λ j v. M.kept j (omega (arith, st.0, expressions_counted T t n i y.0.0 b.0 b.1))) row in
         let others : FunctionRows (edition_in T).width (sizes_in T) whole D₂ w (i + 1) (begin + one.cells) y.0.1 = M.found whole y.0.1 u (tail_on r t whole tl (subst (λ v. Tail v t) (sym s) (last_tail one.left t))) small (omega (arith, st.2, N.same_length)) rest in
         subst (FunctionRows (edition_in T).width (sizes_in T) whole D₂ w i begin) (sym y.2) (
           here,
@@ -289,7 +290,7 @@ functions_start T t D n k i begin = record {
 }
 
 module _ (T t D₀ D D₁ u : List ℕ) (n k i begin left cells j : ℕ) (p : Result Counted Refusal) (s : FunctionsGoing T t D₀ n k i begin D left cells j) (lt : j < i + k) (is_u : u ≡ last_of left t)
-    (N : FunctionNoted T n j u D (row_width (get_or T 17 0) * j) (begin + cells) p D₁) where
+    (N : FunctionNoted T n j u D (row_width (label_count T) * j) (begin + cells) p D₁) where
   some : i + k - j ≡ 0 → ⊥
   some z = omega (arith, z, lt)
 
@@ -299,7 +300,7 @@ module _ (T t D₀ D D₁ u : List ℕ) (n k i begin left cells j : ℕ) (p : Re
 
   module _ (one : Counted) (h : p ≡ Ok one) (few : CellsBound p 1) where
     ended : one.left ≤ length u
-    ended = function_left (sizes_in T) u one.left one.cells (function_of T n j u) (function_ends (edition_in T) (get_or T 0 0) (labels_of T 0 (get_or T 17 0)) (replicate n 1) j u) (sym h ∙ N.answer)
+    ended = function_left (sizes_in T) u one.left one.cells (function_of T n j u) (function_ends (edition_in T) (domain_count T) (labels_of T 0 (label_count T)) (replicate n 1) j u) (sym h ∙ N.answer)
 
     same : last_of one.left u ≡ last_of one.left t
     same =

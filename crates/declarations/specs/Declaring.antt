@@ -4,7 +4,8 @@ use Rattle.std.specs.Prelude.{◌≡◌, List, map, ℕ, ◌+◌, length, get_or
 use Rattle.std.proofs.Math.Seq.{paste}
 use Rattle.eb3.specs.RuleSets.{Function, Process, RuleSet}
 use Rattle.eb3.specs.Measures.{sat, row_of}
-use Rattle.arguments.specs.Tables.{process_place, declared, callee}
+use Rattle.arguments.specs.Layout.{process_place, size_in, reach_in, breadth_in, body_in, function_count, processes_place}
+use Rattle.arguments.specs.Tables.{declared, callee}
 
 -- These domains and labels.
 pub record Heads (T : List ℕ) (domains : List ℕ) (labels : List (List ℕ)) : Type 0 where
@@ -14,7 +15,7 @@ pub record Heads (T : List ℕ) (domains : List ℕ) (labels : List (List ℕ)) 
 -- As many functions besides, of one parameter each.
 pub record Tables (T : List ℕ) (domains : List ℕ) (labels : List (List ℕ)) (functions : List Function) : Type 0 where
   pub heads : Heads T domains labels
-  pub same_functions : get_or T 210 0 ≡ length functions
+  pub same_functions : function_count T ≡ length functions
   pub one_parameter : (f : ℕ) → get_or (map (λ (F : Function). length F.parameters) functions) f 1 ≡ 1
 
 -- All that a process after those of R is read by, and its processes' measures.
@@ -27,4 +28,4 @@ pub record Declares (T : List ℕ) (R : RuleSet) : Type 0 where
 -- Process p entered: its row (how many parameters, and they), its measures, and the words left at its term.
 unfoldable pub entered_process : List ℕ → ℕ → List ℕ → ℕ → ℕ → ℕ → ℕ → List ℕ
 entered_process T p l size reach breadth left =
-    set (set (set (set (set (paste T (process_place p) l (length l)) (process_place p + 5) size) (process_place p + 6) reach) (process_place p + 7) breadth) (process_place p + 8) left) 211 (p + 1)
+    set (set (set (set (set (paste T (process_place p) l (length l)) (process_place p + size_in) size) (process_place p + reach_in) reach) (process_place p + breadth_in) breadth) (process_place p + body_in) left) processes_place (p + 1)

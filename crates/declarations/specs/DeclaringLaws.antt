@@ -22,6 +22,7 @@ use Rattle.eb3.proofs.Laws.Reading.{Sound, count_sound, counted_sound}
 use Rattle.eb3.proofs.Laws.RuleSets.{get_d_map, functions_counted, domain_is}
 use Rattle.eb3.proofs.Laws.Attributes.{no_domain_beyond}
 use Rattle.eb3.proofs.Laws.Signatures.{Alike, rows_grown}
+use Rattle.arguments.specs.Layout.{labels_place, functions_place, processes_place, process_place, size_in, reach_in, breadth_in, domain_count, label_count, process_count, body_at, label_words, domains_place, label_place, body_in}
 use Rattle.arguments.specs.Tables.{row, edition_in, declared, measure_row, callee}
 use Rattle.arguments.specs.TableLaws.{same_declared, domains_length, domain_at, labels_length, label_at, guard_declared}
 use Rattle.declarations.specs.Entering.{put_row, put_rows}
@@ -44,17 +45,17 @@ domains_in_front t ds u e = sound.0 ∙ ap (λ l. length ds ∷ (l ++ u)) (words
     words [] = refl
     words (x ∷ l) = ap (λ r. x ∷ r) (words l)
 
-domains_copied : (T t ds u : List ℕ) → read_domains t ≡ taken ds u → paste T 0 t (get_or t 0 0 + 1) ≡ length ds ∷ (ds ++ drop (suc (length ds)) T)
+domains_copied : (T t ds u : List ℕ) → read_domains t ≡ taken ds u → paste T domains_place t (get_or t 0 0 + 1) ≡ length ds ∷ (ds ++ drop (suc (length ds)) T)
 domains_copied T t ds u e =
-    ap (λ s. paste T 0 s (get_or s 0 0 + 1)) (domains_in_front t ds u e)
+    ap (λ s. paste T domains_place s (get_or s 0 0 + 1)) (domains_in_front t ds u e)
     ∙ ap (λ n. take n (length ds ∷ (ds ++ u)) ++ drop (0 + n) T) (let z : length ds + 1 ≡ suc (length ds) = omega arith in z)
     ∙ ap (λ n. (length ds ∷ take (length ds) (ds ++ u)) ++ drop n T) (let z : 0 + suc (length ds) ≡ suc (length ds) = omega arith in z)
     ∙ ap (λ l. length ds ∷ (l ++ drop (suc (length ds)) T)) (take-append_seam ds u)
 
-pub domains_counted : (T t ds u : List ℕ) → read_domains t ≡ taken ds u → 17 ≤ length T → get_or (paste T 0 t (get_or t 0 0 + 1)) 0 0 ≡ length ds
-domains_counted T t ds u e room = ap (λ l. get_or l 0 0) (domains_copied T t ds u e)
+pub domains_counted : (T t ds u : List ℕ) → read_domains t ≡ taken ds u → labels_place ≤ length T → domain_count (paste T domains_place t (get_or t 0 0 + 1)) ≡ length ds
+domains_counted T t ds u e room = ap (λ l. domain_count l) (domains_copied T t ds u e)
 
-pub domains_entered : (T t ds u : List ℕ) → read_domains t ≡ taken ds u → 17 ≤ length T → (declared (paste T 0 t (get_or t 0 0 + 1))).domains ≡ ds
+pub domains_entered : (T t ds u : List ℕ) → read_domains t ≡ taken ds u → labels_place ≤ length T → (declared (paste T domains_place t (get_or t 0 0 + 1))).domains ≡ ds
 domains_entered T t ds u e room = ap (λ l. (declared l).domains) (domains_copied T t ds u e) ∙ ext_get_or 0 (declared W).domains ds (domains_length W)
     (λ d b. let c : d < length ds = omega (arith, domains_length W) in
     domain_at W d c ∙ ap (λ n. get_or W n 0) (let z : 1 + d ≡ suc d = omega arith in z) ∙ get_or-append ds (drop (suc (length ds)) T) 0 d c)
@@ -62,9 +63,9 @@ domains_entered T t ds u e room = ap (λ l. (declared l).domains) (domains_copie
     W : List ℕ
     W = length ds ∷ (ds ++ drop (suc (length ds)) T)
 
--- ── labels: their count at 17, their rows from 18 ──
+-- ── labels: their count and their rows ──
 
-module _ (at : ℕ) (l T : List ℕ) (room : at + 3 ≤ length T) (short : length l ≤ 2) where
+module _ (at : ℕ) (l T : List ℕ) (room : at + label_words ≤ length T) (short : length l ≤ 2) where
   row_length : length (put_row at l T) ≡ length T
   unfolding put_row
   row_length = length-paste T at (length l ∷ l) (suc (length l)) (omega arith) (omega arith)
@@ -79,191 +80,191 @@ module _ (at : ℕ) (l T : List ℕ) (room : at + 3 ≤ length T) (short : lengt
 
 -- Rows that have room.
 abbrev Fitting : ℕ → List (List ℕ) → List ℕ → Type 0
-Fitting at ls T = (at + 3 * length ls ≤ length T) × All (λ l. length l ≤ 2) ls
+Fitting at ls T = (at + label_words * length ls ≤ length T) × All (λ l. length l ≤ 2) ls
 
-next_fits : (at : ℕ) (l : List ℕ) (ls : List (List ℕ)) (T : List ℕ) → Fitting at (l ∷ ls) T → Fitting (at + 3) ls (put_row at l T)
+next_fits : (at : ℕ) (l : List ℕ) (ls : List (List ℕ)) (T : List ℕ) → Fitting at (l ∷ ls) T → Fitting (at + label_words) ls (put_row at l T)
 next_fits at l ls T f = (omega (arith, f.0, row_length at l T (omega (arith, f.0)) f.1.0), f.1.1)
 
 rows_length : (at : ℕ) (ls : List (List ℕ)) (T : List ℕ) → Fitting at ls T → length (put_rows at ls T) ≡ length T
 unfolding put_rows
 rows_length at [] T f = refl
-rows_length at (l ∷ ls) T f = rows_length (at + 3) ls (put_row at l T) (next_fits at l ls T f) ∙ row_length at l T (omega (arith, f.0)) f.1.0
+rows_length at (l ∷ ls) T f = rows_length (at + label_words) ls (put_row at l T) (next_fits at l ls T f) ∙ row_length at l T (omega (arith, f.0)) f.1.0
 
 rows_before : (at : ℕ) (ls : List (List ℕ)) (T : List ℕ) → Fitting at ls T → (i : ℕ) → i < at → get_or (put_rows at ls T) i 0 ≡ get_or T i 0
 unfolding put_rows
 rows_before at [] T f i h = refl
-rows_before at (l ∷ ls) T f i h = rows_before (at + 3) ls (put_row at l T) (next_fits at l ls T f) i (omega arith) ∙ row_before at l T (omega (arith, f.0)) f.1.0 i h
+rows_before at (l ∷ ls) T f i h = rows_before (at + label_words) ls (put_row at l T) (next_fits at l ls T f) i (omega arith) ∙ row_before at l T (omega (arith, f.0)) f.1.0 i h
 
-rows_at : (at : ℕ) (ls : List (List ℕ)) (T : List ℕ) → Fitting at ls T → (j : ℕ) → j < length ls → row (put_rows at ls T) (at + 3 * j) ≡ get_or ls j []
+rows_at : (at : ℕ) (ls : List (List ℕ)) (T : List ℕ) → Fitting at ls T → (j : ℕ) → j < length ls → row (put_rows at ls T) (at + label_words * j) ≡ get_or ls j []
 unfolding put_rows
 rows_at at [] T f j h = absurd (let z : ⊥ = omega arith in z)
 rows_at at (l ∷ ls) T f zero h =
-    ap (row U) (let z : at + 3 * 0 ≡ at = omega arith in z)
+    ap (row U) (let z : at + label_words * 0 ≡ at = omega arith in z)
     ∙ row_is U at l (omega (arith, f.0, f.1.0, rows_length at (l ∷ ls) T f)) (ap (λ n. get_or U n 0) (let z : at ≡ at + 0 = omega arith in z) ∙ inside 0 (omega arith))
     (λ i b. ap (λ n. get_or U n 0) (let z : at + 1 + i ≡ at + suc i = omega arith in z) ∙ inside (suc i) (omega arith))
   where
     U : List ℕ
-    U = put_rows (at + 3) ls (put_row at l T)
+    U = put_rows (at + label_words) ls (put_row at l T)
 
     inside : (j : ℕ) → j ≤ length l → get_or U (at + j) 0 ≡ get_or (length l ∷ l) j 0
-    inside j b = rows_before (at + 3) ls (put_row at l T) (next_fits at l ls T f) (at + j) (omega (arith, f.1.0)) ∙ row_inside at l T (omega (arith, f.0)) f.1.0 j b
+    inside j b = rows_before (at + label_words) ls (put_row at l T) (next_fits at l ls T f) (at + j) (omega (arith, f.1.0)) ∙ row_inside at l T (omega (arith, f.0)) f.1.0 j b
 rows_at at (l ∷ ls) T f (suc j) h =
-    ap (row (put_rows (at + 3) ls (put_row at l T))) (let z : at + 3 * suc j ≡ at + 3 + 3 * j = omega arith in z)
-    ∙ rows_at (at + 3) ls (put_row at l T) (next_fits at l ls T f) j (omega arith)
+    ap (row (put_rows (at + label_words) ls (put_row at l T))) (let z : at + label_words * suc j ≡ at + label_words + label_words * j = omega arith in z)
+    ∙ rows_at (at + label_words) ls (put_row at l T) (next_fits at l ls T f) j (omega arith)
 
 -- Sixty-four of them end where the functions' count is.
-labels_fit : (T : List ℕ) (ls : List (List ℕ)) → 210 ≤ length T → length ls ≤ 64 → All (λ l. length l ≤ 2) ls → Fitting 18 ls (set T 17 (length ls))
-labels_fit T ls room few short = (omega (arith, length-set T 17 (length ls)), short)
+labels_fit : (T : List ℕ) (ls : List (List ℕ)) → functions_place ≤ length T → length ls ≤ 64 → All (λ l. length l ≤ 2) ls → Fitting (label_place 0) ls (set T labels_place (length ls))
+labels_fit T ls room few short = (omega (arith, length-set T labels_place (length ls)), short)
 
-pub labels_counted : (T : List ℕ) (ls : List (List ℕ)) → 210 ≤ length T → length ls ≤ 64 → All (λ l. length l ≤ 2) ls → get_or (put_rows 18 ls (set T 17 (length ls))) 17 0 ≡ length ls
-labels_counted T ls room few short = rows_before 18 ls (set T 17 (length ls)) (labels_fit T ls room few short) 17 (omega arith) ∙ get_or-set_same T 17 (length ls) 0 (omega arith)
+pub labels_counted : (T : List ℕ) (ls : List (List ℕ)) → functions_place ≤ length T → length ls ≤ 64 → All (λ l. length l ≤ 2) ls → label_count (put_rows (label_place 0) ls (set T labels_place (length ls))) ≡ length ls
+labels_counted T ls room few short = rows_before (label_place 0) ls (set T labels_place (length ls)) (labels_fit T ls room few short) labels_place (omega arith) ∙ get_or-set_same T labels_place (length ls) 0 (omega arith)
 
-pub labels_entered : (T : List ℕ) (ls : List (List ℕ)) → 210 ≤ length T → length ls ≤ 64 → All (λ l. length l ≤ 2) ls → get_or T 0 0 ≤ 16 → Heads (put_rows 18 ls (set T 17 (length ls))) (declared T).domains ls
+pub labels_entered : (T : List ℕ) (ls : List (List ℕ)) → functions_place ≤ length T → length ls ≤ 64 → All (λ l. length l ≤ 2) ls → domain_count T ≤ 16 → Heads (put_rows (label_place 0) ls (set T labels_place (length ls))) (declared T).domains ls
 labels_entered T ls room few short domains = record {
-  same_domains = domains_kept T U domains (λ i b. rows_before 18 ls W fit i (omega arith) ∙ get_or-set_other T 17 i (length ls) 0 (omega arith));
-  same_labels = ext_get_or [] (declared U).labels ls (labels_length U ∙ count) (λ j b. label_at U j (omega (arith, labels_length U)) ∙ rows_at 18 ls W fit j (omega (arith, labels_length U, count)));
+  same_domains = domains_kept T U domains (λ i b. rows_before (label_place 0) ls W fit i (omega arith) ∙ get_or-set_other T labels_place i (length ls) 0 (omega arith));
+  same_labels = ext_get_or [] (declared U).labels ls (labels_length U ∙ count) (λ j b. label_at U j (omega (arith, labels_length U)) ∙ rows_at (label_place 0) ls W fit j (omega (arith, labels_length U, count)));
 }
   where
     W : List ℕ
-    W = set T 17 (length ls)
+    W = set T labels_place (length ls)
 
     U : List ℕ
-    U = put_rows 18 ls W
+    U = put_rows (label_place 0) ls W
 
-    fit : Fitting 18 ls W
+    fit : Fitting (label_place 0) ls W
     fit = labels_fit T ls room few short
 
-    count : get_or U 17 0 ≡ length ls
+    count : label_count U ≡ length ls
     count = labels_counted T ls room few short
 
--- ── functions: their count at 210 ──
+-- ── functions: their count ──
 
-pub functions_entered : (T ds : List ℕ) (ls : List (List ℕ)) (n : ℕ) → 211 ≤ length T → get_or T 0 0 ≤ 16 → get_or T 17 0 ≤ 64 → All (λ l. length l ≤ 2) (declared T).labels → Heads T ds ls → Heads (set T 210 n) ds ls
-functions_entered T ds ls n room domains labels short = heads_kept T (set T 210 n) room (length-set T 210 n) domains labels short (λ i b. get_or-set_other T 210 i n 0 (omega arith)) ds ls
+pub functions_entered : (T ds : List ℕ) (ls : List (List ℕ)) (n : ℕ) → processes_place ≤ length T → domain_count T ≤ 16 → label_count T ≤ 64 → All (λ l. length l ≤ 2) (declared T).labels → Heads T ds ls → Heads (set T functions_place n) ds ls
+functions_entered T ds ls n room domains labels short = heads_kept T (set T functions_place n) room (length-set T functions_place n) domains labels short (λ i b. get_or-set_other T functions_place i n 0 (omega arith)) ds ls
 
 -- ── no process yet ──
 
-pub processes_start : (T ds : List ℕ) (ls : List (List ℕ)) (fs : List Function) → 212 ≤ length T → get_or T 0 0 ≤ 16 → get_or T 17 0 ≤ 64 → All (λ l. length l ≤ 2) (declared T).labels → Tables T ds ls fs → Declares (set T 211 0) (without_processes (edition_in T) ds ls fs)
+pub processes_start : (T ds : List ℕ) (ls : List (List ℕ)) (fs : List Function) → process_place 0 ≤ length T → domain_count T ≤ 16 → label_count T ≤ 64 → All (λ l. length l ≤ 2) (declared T).labels → Tables T ds ls fs → Declares (set T processes_place 0) (without_processes (edition_in T) ds ls fs)
 unfolding table declared
 processes_start T ds ls fs room domains labels short k = record {
   same_edition = refl;
-  tables = tables_kept T (set T 211 0) (omega arith) (length-set T 211 0) domains labels short (λ i b. get_or-set_other T 211 i 0 0 (omega arith)) ds ls fs k;
-  same_processes = same_by_rows (set T 211 0) [] none (λ p b. absurd (let z : ⊥ = omega arith in z));
-  same_measures = fun_ext λ p. callee_beyond (set T 211 0) p (omega (arith, none));
+  tables = tables_kept T (set T processes_place 0) (omega arith) (length-set T processes_place 0) domains labels short (λ i b. get_or-set_other T processes_place i 0 0 (omega arith)) ds ls fs k;
+  same_processes = same_by_rows (set T processes_place 0) [] none (λ p b. absurd (let z : ⊥ = omega arith in z));
+  same_measures = fun_ext λ p. callee_beyond (set T processes_place 0) p (omega (arith, none));
 }
   where
-    none : get_or (set T 211 0) 211 0 ≡ 0
-    none = get_or-set_same T 211 0 0 (omega arith)
+    none : process_count (set T processes_place 0) ≡ 0
+    none = get_or-set_same T processes_place 0 0 (omega arith)
 
 -- ── one process more ──
 
 -- Four words stored after a row, and a count before it.
 module _ (B : List ℕ) (at a b c d n : ℕ) where
   abbrev B₁ : List ℕ
-  B₁ = set B (at + 5) a
+  B₁ = set B (at + size_in) a
 
   abbrev B₂ : List ℕ
-  B₂ = set B₁ (at + 6) b
+  B₂ = set B₁ (at + reach_in) b
 
   abbrev B₃ : List ℕ
-  B₃ = set B₂ (at + 7) c
+  B₃ = set B₂ (at + breadth_in) c
 
   abbrev B₄ : List ℕ
-  B₄ = set B₃ (at + 8) d
+  B₄ = set B₃ (at + body_in) d
 
   abbrev stored : List ℕ
-  stored = set B₄ 211 n
+  stored = set B₄ processes_place n
 
   stored_length : length stored ≡ length B
-  stored_length = length-set B₄ 211 n ∙ length-set B₃ (at + 8) d ∙ length-set B₂ (at + 7) c ∙ length-set B₁ (at + 6) b ∙ length-set B (at + 5) a
+  stored_length = length-set B₄ processes_place n ∙ length-set B₃ (at + body_in) d ∙ length-set B₂ (at + breadth_in) c ∙ length-set B₁ (at + reach_in) b ∙ length-set B (at + size_in) a
 
-  stored_other : (i : ℕ) → i ≢ 211 → i < at + 5 → get_or stored i 0 ≡ get_or B i 0
+  stored_other : (i : ℕ) → i ≢ processes_place → i < at + size_in → get_or stored i 0 ≡ get_or B i 0
   stored_other i h k =
-      get_or-set_other B₄ 211 i n 0 h ∙ get_or-set_other B₃ (at + 8) i d 0 (omega arith) ∙ get_or-set_other B₂ (at + 7) i c 0 (omega arith)
-      ∙ get_or-set_other B₁ (at + 6) i b 0 (omega arith) ∙ get_or-set_other B (at + 5) i a 0 (omega arith)
+      get_or-set_other B₄ processes_place i n 0 h ∙ get_or-set_other B₃ (at + body_in) i d 0 (omega arith) ∙ get_or-set_other B₂ (at + breadth_in) i c 0 (omega arith)
+      ∙ get_or-set_other B₁ (at + reach_in) i b 0 (omega arith) ∙ get_or-set_other B (at + size_in) i a 0 (omega arith)
 
-  module _ (behind : 211 < at) (room : at + 8 < length B) where
-    first : get_or stored (at + 5) 0 ≡ a
-    first = get_or-set_other B₄ 211 (at + 5) n 0 (omega arith) ∙ get_or-set_other B₃ (at + 8) (at + 5) d 0 (omega arith) ∙ get_or-set_other B₂ (at + 7) (at + 5) c 0 (omega arith)
-        ∙ get_or-set_other B₁ (at + 6) (at + 5) b 0 (omega arith) ∙ get_or-set_same B (at + 5) a 0 (omega arith)
+  module _ (behind : processes_place < at) (room : at + body_in < length B) where
+    first : get_or stored (at + size_in) 0 ≡ a
+    first = get_or-set_other B₄ processes_place (at + size_in) n 0 (omega arith) ∙ get_or-set_other B₃ (at + body_in) (at + size_in) d 0 (omega arith) ∙ get_or-set_other B₂ (at + breadth_in) (at + size_in) c 0 (omega arith)
+        ∙ get_or-set_other B₁ (at + reach_in) (at + size_in) b 0 (omega arith) ∙ get_or-set_same B (at + size_in) a 0 (omega arith)
 
-    second : get_or stored (at + 6) 0 ≡ b
-    second = get_or-set_other B₄ 211 (at + 6) n 0 (omega arith) ∙ get_or-set_other B₃ (at + 8) (at + 6) d 0 (omega arith) ∙ get_or-set_other B₂ (at + 7) (at + 6) c 0 (omega arith)
-        ∙ get_or-set_same B₁ (at + 6) b 0 (omega (arith, length-set B (at + 5) a))
+    second : get_or stored (at + reach_in) 0 ≡ b
+    second = get_or-set_other B₄ processes_place (at + reach_in) n 0 (omega arith) ∙ get_or-set_other B₃ (at + body_in) (at + reach_in) d 0 (omega arith) ∙ get_or-set_other B₂ (at + breadth_in) (at + reach_in) c 0 (omega arith)
+        ∙ get_or-set_same B₁ (at + reach_in) b 0 (omega (arith, length-set B (at + size_in) a))
 
-    third : get_or stored (at + 7) 0 ≡ c
-    third = get_or-set_other B₄ 211 (at + 7) n 0 (omega arith) ∙ get_or-set_other B₃ (at + 8) (at + 7) d 0 (omega arith)
-        ∙ get_or-set_same B₂ (at + 7) c 0 (omega (arith, length-set B₁ (at + 6) b, length-set B (at + 5) a))
+    third : get_or stored (at + breadth_in) 0 ≡ c
+    third = get_or-set_other B₄ processes_place (at + breadth_in) n 0 (omega arith) ∙ get_or-set_other B₃ (at + body_in) (at + breadth_in) d 0 (omega arith)
+        ∙ get_or-set_same B₂ (at + breadth_in) c 0 (omega (arith, length-set B₁ (at + reach_in) b, length-set B (at + size_in) a))
 
-    fourth : get_or stored (at + 8) 0 ≡ d
-    fourth = get_or-set_other B₄ 211 (at + 8) n 0 (omega arith)
-        ∙ get_or-set_same B₃ (at + 8) d 0 (omega (arith, length-set B₂ (at + 7) c, length-set B₁ (at + 6) b, length-set B (at + 5) a))
+    fourth : get_or stored (at + body_in) 0 ≡ d
+    fourth = get_or-set_other B₄ processes_place (at + body_in) n 0 (omega arith)
+        ∙ get_or-set_same B₃ (at + body_in) d 0 (omega (arith, length-set B₂ (at + breadth_in) c, length-set B₁ (at + reach_in) b, length-set B (at + size_in) a))
 
-    count : get_or stored 211 0 ≡ n
-    count = get_or-set_same B₄ 211 n 0 (omega (arith, stored_length, length-set B₄ 211 n))
+    count : process_count stored ≡ n
+    count = get_or-set_same B₄ processes_place n 0 (omega (arith, stored_length, length-set B₄ processes_place n))
 
 -- The words of a process entered, and those before it.
-module _ (T : List ℕ) (p : ℕ) (l : List ℕ) (m : Measure) (left : ℕ) (short : length l ≤ 5) (room : 212 + 9 * (p + 1) ≤ length T) where
+module _ (T : List ℕ) (p : ℕ) (l : List ℕ) (m : Measure) (left : ℕ) (short : length l ≤ 5) (room : process_place (p + 1) ≤ length T) where
   abbrev B : List ℕ
-  B = paste T (212 + 9 * p) l (length l)
+  B = paste T (process_place p) l (length l)
 
   abbrev U : List ℕ
   U = entered_process T p l m.size m.reach m.breadth left
 
   B_length : length B ≡ length T
-  B_length = length-paste T (212 + 9 * p) l (length l) (omega arith) (omega arith)
+  B_length = length-paste T (process_place p) l (length l) (omega arith) (omega arith)
 
   pub entered_length : length U ≡ length T
   unfolding entered_process
-  entered_length = stored_length B (212 + 9 * p) m.size m.reach m.breadth left (p + 1) ∙ B_length
+  entered_length = stored_length B (process_place p) m.size m.reach m.breadth left (p + 1) ∙ B_length
 
-  pub entered_before : (i : ℕ) → i ≢ 211 → i < 212 + 9 * p → get_or U i 0 ≡ get_or T i 0
+  pub entered_before : (i : ℕ) → i ≢ processes_place → i < process_place p → get_or U i 0 ≡ get_or T i 0
   unfolding entered_process
-  entered_before i h k = stored_other B (212 + 9 * p) m.size m.reach m.breadth left (p + 1) i h (omega arith)
-      ∙ paste_before T (212 + 9 * p) l (length l) (omega arith) (omega arith) i k
+  entered_before i h k = stored_other B (process_place p) m.size m.reach m.breadth left (p + 1) i h (omega arith)
+      ∙ paste_before T (process_place p) l (length l) (omega arith) (omega arith) i k
 
-  entered_row : (j : ℕ) → j < length l → get_or U (212 + 9 * p + j) 0 ≡ get_or l j 0
+  entered_row : (j : ℕ) → j < length l → get_or U (process_place p + j) 0 ≡ get_or l j 0
   unfolding entered_process
-  entered_row j h = stored_other B (212 + 9 * p) m.size m.reach m.breadth left (p + 1) (212 + 9 * p + j) (omega arith) (omega arith)
-      ∙ paste_inside T (212 + 9 * p) l (length l) (omega arith) (omega arith) j h
+  entered_row j h = stored_other B (process_place p) m.size m.reach m.breadth left (p + 1) (process_place p + j) (omega arith) (omega arith)
+      ∙ paste_inside T (process_place p) l (length l) (omega arith) (omega arith) j h
 
-  entered_count : get_or U 211 0 ≡ p + 1
+  entered_count : process_count U ≡ p + 1
   unfolding entered_process
-  entered_count = count B (212 + 9 * p) m.size m.reach m.breadth left (p + 1) (omega arith) (omega (arith, B_length))
+  entered_count = count B (process_place p) m.size m.reach m.breadth left (p + 1) (omega arith) (omega (arith, B_length))
 
-  pub entered_left : get_or U (212 + 9 * p + 8) 0 ≡ left
+  pub entered_left : body_at U p ≡ left
   unfolding entered_process
-  entered_left = fourth B (212 + 9 * p) m.size m.reach m.breadth left (p + 1) (omega arith) (omega (arith, B_length))
+  entered_left = fourth B (process_place p) m.size m.reach m.breadth left (p + 1) (omega arith) (omega (arith, B_length))
 
   entered_measure : measure_row U p ≡ m
   unfolding entered_process
   entered_measure = λ i. record {
-    size = first B (212 + 9 * p) m.size m.reach m.breadth left (p + 1) (omega arith) (omega (arith, B_length)) i;
-    reach = second B (212 + 9 * p) m.size m.reach m.breadth left (p + 1) (omega arith) (omega (arith, B_length)) i;
-    breadth = third B (212 + 9 * p) m.size m.reach m.breadth left (p + 1) (omega arith) (omega (arith, B_length)) i;
+    size = first B (process_place p) m.size m.reach m.breadth left (p + 1) (omega arith) (omega (arith, B_length)) i;
+    reach = second B (process_place p) m.size m.reach m.breadth left (p + 1) (omega arith) (omega (arith, B_length)) i;
+    breadth = third B (process_place p) m.size m.reach m.breadth left (p + 1) (omega arith) (omega (arith, B_length)) i;
   }
 
   -- Processes before it keep their measures, and their rows if those are short.
   measure_kept : (q : ℕ) → q < p → measure_row U q ≡ measure_row T q
   measure_kept q h = λ i. record {
-    size = entered_before (212 + 9 * q + 5) (omega arith) (omega arith) i;
-    reach = entered_before (212 + 9 * q + 6) (omega arith) (omega arith) i;
-    breadth = entered_before (212 + 9 * q + 7) (omega arith) (omega arith) i;
+    size = entered_before (process_place q + size_in) (omega arith) (omega arith) i;
+    reach = entered_before (process_place q + reach_in) (omega arith) (omega arith) i;
+    breadth = entered_before (process_place q + breadth_in) (omega arith) (omega arith) i;
   }
 
-  row_stays : (q : ℕ) → q < p → length (row T (212 + 9 * q)) ≤ 4 → row U (212 + 9 * q) ≡ row T (212 + 9 * q)
-  row_stays q h few = row_kept T U (212 + 9 * q) 4 entered_length (omega arith) few (λ i a b. entered_before i (omega arith) (omega arith))
+  row_stays : (q : ℕ) → q < p → length (row T (process_place q)) ≤ 4 → row U (process_place q) ≡ row T (process_place q)
+  row_stays q h few = row_kept T U (process_place q) 4 entered_length (omega arith) few (λ i a b. entered_before i (omega arith) (omega arith))
 
-own_row : (T : List ℕ) (p : ℕ) (ds : List ℕ) (m : Measure) (left : ℕ) → length ds ≤ 4 → 212 + 9 * (p + 1) ≤ length T → row (entered_process T p (length ds ∷ ds) m.size m.reach m.breadth left) (212 + 9 * p) ≡ ds
+own_row : (T : List ℕ) (p : ℕ) (ds : List ℕ) (m : Measure) (left : ℕ) → length ds ≤ 4 → process_place (p + 1) ≤ length T → row (entered_process T p (length ds ∷ ds) m.size m.reach m.breadth left) (process_place p) ≡ ds
 own_row T p ds m left short room =
-    row_is W (212 + 9 * p) ds (omega (arith, entered_length T p (length ds ∷ ds) m left (omega arith) room))
-    (ap (λ n. get_or W n 0) (let z : 212 + 9 * p ≡ 212 + 9 * p + 0 = omega arith in z) ∙ entered_row T p (length ds ∷ ds) m left (omega arith) room 0 (omega arith))
-    (λ i b. ap (λ n. get_or W n 0) (let z : 212 + 9 * p + 1 + i ≡ 212 + 9 * p + suc i = omega arith in z) ∙ entered_row T p (length ds ∷ ds) m left (omega arith) room (suc i) (omega arith))
+    row_is W (process_place p) ds (omega (arith, entered_length T p (length ds ∷ ds) m left (omega arith) room))
+    (ap (λ n. get_or W n 0) (let z : process_place p ≡ process_place p + 0 = omega arith in z) ∙ entered_row T p (length ds ∷ ds) m left (omega arith) room 0 (omega arith))
+    (λ i b. ap (λ n. get_or W n 0) (let z : process_place p + 1 + i ≡ process_place p + suc i = omega arith in z) ∙ entered_row T p (length ds ∷ ds) m left (omega arith) room (suc i) (omega arith))
   where
     W : List ℕ
     W = entered_process T p (length ds ∷ ds) m.size m.reach m.breadth left
 
-pub process_entered : (T : List ℕ) (R : RuleSet) (P : Process) (m : Measure) (left : ℕ) → Declares T R → 212 + 9 * (length R.processes + 1) ≤ length T → get_or T 0 0 ≤ 16 → get_or T 17 0 ≤ 64 → All (λ l. length l ≤ 2) (declared T).labels
+pub process_entered : (T : List ℕ) (R : RuleSet) (P : Process) (m : Measure) (left : ℕ) → Declares T R → process_place (length R.processes + 1) ≤ length T → domain_count T ≤ 16 → label_count T ≤ 64 → All (λ l. length l ≤ 2) (declared T).labels
     → All (λ (Q : Process). length Q.parameters ≤ 4) R.processes → length P.parameters ≤ 4 → m ≡ measure_term (sat 65536) R (row_of (sat 65536) R (length R.processes)) P.term
     → Declares (entered_process T (length R.processes) (length P.parameters ∷ P.parameters) m.size m.reach m.breadth left) (with_process R P)
 process_entered T R P m left d room domains labels short few small e = record {
@@ -285,17 +286,17 @@ process_entered T R P m left d room domains labels short few small e = record {
     U : List ℕ
     U = entered_process T p l m.size m.reach m.breadth left
 
-    counted : get_or U 211 0 ≡ p + 1
+    counted : process_count U ≡ p + 1
     counted = entered_count T p l m left fits room
 
-    before : get_or T 211 0 ≡ p
+    before : process_count T ≡ p
     before = count_of_same T R.processes d.same_processes
 
     more : length (R.processes ++ (P ∷ [])) ≡ p + 1
     more = length-append R.processes (P ∷ [])
 
-    rows : (q : ℕ) → Dec (q ≡ p) → q < p + 1 → row U (212 + 9 * q) ≡ (get_or (R.processes ++ (P ∷ [])) q no_process).parameters
-    rows q (yes z) b = subst (λ k. row U (212 + 9 * k) ≡ (get_or (R.processes ++ (P ∷ [])) k no_process).parameters) (sym z)
+    rows : (q : ℕ) → Dec (q ≡ p) → q < p + 1 → row U (process_place q) ≡ (get_or (R.processes ++ (P ∷ [])) q no_process).parameters
+    rows q (yes z) b = subst (λ k. row U (process_place k) ≡ (get_or (R.processes ++ (P ∷ [])) k no_process).parameters) (sym z)
         (own_row T p P.parameters m left small room ∙ sym (ap (λ (Q : Process). Q.parameters) (get_or-append_seam R.processes P [] no_process)))
     rows q (no z) b =
         row_stays T p l m left fits room q below (subst (λ r. length r ≤ 4) (sym as_before) (all_at (λ (Q : Process). length Q.parameters ≤ 4) R.processes few q no_process below))
@@ -305,7 +306,7 @@ process_entered T R P m left d room domains labels short few small e = record {
         below : q < p
         below = omega (arith, z)
 
-        as_before : row T (212 + 9 * q) ≡ (process R q).parameters
+        as_before : row T (process_place q) ≡ (process R q).parameters
         as_before = row_of_same T R.processes d.same_processes q below
 
     other : (q : ℕ) → q ≢ p → callee T q ≡ cond (eqb q p) (measure_term (sat 65536) R (row_of (sat 65536) R p) P.term) (row_of (sat 65536) R p q)

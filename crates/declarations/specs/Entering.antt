@@ -7,7 +7,8 @@ use Rattle.eb3.specs.Cells.{cell_count}
 use Rattle.eb3.specs.RuleSets.{Function}
 use Rattle.eb3.specs.Reading.{Read, refused, taken, number_of, repeat, counted}
 use Rattle.scan.specs.Checking.{checked, Checked}
-use Rattle.arguments.specs.Tables.{from, row, label_place}
+use Rattle.arguments.specs.Layout.{label_place, label_words}
+use Rattle.arguments.specs.Tables.{from, row}
 use Rattle.declarations.specs.declared.Counted.{Counted}
 use Rattle.refusals.specs.declared.Refusal.{Refusal}
 use Rattle.refusals.specs.Numbers.{refusal}
@@ -16,13 +17,13 @@ use Rattle.refusals.specs.Numbers.{refusal}
 abbrev pub labels_of : List ℕ → ℕ → ℕ → List (List ℕ)
 labels_of T l k = from l k (λ i. row T (label_place i))
 
--- A row every three words: how many, and they.
+-- A row in the words of each label: how many, and they.
 unfoldable pub put_row : ℕ → List ℕ → List ℕ → List ℕ
 put_row at l T = paste T at (length l ∷ l) (suc (length l))
 
 unfoldable pub put_rows : ℕ → List (List ℕ) → List ℕ → List ℕ
 put_rows at [] T = T
-put_rows at (l ∷ ls) T = put_rows (at + 3) ls (put_row at l T)
+put_rows at (l ∷ ls) T = put_rows (at + label_words) ls (put_row at l T)
 
 -- What is entered of n labels: where they are read, their rows.
 pub record Entered (t T : List ℕ) (n at d : ℕ) (r : Checked) (T' : List ℕ) : Type 0 where

@@ -8,6 +8,7 @@ use Rattle.eb3.specs.ExpressionReading.{read_data}
 use Rattle.eb3.specs.RuleReading.{at_start_scope, at_label_scope, read_function}
 use Rattle.scan.specs.Checking.{checked, Checked}
 use Rattle.scan.specs.Laws.{Tail}
+use Rattle.arguments.specs.Layout.{domain_count, label_count}
 use Rattle.arguments.specs.Tables.{edition_in, declared}
 use Rattle.declarations.specs.declared.Counted.{Counted}
 use Rattle.declarations.specs.Entering.{labels_of, function_cells, functions_cells}
@@ -27,10 +28,10 @@ abbrev pub label_expressions : List ℕ → ℕ → ℕ → ℕ → Reader (List
 label_expressions T n i k = for_each (labels_of T 0 k) (for_label T n i)
 
 abbrev pub expressions_of : List ℕ → ℕ → ℕ → Reader (Data × List Data)
-expressions_of T n i = both (start_of T n i) (label_expressions T n i (get_or T 17 0))
+expressions_of T n i = both (start_of T n i) (label_expressions T n i (label_count T))
 
 abbrev pub function_of : List ℕ → ℕ → ℕ → Reader Function
-function_of T n = read_function (edition_in T) (get_or T 0 0) (labels_of T 0 (get_or T 17 0)) (replicate n 1)
+function_of T n = read_function (edition_in T) (domain_count T) (labels_of T 0 (label_count T)) (replicate n 1)
 
 -- ── what is noted ──
 
@@ -47,13 +48,13 @@ abbrev pub LabelsNoted : List ℕ → ℕ → ℕ → ℕ → List ℕ → List 
 LabelsNoted T n i k t D at r D' = Noted checked (label_expressions T n i k) t D at (at + k) (λ whole E ds. Standing (edition_in T).width whole E at ds) r D'
 
 abbrev pub ExpressionsNoted : List ℕ → ℕ → ℕ → List ℕ → List ℕ → ℕ → Checked → List ℕ → Type 0
-ExpressionsNoted T n i t D at r D' = Noted checked (expressions_of T n i) t D at (at + (1 + get_or T 17 0)) (λ whole E p. Standing (edition_in T).width whole E at (p.0 ∷ p.1)) r D'
+ExpressionsNoted T n i t D at r D' = Noted checked (expressions_of T n i) t D at (at + (1 + label_count T)) (λ whole E p. Standing (edition_in T).width whole E at (p.0 ∷ p.1)) r D'
 
 -- Of function i, a row, where `begin` cells are before its own; and of k functions from i on.
 abbrev pub FunctionNoted : List ℕ → ℕ → ℕ → List ℕ → List ℕ → ℕ → ℕ → Result Counted Refusal → List ℕ → Type 0
-FunctionNoted T n i t D at begin r D' = Noted (function_cells (declared T).domains) (function_of T n i) t D at (at + row_width (get_or T 17 0)) (λ whole E F. FunctionRow (edition_in T).width (declared T).domains whole E at begin F) r D'
+FunctionNoted T n i t D at begin r D' = Noted (function_cells (declared T).domains) (function_of T n i) t D at (at + row_width (label_count T)) (λ whole E F. FunctionRow (edition_in T).width (declared T).domains whole E at begin F) r D'
 
 abbrev pub FunctionsNoted : List ℕ → ℕ → ℕ → ℕ → List ℕ → List ℕ → ℕ → Result Counted Refusal → List ℕ → Type 0
 FunctionsNoted T n k i t D begin r D' =
-    Noted (functions_cells (declared T).domains) (series k i (function_of T n)) t D (row_width (get_or T 17 0) * i) (row_width (get_or T 17 0) * (i + k))
-    (λ whole E Fs. FunctionRows (edition_in T).width (declared T).domains whole E (row_width (get_or T 17 0)) i begin Fs) r D'
+    Noted (functions_cells (declared T).domains) (series k i (function_of T n)) t D (row_width (label_count T) * i) (row_width (label_count T) * (i + k))
+    (λ whole E Fs. FunctionRows (edition_in T).width (declared T).domains whole E (row_width (label_count T)) i begin Fs) r D'

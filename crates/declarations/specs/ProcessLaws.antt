@@ -1,6 +1,6 @@
 -- Reading one process by filled tables, and keeping them within their bounds.
 -- Document 01, "Blocks and the rule stream", items 2 to 5; refusals 4 and 5.
-use Rattle.std.specs.Prelude.{◌≡◌, refl, List, [], ◌∷◌, ◌++◌, ℕ, ◌+◌, ◌*◌, ◌≤◌, ◌<◌, length, get_or, set, take}
+use Rattle.std.specs.Prelude.{◌≡◌, refl, List, [], ◌∷◌, ◌++◌, ℕ, ◌+◌, ◌≤◌, ◌<◌, length, get_or, set, take}
 use Rattle.std.proofs.Common.{ap, sym, ◌∙◌, subst, arith, length-append, length-set, take_at, get_or-set_other}
 use Rattle.eb3.specs.Refusal
 use Rattle.eb3.specs.Generic.AllLists.{All}
@@ -12,6 +12,7 @@ use Rattle.eb3.specs.Reading.{Read, refused, taken, giving, then, counted, numbe
 use Rattle.eb3.specs.RuleReading.{read_rule_term, read_process, with_process}
 use Rattle.eb3.proofs.Laws.Reading.{Sound, number_sound, counted_sound}
 use Rattle.eb3.proofs.Laws.Signatures.{Alike, read_alike, measure_alike}
+use Rattle.arguments.specs.Layout.{functions_place, processes_place, process_place, domain_count, label_count, labels_place}
 use Rattle.arguments.specs.Tables.{declared, callee}
 use Rattle.declarations.specs.Declaring.{Declares, entered_process}
 use Rattle.declarations.specs.DeclaringLaws.{entered_length, entered_before, process_entered, declared_alike}
@@ -79,22 +80,22 @@ process_front R hi t P u e = go (counted 0 hi (number_of Refusal.reference (leng
 
 -- Tables within their bounds.
 pub record Bounded (T : List ℕ) : Type 0 where
-  pub domains_few : get_or T 0 0 ≤ 16
-  pub labels_few : get_or T 17 0 ≤ 64
+  pub domains_few : domain_count T ≤ 16
+  pub labels_few : label_count T ≤ 64
   pub label_rows : All (λ l. length l ≤ 2) (declared T).labels
 
--- Words from 210 on have no part in it.
-pub bounded_kept : (T U : List ℕ) → 211 ≤ length T → length U ≡ length T → ((i : ℕ) → i < 210 → get_or U i 0 ≡ get_or T i 0) → Bounded T → Bounded U
+-- Words from functions_place on have no part in it.
+pub bounded_kept : (T U : List ℕ) → processes_place ≤ length T → length U ≡ length T → ((i : ℕ) → i < functions_place → get_or U i 0 ≡ get_or T i 0) → Bounded T → Bounded U
 bounded_kept T U room same kept b = record {
   domains_few = omega (arith, kept 0 (omega arith), b.domains_few);
-  labels_few = omega (arith, kept 17 (omega arith), b.labels_few);
+  labels_few = omega (arith, kept labels_place (omega arith), b.labels_few);
   label_rows = subst (All (λ l. length l ≤ 2)) (sym (labels_kept T U room same b.labels_few b.label_rows (λ i h k. kept i k))) b.label_rows;
 }
 
-pub set_bounded : (T : List ℕ) (k n : ℕ) → 210 ≤ k → 211 ≤ length T → Bounded T → Bounded (set T k n)
+pub set_bounded : (T : List ℕ) (k n : ℕ) → functions_place ≤ k → processes_place ≤ length T → Bounded T → Bounded (set T k n)
 set_bounded T k n h room b = bounded_kept T (set T k n) room (length-set T k n) (λ i l. get_or-set_other T k i n 0 (omega arith)) b
 
-pub entered_bounded : (T : List ℕ) (p : ℕ) (l : List ℕ) (m : Measure) (left : ℕ) → length l ≤ 5 → 212 + 9 * (p + 1) ≤ length T → Bounded T → Bounded (entered_process T p l m.size m.reach m.breadth left)
+pub entered_bounded : (T : List ℕ) (p : ℕ) (l : List ℕ) (m : Measure) (left : ℕ) → length l ≤ 5 → process_place (p + 1) ≤ length T → Bounded T → Bounded (entered_process T p l m.size m.reach m.breadth left)
 entered_bounded T p l m left short room b = bounded_kept T (entered_process T p l m.size m.reach m.breadth left) (omega arith) (entered_length T p l m left short room)
     (λ i h. entered_before T p l m left short room i (omega arith) (omega arith)) b
 
@@ -109,7 +110,7 @@ all_snoc (Q ∷ Ps) P h k = (h.0, all_snoc Ps P h.1 k)
 pub narrow_next : (R : RuleSet) (P : Process) → Narrow R → length P.parameters ≤ 4 → Narrow (with_process R P)
 narrow_next R P h k = all_snoc R.processes P h k
 
-pub next_declares : (T : List ℕ) (R : RuleSet) (P : Process) (m : Measure) (left : ℕ) → Declares T R → Bounded T → Narrow R → 212 + 9 * (length R.processes + 1) ≤ length T → length P.parameters ≤ 4
+pub next_declares : (T : List ℕ) (R : RuleSet) (P : Process) (m : Measure) (left : ℕ) → Declares T R → Bounded T → Narrow R → process_place (length R.processes + 1) ≤ length T → length P.parameters ≤ 4
     → m ≡ measure_term (sat 65536) R (row_of (sat 65536) R (length R.processes)) P.term
     → Declares (entered_process T (length R.processes) (length P.parameters ∷ P.parameters) m.size m.reach m.breadth left) (with_process R P)
 next_declares T R P m left d b narrow room few e = process_entered T R P m left d room b.domains_few b.labels_few b.label_rows narrow few e

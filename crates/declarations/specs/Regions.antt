@@ -1,7 +1,7 @@
 -- Words of the tables: a copy and a row word by word, and what is declared by them. Each part of `declared` reads its own region of the tables only:
--- domains below 17, labels from 17 below 210, the functions' count at 210, processes from 211 on; what keeps a region keeps what is declared there.
+-- domains below labels_place, labels from there below functions_place, the functions' count there, processes from processes_place on; what keeps a region keeps what is declared there.
 -- Document 01, "Blocks and the rule stream", items 2 to 5; refusals 4 and 5.
-use Rattle.std.specs.Prelude.{◌≡◌, List, [], ◌++◌, map, ℕ, zero, suc, ◌+◌, ◌*◌, ◌≤◌, ◌<◌, length, take, drop, get_or, set, ltb}
+use Rattle.std.specs.Prelude.{◌≡◌, List, [], ◌++◌, map, ℕ, zero, suc, ◌+◌, ◌≤◌, ◌<◌, length, take, drop, get_or, set, ltb}
 use Rattle.std.proofs.Common.{sym, ap, ◌∙◌, subst, arith, length-take, length-drop, length-take-le, get_or-set_same, get_or-set_other, get_or-take, get_or-drop, ext_get_or, lt→ltb}
 use Rattle.std.proofs.Math.Decide.{ℕ_discrete}
 use Rattle.std.proofs.lemmas.List.{length-map}
@@ -13,6 +13,7 @@ use Rattle.eb3.specs.Generic.AllLists.{All, all_at}
 use Rattle.eb3.specs.RuleSets.{Function, Process, label, no_process}
 use Rattle.eb3.specs.Measures.{sat, nothing}
 use Rattle.eb3.proofs.Laws.Reading.{pick_true, pick_false}
+use Rattle.arguments.specs.Layout.{label_place, functions_place, processes_place, process_place, domain_count, label_count, process_count, domains_place, sizes_place, labels_place}
 use Rattle.arguments.specs.Tables.{row, declared, measure_row, callee}
 use Rattle.arguments.specs.TableLaws.{domains_length, domain_at, labels_length, label_at, processes_length, process_at}
 use Rattle.declarations.specs.Declaring.{Heads, Tables}
@@ -69,65 +70,65 @@ row_kept T U at k as_long room short h =
 -- ── what keeps a region keeps what is declared there ──
 
 module _ (T U : List ℕ) where
-  pub domains_kept : get_or T 0 0 ≤ 16 → ((i : ℕ) → i < 17 → get_or U i 0 ≡ get_or T i 0) → (declared U).domains ≡ (declared T).domains
-  domains_kept few h = ext_get_or 0 (declared U).domains (declared T).domains (domains_length U ∙ h 0 (omega arith) ∙ sym (domains_length T))
-      (λ d b. domain_at U d (omega (arith, domains_length U)) ∙ h (1 + d) (omega (arith, domains_length U, h 0 (omega arith)))
-      ∙ sym (domain_at T d (omega (arith, domains_length U, h 0 (omega arith)))))
+  pub domains_kept : domain_count T ≤ 16 → ((i : ℕ) → i < labels_place → get_or U i 0 ≡ get_or T i 0) → (declared U).domains ≡ (declared T).domains
+  domains_kept few h = ext_get_or 0 (declared U).domains (declared T).domains (domains_length U ∙ h domains_place (omega arith) ∙ sym (domains_length T))
+      (λ d b. domain_at U d (omega (arith, domains_length U)) ∙ h (sizes_place d) (omega (arith, domains_length U, h domains_place (omega arith)))
+      ∙ sym (domain_at T d (omega (arith, domains_length U, h domains_place (omega arith)))))
 
-  pub labels_kept : 211 ≤ length T → length U ≡ length T → get_or T 17 0 ≤ 64 → All (λ l. length l ≤ 2) (declared T).labels → ((i : ℕ) → 17 ≤ i → i < 210 → get_or U i 0 ≡ get_or T i 0)
+  pub labels_kept : processes_place ≤ length T → length U ≡ length T → label_count T ≤ 64 → All (λ l. length l ≤ 2) (declared T).labels → ((i : ℕ) → labels_place ≤ i → i < functions_place → get_or U i 0 ≡ get_or T i 0)
       → (declared U).labels ≡ (declared T).labels
   labels_kept room as_long few short h = ext_get_or [] (declared U).labels (declared T).labels (labels_length U ∙ count ∙ sym (labels_length T)) (λ l b. at l (omega (arith, labels_length U, count)))
     where
-      count : get_or U 17 0 ≡ get_or T 17 0
-      count = h 17 (omega arith) (omega arith)
+      count : label_count U ≡ label_count T
+      count = h labels_place (omega arith) (omega arith)
 
-      at : (l : ℕ) → l < get_or T 17 0 → label (declared U) l ≡ label (declared T) l
+      at : (l : ℕ) → l < label_count T → label (declared U) l ≡ label (declared T) l
       at l b =
           label_at U l (omega (arith, count))
-          ∙ row_kept T U (18 + 3 * l) 2 as_long (omega arith)
+          ∙ row_kept T U (label_place l) 2 as_long (omega arith)
           (subst (λ r. length r ≤ 2) (label_at T l b) (all_at (λ r. length r ≤ 2) (declared T).labels short l [] (omega (arith, labels_length T))))
           (λ i p q. h i (omega arith) (omega arith))
           ∙ sym (label_at T l b)
 
-  pub heads_kept : 211 ≤ length T → length U ≡ length T → get_or T 0 0 ≤ 16 → get_or T 17 0 ≤ 64 → All (λ l. length l ≤ 2) (declared T).labels → ((i : ℕ) → i < 210 → get_or U i 0 ≡ get_or T i 0)
+  pub heads_kept : processes_place ≤ length T → length U ≡ length T → domain_count T ≤ 16 → label_count T ≤ 64 → All (λ l. length l ≤ 2) (declared T).labels → ((i : ℕ) → i < functions_place → get_or U i 0 ≡ get_or T i 0)
       → (ds : List ℕ) (ls : List (List ℕ)) → Heads T ds ls → Heads U ds ls
   heads_kept room as_long domains labels short h ds ls k = record {
     same_domains = domains_kept domains (λ i b. h i (omega arith)) ∙ k.same_domains;
     same_labels = labels_kept room as_long labels short (λ i a b. h i b) ∙ k.same_labels;
   }
 
-  pub tables_kept : 211 ≤ length T → length U ≡ length T → get_or T 0 0 ≤ 16 → get_or T 17 0 ≤ 64 → All (λ l. length l ≤ 2) (declared T).labels → ((i : ℕ) → i < 211 → get_or U i 0 ≡ get_or T i 0)
+  pub tables_kept : processes_place ≤ length T → length U ≡ length T → domain_count T ≤ 16 → label_count T ≤ 64 → All (λ l. length l ≤ 2) (declared T).labels → ((i : ℕ) → i < processes_place → get_or U i 0 ≡ get_or T i 0)
       → (ds : List ℕ) (ls : List (List ℕ)) (fs : List Function) → Tables T ds ls fs → Tables U ds ls fs
   tables_kept room as_long domains labels short h ds ls fs k = record {
     heads = heads_kept room as_long domains labels short (λ i b. h i (omega arith)) ds ls k.heads;
-    same_functions = h 210 (omega arith) ∙ k.same_functions;
+    same_functions = h functions_place (omega arith) ∙ k.same_functions;
     one_parameter = k.one_parameter;
   }
 
 -- ── processes, by their parameters and measures ──
 
 module _ (T : List ℕ) where
-  pub callee_at : (p : ℕ) → p < get_or T 211 0 → callee T p ≡ measure_row T p
+  pub callee_at : (p : ℕ) → p < process_count T → callee T p ≡ measure_row T p
   unfolding callee
-  callee_at p h = pick_true (measure_row T p) (nothing (sat 65536)) (ltb p (get_or T 211 0)) (lt→ltb p (get_or T 211 0) h)
+  callee_at p h = pick_true (measure_row T p) (nothing (sat 65536)) (ltb p (process_count T)) (lt→ltb p (process_count T) h)
 
-  pub callee_beyond : (p : ℕ) → get_or T 211 0 ≤ p → callee T p ≡ nothing (sat 65536)
+  pub callee_beyond : (p : ℕ) → process_count T ≤ p → callee T p ≡ nothing (sat 65536)
   unfolding callee
-  callee_beyond p h = pick_false (measure_row T p) (nothing (sat 65536)) (ltb p (get_or T 211 0)) (λ t. let z : ⊥ = omega (arith, ltb→lt p (get_or T 211 0) t) in z)
+  callee_beyond p h = pick_false (measure_row T p) (nothing (sat 65536)) (ltb p (process_count T)) (λ t. let z : ⊥ = omega (arith, ltb→lt p (process_count T) t) in z)
 
   -- Their parameters are those of given processes: as many, and row by row.
   module _ (ps : List Process) where
-    pub count_of_same : map (λ (P : Process). P.parameters) (declared T).processes ≡ map (λ (P : Process). P.parameters) ps → get_or T 211 0 ≡ length ps
+    pub count_of_same : map (λ (P : Process). P.parameters) (declared T).processes ≡ map (λ (P : Process). P.parameters) ps → process_count T ≡ length ps
     count_of_same e = sym (processes_length T) ∙ sym (length-map (declared T).processes (λ (P : Process). P.parameters)) ∙ ap length e ∙ length-map ps (λ (P : Process). P.parameters)
 
-    pub row_of_same : map (λ (P : Process). P.parameters) (declared T).processes ≡ map (λ (P : Process). P.parameters) ps → (p : ℕ) → p < length ps → row T (212 + 9 * p) ≡ (get_or ps p no_process).parameters
+    pub row_of_same : map (λ (P : Process). P.parameters) (declared T).processes ≡ map (λ (P : Process). P.parameters) ps → (p : ℕ) → p < length ps → row T (process_place p) ≡ (get_or ps p no_process).parameters
     row_of_same e p h =
         sym (process_at T p (omega (arith, count_of_same e)))
         ∙ sym (get_or-map (λ (P : Process). P.parameters) (declared T).processes p no_process)
         ∙ ap (λ l. get_or l p []) e
         ∙ get_or-map (λ (P : Process). P.parameters) ps p no_process
 
-    pub same_by_rows : get_or T 211 0 ≡ length ps → ((p : ℕ) → p < length ps → row T (212 + 9 * p) ≡ (get_or ps p no_process).parameters)
+    pub same_by_rows : process_count T ≡ length ps → ((p : ℕ) → p < length ps → row T (process_place p) ≡ (get_or ps p no_process).parameters)
         → map (λ (P : Process). P.parameters) (declared T).processes ≡ map (λ (P : Process). P.parameters) ps
     same_by_rows c h = ext_get_or [] _ _ (long ∙ c ∙ sym (length-map ps (λ (P : Process). P.parameters))) λ p b.
         get_or-map (λ (P : Process). P.parameters) (declared T).processes p no_process
@@ -135,5 +136,5 @@ module _ (T : List ℕ) where
         ∙ h p (omega (arith, long, c))
         ∙ sym (get_or-map (λ (P : Process). P.parameters) ps p no_process)
       where
-        long : length (map (λ (P : Process). P.parameters) (declared T).processes) ≡ get_or T 211 0
+        long : length (map (λ (P : Process). P.parameters) (declared T).processes) ≡ process_count T
         long = length-map (declared T).processes (λ (P : Process). P.parameters) ∙ processes_length T

@@ -10,6 +10,7 @@ ghost use Rattle.eb3.specs.Reading.{Reader, number_of, counted};
 ghost use Rattle.eb3.specs.RuleReading.{read_domains};
 ghost use Rattle.scan.specs.Checking.{Checked, checked};
 ghost use Rattle.scan.specs.Laws.{Ends};
+ghost use Rattle.arguments.specs.Layout.{label_count, label_words};
 ghost use Rattle.declarations.specs.Entering.{Entered, CellsBound};
 ghost use Rattle.declarations.specs.Directory.{row_width};
 ghost use Rattle.declarations.specs.Noting.{LabelsNoted, ExpressionsNoted, FunctionNoted, FunctionsNoted};
@@ -90,7 +91,7 @@ pub fn enter_labels(
     at: usize,
     d: usize,
 ) -> Result<usize, Refusal>
-    requires { at + 3 * n ≤ length tb.old }
+    requires { at + label_words * n ≤ length tb.old }
     ensures { Entered t.now tb.old n at d result tb.new }
 {
     let mut left = t.len();
@@ -119,7 +120,7 @@ fn note(dir: &mut [u32], at: usize, x: usize)
 struct Context<'a> {
     tables: &'a [u32],
     functions: usize,
-    ghost few: { get_or tables.now 17 0 ≤ 64 },
+    ghost few: { label_count tables.now ≤ 64 },
 }
 
 // Stays: t, dir and i are three parameters of the methods, with the bound of i or of a place as a clause. Every call is handed other words, and the directory
@@ -129,7 +130,7 @@ impl Context<'_> {
     #[tactic(auto, using(crate::proofs::LaterCases::sofar_start, crate::proofs::LaterCases::sofar_next))]
     fn later(&self, t: &[u16], dir: &mut [u32], i: usize, at: usize) -> Result<usize, Refusal>
         requires { at < 4294967296 }
-        ensures { LabelsNoted self.now.tables.now self.now.functions i (get_or self.now.tables.now 17 0) t.now dir.old at result dir.new }
+        ensures { LabelsNoted self.now.tables.now self.now.functions i (label_count self.now.tables.now) t.now dir.old at result dir.new }
     {
         let k = labels(self.tables);
         let mut left = t.len();
@@ -163,7 +164,7 @@ impl Context<'_> {
     // Where function i's row begins in the directory.
     fn row_place(&self, i: usize) -> usize
         requires { i < 65536 }
-        ensures { (result ≡ row_width (get_or self.now.tables.now 17 0) * i) × (result ≤ 4390912) }
+        ensures { (result ≡ row_width (label_count self.now.tables.now) * i) × (result ≤ 4390912) }
     {
         (AT_LABELS + labels(self.tables)) * i
     }
@@ -178,7 +179,7 @@ impl Context<'_> {
         begin: usize,
     ) -> Result<Counted, Refusal>
         requires { i < 65536 }
-        ensures { FunctionNoted self.now.tables.now self.now.functions i t.now dir.old (row_width (get_or self.now.tables.now 17 0) * i) begin result dir.new × CellsBound result 1 }
+        ensures { FunctionNoted self.now.tables.now self.now.functions i t.now dir.old (row_width (label_count self.now.tables.now) * i) begin result dir.new × CellsBound result 1 }
     {
         let at = self.row_place(i);
         let m = number(t, Refusal::Reference, domains(self.tables))?;
@@ -202,7 +203,7 @@ pub fn functions(
     i: usize,
     begin: usize,
 ) -> Result<Counted, Refusal>
-    requires { (k + i < 65536) × (get_or tb.now 17 0 ≤ 64) × (begin ≤ i * 4294967296) }
+    requires { (k + i < 65536) × (label_count tb.now ≤ 64) × (begin ≤ i * 4294967296) }
     ensures { FunctionsNoted tb.now n k i t.now dir.old begin result dir.new × CellsBound result k }
 {
     let context = Context {

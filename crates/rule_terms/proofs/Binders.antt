@@ -22,6 +22,7 @@ use Rattle.scan.specs.ReadingLaws.{Taken, checked_refused, checked_taken, giving
 use Rattle.grammar.specs.Laws.{cond_ends}
 use Rattle.weights.specs.declared.Weight.{Weight}
 use Rattle.weights.specs.Weighing.{cap, measure}
+use Rattle.arguments.specs.Layout.{domain_count, function_count}
 use Rattle.arguments.specs.Tables.{declared, callee}
 use Rattle.arguments.specs.TableLaws.{domains_length, guard_declared}
 use Rattle.rule_terms.specs.Weighed.{weighed, terms, answer, mask_if, copies_of, quantifier, weighed_copies, Answer, found}
@@ -41,7 +42,7 @@ words_taken P t C u e =
     omega (arith, ap length h.0, length-append (cond_words 1 C) u, cond_length 1 C, guard_size_one C)
 
 -- b is the number of functions, as the code has it
-pub condition_in : (T Γ t : List ℕ) (b : ℕ) (p : Checked) → b ≡ get_or T 210 0 → p ≡ checked (read_cond 1 (record { edition = edition_1; arity = λ f. 1; now = b; before = 0; variables = length Γ }) t)
+pub condition_in : (T Γ t : List ℕ) (b : ℕ) (p : Checked) → b ≡ function_count T → p ≡ checked (read_cond 1 (record { edition = edition_1; arity = λ f. 1; now = b; before = 0; variables = length Γ }) t)
     → p ≡ checked (read_cond 1 (guard_scope (attributes (declared T)) (length Γ)) t)
 condition_in T Γ t b p i e = e ∙ (λ j. checked (read_cond 1 (record { edition = edition_1; arity = λ f. 1; now = i j; before = 0; variables = length Γ }) t))
     ∙ ap (λ P. checked (read_cond 1 P t)) (sym (guard_declared T (length Γ)))
@@ -102,7 +103,7 @@ all_choice T c d (refused k) e = refl
 all_choice T c d (taken x u) e = rw e
 
 -- b is the number of domains, as the code has it
-module _ (T Γ t : List ℕ) (b : ℕ) (p : Checked) (i : b ≡ get_or T 0 0) (e : p ≡ checked (number_of 5 b t)) where
+module _ (T Γ t : List ℕ) (b : ℕ) (p : Checked) (i : b ≡ domain_count T) (e : p ≡ checked (number_of 5 b t)) where
   as_domains : p ≡ checked (number_of 5 (length (declared T).domains) t)
   as_domains = e ∙ ap (λ n. checked (number_of 5 n t)) (i ∙ sym (domains_length T))
 

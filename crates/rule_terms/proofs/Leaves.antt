@@ -14,6 +14,7 @@ use Rattle.scan.specs.Checking.{checked, last_of, Checked}
 use Rattle.scan.specs.ReadingLaws.{Taken, checked_refused, checked_taken, giving_refused_as, giving_taken, by_number_refused, by_number_taken, number_below, same_refused}
 use Rattle.weights.specs.declared.Weight.{Weight}
 use Rattle.weights.specs.Weighing.{cap, measure}
+use Rattle.arguments.specs.Layout.{label_place, process_place, label_count, process_count, size_at, reach_at, breadth_at}
 use Rattle.arguments.specs.Tables.{row, declared, callee}
 use Rattle.arguments.specs.TableLaws.{labels_length, label_at, processes_length, process_at, arguments_end, arguments_count}
 use Rattle.rule_terms.specs.Weighed.{weighed, found}
@@ -24,14 +25,14 @@ use Rattle.refusals.specs.declared.Refusal.{Refusal}
 -- ── the measures of a process ──
 
 -- n is the number of processes as the code has it
-pub row_in : (T : List ℕ) (p n s r b : ℕ) → n ≡ get_or T 211 0 → p < n → s ≡ get_or T (212 + 9 * p + 5) 0 → r ≡ get_or T (212 + 9 * p + 6) 0 → b ≡ get_or T (212 + 9 * p + 7) 0
+pub row_in : (T : List ℕ) (p n s r b : ℕ) → n ≡ process_count T → p < n → s ≡ size_at T p → r ≡ reach_at T p → b ≡ breadth_at T p
     → ◌≡◌ {A = Measure} (record { size = s; reach = r; breadth = b }) (callee T p)
 unfolding callee
-row_in T p n s r b i h e f g = rw (e, f, g, lt-ltb p (get_or T 211 0) (omega arith))
+row_in T p n s r b i h e f g = rw (e, f, g, lt-ltb p (process_count T) (omega arith))
 
-pub row_out : (T : List ℕ) (p n : ℕ) (w : Weight) → n ≡ get_or T 211 0 → n ≤ p → measure w ≡ nothing (sat cap) → measure w ≡ callee T p
+pub row_out : (T : List ℕ) (p n : ℕ) (w : Weight) → n ≡ process_count T → n ≤ p → measure w ≡ nothing (sat cap) → measure w ≡ callee T p
 unfolding callee
-row_out T p n w i h e = e ∙ rw (le-ltb p (get_or T 211 0) (omega arith))
+row_out T p n w i h e = e ∙ rw (le-ltb p (process_count T) (omega arith))
 
 -- ── a number, and the arguments that it asks for ──
 
@@ -58,44 +59,44 @@ module _ (T Γ t : List ℕ) (k : ℕ → List Argument → RuleTerm) (limit : �
 
 -- b is the limit, as the code has it
 module _ (T Γ t : List ℕ) (b : ℕ) (p : Checked) (e : p ≡ checked (number_of 5 b t)) where
-  labels_limit : b ≡ get_or T 17 0 → b ≡ length (declared T).labels
+  labels_limit : b ≡ label_count T → b ≡ length (declared T).labels
   labels_limit x = x ∙ sym (labels_length T)
 
-  processes_limit : b ≡ get_or T 211 0 → b ≡ length (declared T).processes
+  processes_limit : b ≡ process_count T → b ≡ length (declared T).processes
   processes_limit x = x ∙ sym (processes_length T)
 
-  pub action_none : (j : Refusal) → b ≡ get_or T 17 0 → p ≡ Err j → Err j ≡ weighed (declared T) (callee T) (rule_action_of (declared T) Γ t)
+  pub action_none : (j : Refusal) → b ≡ label_count T → p ≡ Err j → Err j ≡ weighed (declared T) (callee T) (rule_action_of (declared T) Γ t)
   unfolding rule_action_of
   action_none j x h = asked_none T Γ t rule_perform (length (declared T).labels) (label (declared T)) p j (rw (← labels_limit x) e) h
 
-  pub call_none : (j : Refusal) → b ≡ get_or T 211 0 → p ≡ Err j → Err j ≡ weighed (declared T) (callee T) (call_of (declared T) Γ t)
+  pub call_none : (j : Refusal) → b ≡ process_count T → p ≡ Err j → Err j ≡ weighed (declared T) (callee T) (call_of (declared T) Γ t)
   unfolding call_of
   call_none j x h = asked_none T Γ t call (length (declared T).processes) (λ l. (process (declared T) l).parameters) p j (rw (← processes_limit x) e) h
 
   -- d is the number, ds the domains that it asks for
   module _ (n d : ℕ) (h : p ≡ Ok n) (z : d ≡ get_or t 0 0) where
-    label_row : b ≡ get_or T 17 0 → row T (18 + 3 * d) ≡ label (declared T) (get_or t 0 0)
-    label_row x = sym (label_at T (get_or t 0 0) (omega (arith, number_below 5 b n t (sym h ∙ e), x)) ∙ ap (λ l. row T (18 + 3 * l)) (sym z))
+    label_row : b ≡ label_count T → row T (label_place d) ≡ label (declared T) (get_or t 0 0)
+    label_row x = sym (label_at T (get_or t 0 0) (omega (arith, number_below 5 b n t (sym h ∙ e), x)) ∙ ap (λ l. row T (label_place l)) (sym z))
 
-    process_parameters : b ≡ get_or T 211 0 → row T (212 + 9 * d) ≡ (process (declared T) (get_or t 0 0)).parameters
-    process_parameters x = sym (process_at T (get_or t 0 0) (omega (arith, number_below 5 b n t (sym h ∙ e), x)) ∙ ap (λ l. row T (212 + 9 * l)) (sym z))
+    process_parameters : b ≡ process_count T → row T (process_place d) ≡ (process (declared T) (get_or t 0 0)).parameters
+    process_parameters x = sym (process_at T (get_or t 0 0) (omega (arith, number_below 5 b n t (sym h ∙ e), x)) ∙ ap (λ l. row T (process_place l)) (sym z))
 
     module _ (r ds : List ℕ) (q : Checked) (l : r ≡ last_of n t) (f : q ≡ checked (arguments_of (declared T) Γ ds r)) where
-      pub action_out : (j : Refusal) → b ≡ get_or T 17 0 → ds ≡ row T (18 + 3 * d) → q ≡ Err j → Err j ≡ weighed (declared T) (callee T) (rule_action_of (declared T) Γ t)
+      pub action_out : (j : Refusal) → b ≡ label_count T → ds ≡ row T (label_place d) → q ≡ Err j → Err j ≡ weighed (declared T) (callee T) (rule_action_of (declared T) Γ t)
       unfolding rule_action_of
       action_out j x i g = asked_out T Γ t rule_perform (length (declared T).labels) (label (declared T)) p q n r ds (rw (← labels_limit x) e) h l (i ∙ label_row x) f j g
 
-      pub action_in : (m c : ℕ) (w : Weight) → b ≡ get_or T 17 0 → ds ≡ row T (18 + 3 * d) → q ≡ Ok m → c ≡ length ds → measure w ≡ leaf (sat cap) (2 + 2 * c) → found m w ≡ weighed (declared T) (callee T) (rule_action_of (declared T) Γ t)
+      pub action_in : (m c : ℕ) (w : Weight) → b ≡ label_count T → ds ≡ row T (label_place d) → q ≡ Ok m → c ≡ length ds → measure w ≡ leaf (sat cap) (2 + 2 * c) → found m w ≡ weighed (declared T) (callee T) (rule_action_of (declared T) Γ t)
       unfolding rule_action_of measure_term declared
       action_in m c w x i g o u =
           asked_in T Γ t rule_perform (length (declared T).labels) (label (declared T)) p q n r ds (rw (← labels_limit x) e) h l (i ∙ label_row x) f m w g
           (λ rs v. u ∙ ap (λ s. leaf (sat cap) (2 + s)) (ap (λ s. 2 * s) (o ∙ sym v) ∙ sym (arguments_double (length rs))))
 
-      pub call_out : (j : Refusal) → b ≡ get_or T 211 0 → ds ≡ row T (212 + 9 * d) → q ≡ Err j → Err j ≡ weighed (declared T) (callee T) (call_of (declared T) Γ t)
+      pub call_out : (j : Refusal) → b ≡ process_count T → ds ≡ row T (process_place d) → q ≡ Err j → Err j ≡ weighed (declared T) (callee T) (call_of (declared T) Γ t)
       unfolding call_of
       call_out j x i g = asked_out T Γ t call (length (declared T).processes) (λ c. (process (declared T) c).parameters) p q n r ds (rw (← processes_limit x) e) h l (i ∙ process_parameters x) f j g
 
-      pub call_in : (m : ℕ) (w : Weight) → b ≡ get_or T 211 0 → ds ≡ row T (212 + 9 * d) → q ≡ Ok m → measure w ≡ callee T d → found m w ≡ weighed (declared T) (callee T) (call_of (declared T) Γ t)
+      pub call_in : (m : ℕ) (w : Weight) → b ≡ process_count T → ds ≡ row T (process_place d) → q ≡ Ok m → measure w ≡ callee T d → found m w ≡ weighed (declared T) (callee T) (call_of (declared T) Γ t)
       unfolding call_of measure_term
       call_in m w x i g u =
           asked_in T Γ t call (length (declared T).processes) (λ c. (process (declared T) c).parameters) p q n r ds (rw (← processes_limit x) e) h l (i ∙ process_parameters x) f m w g

@@ -3,7 +3,7 @@ use Prim.Native.Nat.{ℕ}
 use mathlib.Core.Path.{◌≡◌, refl, sym, ap, ◌∙◌}
 use mathlib.Core.Bool.{Bool}
 use mathlib.Core.List.{List}
-use lib.ListN.{length, take, get_or}
+use lib.ListN.{length, take}
 use Rattle.eb3.specs.Sizes.{zero_mask}
 use Rattle.eb3.specs.RuleSets.{RuleTerm, RuleSet, rule_sequence, rule_choice, rule_parallel}
 use Rattle.eb3.specs.Measures.{sat, Measure, measure_term}
@@ -15,6 +15,7 @@ use Rattle.scan.specs.Laws.{Ends, tail_here}
 use Rattle.scan.specs.ReadingLaws.{Taken, checked_refused, checked_taken, giving_refused_as, both_first_as, both_second_as, both_taken, RefusedAs, same_refused}
 use Rattle.weights.specs.declared.Weight.{Weight}
 use Rattle.weights.specs.Weighing.{cap, measure, weight, joint_of}
+use Rattle.arguments.specs.Layout.{label_count}
 use Rattle.arguments.specs.Tables.{declared, callee}
 use Rattle.arguments.specs.TableLaws.{labels_length, mask_read}
 use Rattle.rule_terms.specs.declared.Weighed.{Weighed}
@@ -90,7 +91,7 @@ unfolding weighed weighed_two joint_of giving measure_term
 sides_beside R M Δ (refused k) = refl
 sides_beside R M Δ (taken p u) = refl
 
-module _ (T t : List ℕ) (b : ℕ) (p : Checked) (i : b ≡ get_or T 17 0) (e : p ≡ checked (mask_of 4 b t)) where
+module _ (T t : List ℕ) (b : ℕ) (p : Checked) (i : b ≡ label_count T) (e : p ≡ checked (mask_of 4 b t)) where
   as_declared : p ≡ checked (rule_mask_of (declared T) t)
   as_declared = e ∙ ap (λ n. checked (mask_of 4 n t)) (i ∙ sym (labels_length T))
 
@@ -111,7 +112,7 @@ module _ (T t : List ℕ) (b : ℕ) (p : Checked) (i : b ≡ get_or T 17 0) (e :
 
 -- ── a mask where there is one, then a term ──
 
-pub mask_some : (T t : List ℕ) (w : Quantifier) (b : ℕ) (p : Checked) → w ≡ Parallel → b ≡ get_or T 17 0 → p ≡ checked (mask_of 4 b t) → p ≡ checked (mask_if w (declared T) t)
+pub mask_some : (T t : List ℕ) (w : Quantifier) (b : ℕ) (p : Checked) → w ≡ Parallel → b ≡ label_count T → p ≡ checked (mask_of 4 b t) → p ≡ checked (mask_if w (declared T) t)
 unfolding mask_if
 mask_some T t w b p h i e = as_declared T t b p i e ∙ rw h
 

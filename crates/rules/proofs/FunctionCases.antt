@@ -15,6 +15,7 @@ use Rattle.scan.specs.Laws.{Tail, Fine, tail_at, tail_on, last_tail}
 use Rattle.scan.specs.ReadingLaws.{checked_refused, then_refused_as, then_taken, not_taken, RefusedAs, same_refused}
 use Rattle.scan.specs.RowLaws.{count_word}
 use Rattle.weights.specs.Weighing.{cap, weight}
+use Rattle.arguments.specs.Layout.{tables_length, functions_place, domain_count, label_count}
 use Rattle.arguments.specs.Tables.{declared}
 use Rattle.arguments.specs.TableLaws.{domains_length, labels_length}
 use Rattle.declarations.specs.declared.Counted.{Counted}
@@ -93,13 +94,13 @@ module _ (T t : List ℕ) (p : Checked) (e : p ≡ checked (count_of 0 16 t)) wh
         filled = λ ds ls z whole R u tl small g room. absurd (not_taken (function_section ds ls t) k R u (then_refused_as (read_functions edition_1 (length ds) ls t) _ k (r ds ls)) g);
       }
 
-  module _ (m n x : ℕ) (s : length T ≡ 500) (b : Bounded T) (h : p ≡ Ok m) (i : n ≡ get_or t 0 0) (f : x ≡ n) where
-    pub functions_bounded : Bounded (set T 210 x)
-    functions_bounded = set_bounded T 210 x (omega arith) (omega arith) b
+  module _ (m n x : ℕ) (s : length T ≡ tables_length) (b : Bounded T) (h : p ≡ Ok m) (i : n ≡ get_or t 0 0) (f : x ≡ n) where
+    pub functions_bounded : Bounded (set T functions_place x)
+    functions_bounded = set_bounded T functions_place x (omega arith) (omega arith) b
 
     -- D is the directory before, D' after the functions
-    module _ (u D D' : List ℕ) (l : u ≡ last_of m t) (a : Result Counted Refusal) (g : FunctionsNoted (set T 210 x) n n 0 u D 0 a D') (ds : List ℕ) (ls : List (List ℕ)) (z : Heads T ds ls) where
-      heads : Heads (set T 210 x) ds ls
+    module _ (u D D' : List ℕ) (l : u ≡ last_of m t) (a : Result Counted Refusal) (g : FunctionsNoted (set T functions_place x) n n 0 u D 0 a D') (ds : List ℕ) (ls : List (List ℕ)) (z : Heads T ds ls) where
+      heads : Heads (set T functions_place x) ds ls
       heads = functions_entered T ds ls x (omega arith) b.domains_few b.labels_few b.label_rows z
 
       abbrev behind : Read (List Function)
@@ -108,13 +109,13 @@ module _ (T t : List ℕ) (p : Checked) (e : p ≡ checked (count_of 0 16 t)) wh
       are : read_functions edition_1 (length ds) ls t ≡ behind
       are = functions_by (length ds) ls t (last_of m t) (get_or t 0 0) (count_word 0 16 m t (sym h ∙ e)) ∙ (λ j. series (sym i j) 0 (read_function edition_1 (length ds) ls (replicate (sym i j) 1)) (sym l j))
 
-      labels_are : labels_of (set T 210 x) 0 (get_or (set T 210 x) 17 0) ≡ ls
+      labels_are : labels_of (set T functions_place x) 0 (label_count (set T functions_place x)) ≡ ls
       unfolding declared
       labels_are = heads.same_labels
 
       counts : a ≡ functions_cells ds behind
       counts =
-          let c : get_or (set T 210 x) 0 0 ≡ length ds = sym (domains_length (set T 210 x)) ∙ ap length heads.same_domains in
+          let c : domain_count (set T functions_place x) ≡ length ds = sym (domains_length (set T functions_place x)) ∙ ap length heads.same_domains in
           g.answer ∙ (λ j. functions_cells (heads.same_domains j) (series n 0 (read_function edition_1 (c j) (labels_are j) (replicate n 1)) u))
 
       refused_here : (k : Refusal) (r : Read (List Function)) → Err k ≡ functions_cells ds r → RefusedAs k r
@@ -141,8 +142,8 @@ module _ (T t : List ℕ) (p : Checked) (e : p ≡ checked (count_of 0 16 t)) wh
         known : (length r.0 ≡ n) × ((f : ℕ) → get_or (map (λ (F : Function). length F.parameters) r.0) f 1 ≡ 1)
         known = functions_read edition_1 (length ds) ls n u (last_of j u) r.0 r.1
 
-        tables : Tables (set T 210 x) ds ls r.0
-        tables = record { heads = heads; same_functions = get_or-set_same T 210 x 0 (omega arith) ∙ f ∙ sym known.0; one_parameter = known.1 }
+        tables : Tables (set T functions_place x) ds ls r.0
+        tables = record { heads = heads; same_functions = get_or-set_same T functions_place x 0 (omega arith) ∙ f ∙ sym known.0; one_parameter = known.1 }
 
         section_is : function_section ds ls t ≡ process_section ds ls r.0 v
         unfolding function_section
@@ -157,14 +158,14 @@ module _ (T t : List ℕ) (p : Checked) (e : p ≡ checked (count_of 0 16 t)) wh
         -- The rows of the directory.
         functions_rows : (whole : List ℕ) → Tail t whole → length whole < 4294967296 → row_width (length ls) * length r.0 ≤ length D → FunctionRows ds whole D' (row_width (length ls)) 0 0 r.0
         functions_rows whole tl small room =
-            let d : get_or (set T 210 x) 0 0 ≡ length ds = sym (domains_length (set T 210 x)) ∙ ap length heads.same_domains in
-            let w : get_or (set T 210 x) 17 0 ≡ length ls = sym (labels_length (set T 210 x)) ∙ ap length heads.same_labels in
-            let reading : series n 0 (function_of (set T 210 x) n) u ≡ taken r.0 (last_of j u) = (λ i. series n 0 (read_function edition_1 (d i) (labels_are i) (replicate n 1)) u) ∙ r.1 in
-            let enough : row_width (get_or (set T 210 x) 17 0) * (0 + n) ≤ length D = subst (λ k. k ≤ length D) (let z : length r.0 ≡ 0 + n = omega (arith, known.0) in λ i. row_width (sym w i) * z i) room in
+            let d : domain_count (set T functions_place x) ≡ length ds = sym (domains_length (set T functions_place x)) ∙ ap length heads.same_domains in
+            let w : label_count (set T functions_place x) ≡ length ls = sym (labels_length (set T functions_place x)) ∙ ap length heads.same_labels in
+            let reading : series n 0 (function_of (set T functions_place x) n) u ≡ taken r.0 (last_of j u) = (λ i. series n 0 (read_function edition_1 (d i) (labels_are i) (replicate n 1)) u) ∙ r.1 in
+            let enough : row_width (label_count (set T functions_place x)) * (0 + n) ≤ length D = subst (λ k. k ≤ length D) (let z : length r.0 ≡ 0 + n = omega (arith, known.0) in λ i. row_width (sym w i) * z i) room in
             let rows = g.found whole r.0 (last_of j u) (tail_on u t whole tl (subst (λ y. Tail y t) (sym l) (last_tail m t))) small enough reading in
-            subst (λ E. FunctionRows E whole D' (row_width (length ls)) 0 0 r.0) heads.same_domains (subst (λ k. FunctionRows (declared (set T 210 x)).domains whole D' (row_width k) 0 0 r.0) w rows)
+            subst (λ E. FunctionRows E whole D' (row_width (length ls)) 0 0 r.0) heads.same_domains (subst (λ k. FunctionRows (declared (set T functions_place x)).domains whole D' (row_width k) 0 0 r.0) w rows)
 
-        functions_filled : (q : Answer) (T' : List ℕ) → ProcessSectionRead v (set T 210 x) q T' → Filled t D (function_section ds ls) T' D'
+        functions_filled : (q : Answer) (T' : List ℕ) → ProcessSectionRead v (set T functions_place x) q T' → Filled t D (function_section ds ls) T' D'
         functions_filled q T' k whole R w tl small e room =
             let s : process_section ds ls r.0 v ≡ taken R w = sym section_is ∙ e in
             let same : Same (without_processes edition_1 ds ls r.0) R = subst (Kept (without_processes edition_1 ds ls r.0)) s (section_kept ds ls r.0 v) in
@@ -177,20 +178,20 @@ module _ (T t : List ℕ) (p : Checked) (e : p ≡ checked (count_of 0 16 t)) wh
               processes = placed.rows;
             }
 
-    pub functions_out : (u D D' : List ℕ) (a : Result Counted Refusal) (k : Refusal) → u ≡ last_of m t → FunctionsNoted (set T 210 x) n n 0 u D 0 a D' → a ≡ Err k → FunctionSectionRead t T D (Err k) (set T 210 x) D'
+    pub functions_out : (u D D' : List ℕ) (a : Result Counted Refusal) (k : Refusal) → u ≡ last_of m t → FunctionsNoted (set T functions_place x) n n 0 u D 0 a D' → a ≡ Err k → FunctionSectionRead t T D (Err k) (set T functions_place x) D'
     unfolding function_section
     functions_out u D D' a k l g q = record {
       answer = λ ds ls z. rules_out (read_functions edition_1 (length ds) ls t) _ k (functions_refused u D D' l a g ds ls z k q);
-      same_tables = length-set T 210 x;
+      same_tables = length-set T functions_place x;
       same_directory = g.same_length;
       filled = λ ds ls z whole R w tl small e room. absurd (not_taken (function_section ds ls t) k R w (then_refused_as (read_functions edition_1 (length ds) ls t) _ k (functions_refused u D D' l a g ds ls z k q)) e);
     }
 
-    pub functions_in : (u v D D' T' : List ℕ) (a : Result Counted Refusal) (j c : ℕ) (q : Answer) (w : Result Rules Refusal) → u ≡ last_of m t → FunctionsNoted (set T 210 x) n n 0 u D 0 a D' → a ≡ found_cells j c → v ≡ last_of j u
-        → ProcessSectionRead v (set T 210 x) q T' → w ≡ joined c q → FunctionSectionRead t T D w T' D'
+    pub functions_in : (u v D D' T' : List ℕ) (a : Result Counted Refusal) (j c : ℕ) (q : Answer) (w : Result Rules Refusal) → u ≡ last_of m t → FunctionsNoted (set T functions_place x) n n 0 u D 0 a D' → a ≡ found_cells j c → v ≡ last_of j u
+        → ProcessSectionRead v (set T functions_place x) q T' → w ≡ joined c q → FunctionSectionRead t T D w T' D'
     functions_in u v D D' T' a j c q w l g y o k d = record {
       answer = λ ds ls z. functions_answer u D D' l a g ds ls z j c v y o q w (k.answer ds ls (r u D D' l a g ds ls z j c v y o).0 (tables u D D' l a g ds ls z j c v y o)) d;
-      same_tables = k.same_length ∙ length-set T 210 x;
+      same_tables = k.same_length ∙ length-set T functions_place x;
       same_directory = g.same_length;
       filled = λ ds ls z. functions_filled u D D' l a g ds ls z j c v y o q T' k;
     }

@@ -1,7 +1,7 @@
 -- One process and all of them: a case for each way that these functions return, and what they ask.
 use mathlib.Core.Path.{◌≡◌, refl, ap, sym, ◌∙◌, subst}
 use mathlib.Core.List.{List}
-use Prim.Native.Nat.{ℕ, zero, suc, ◌+◌, ◌-◌, ◌*◌, ◌≤◌, ◌<◌}
+use Prim.Native.Nat.{ℕ, zero, suc, ◌+◌, ◌-◌, ◌≤◌, ◌<◌}
 use native.Mathlib.Numerals.{sub-one}
 use native.Mathlib.Omega.{arith}
 use lib.ListN.{length, get_or, take, drop, set, length-take, length-set}
@@ -17,6 +17,7 @@ use Rattle.scan.specs.Laws.{Tail, tail_on, last_tail, last_all, last_last, last_
 use Rattle.std.proofs.Common.{le_refl}
 use Rattle.rule_terms.specs.declared.Weighed.{Weighed}
 use Rattle.rule_terms.specs.Weighed.{weighed, Answer, found}
+use Rattle.arguments.specs.Layout.{processes_place, process_place, size_in, reach_in, breadth_in, body_in, domain_count, process_count}
 use Rattle.arguments.specs.Tables.{row, declared, callee}
 use Rattle.arguments.specs.TableLaws.{domains_length}
 use Rattle.declarations.specs.Declaring.{Declares, entered_process}
@@ -37,7 +38,7 @@ unfolding weighed process_weighed giving
 giving_weighed R M ds (refused k) = refl
 giving_weighed R M ds (taken E t) = refl
 
-module _ (T t : List ℕ) (hi d x : ℕ) (p : Checked) (e : p ≡ checked (counted 0 hi (number_of 5 d) t)) (f : d ≡ x) (g : x ≡ get_or T 0 0) where
+module _ (T t : List ℕ) (hi d x : ℕ) (p : Checked) (e : p ≡ checked (counted 0 hi (number_of 5 d) t)) (f : d ≡ x) (g : x ≡ domain_count T) where
   abbrev after : List ℕ → List ℕ → Read Process
   after ds u = giving (λ E. record { parameters = ds; term = E }) (read_rule_term (declared T) ds u)
 
@@ -71,26 +72,26 @@ module _ (T t : List ℕ) (hi d x : ℕ) (p : Checked) (e : p ≡ checked (count
 
 -- ── entering it ──
 
-pub entered_is : (T T₁ t : List ℕ) (p k a b c left x y : ℕ) → T₁ ≡ paste T (212 + 9 * p) (take (k + 1) t) (length (take (k + 1) t)) → k ≡ get_or t 0 0 → x ≡ left → y ≡ p + 1
-    → set (set (set (set (set T₁ (212 + 9 * p + 5) a) (212 + 9 * p + 6) b) (212 + 9 * p + 7) c) (212 + 9 * p + 8) x) 211 y ≡ entered_process T p (take (get_or t 0 0 + 1) t) a b c left
+pub entered_is : (T T₁ t : List ℕ) (p k a b c left x y : ℕ) → T₁ ≡ paste T (process_place p) (take (k + 1) t) (length (take (k + 1) t)) → k ≡ get_or t 0 0 → x ≡ left → y ≡ p + 1
+    → set (set (set (set (set T₁ (process_place p + size_in) a) (process_place p + reach_in) b) (process_place p + breadth_in) c) (process_place p + body_in) x) processes_place y ≡ entered_process T p (take (get_or t 0 0 + 1) t) a b c left
 unfolding entered_process
 entered_is T T₁ t p k a b c left x y e f g i =
-    let q : T₁ ≡ paste T (212 + 9 * p) (take (get_or t 0 0 + 1) t) (length (take (get_or t 0 0 + 1) t)) = e ∙ ap (λ n. paste T (212 + 9 * p) (take (n + 1) t) (length (take (n + 1) t))) f in
-    (λ j. set (set (set (set (set (q j) (212 + 9 * p + 5) a) (212 + 9 * p + 6) b) (212 + 9 * p + 7) c) (212 + 9 * p + 8) (g j)) 211 (i j))
+    let q : T₁ ≡ paste T (process_place p) (take (get_or t 0 0 + 1) t) (length (take (get_or t 0 0 + 1) t)) = e ∙ ap (λ n. paste T (process_place p) (take (n + 1) t) (length (take (n + 1) t))) f in
+    (λ j. set (set (set (set (set (q j) (process_place p + size_in) a) (process_place p + reach_in) b) (process_place p + breadth_in) c) (process_place p + body_in) (g j)) processes_place (i j))
 
 -- ── what the rest asks ──
 
-last_set : (T : List ℕ) (v : ℕ) (B : List ℕ) → length (set B 211 v) ≡ length T → 211 < length T → get_or (set B 211 v) 211 0 ≡ v
-last_set T v B h k = get_or-set_same B 211 v 0 (omega (arith, length-set B 211 v))
+last_set : (T : List ℕ) (v : ℕ) (B : List ℕ) → length (set B processes_place v) ≡ length T → processes_place < length T → process_count (set B processes_place v) ≡ v
+last_set T v B h k = get_or-set_same B processes_place v 0 (omega (arith, length-set B processes_place v))
 
-pub next_asks : (T T' t : List ℕ) (p left : ℕ) (w : Weight) → Bounded T → get_or t 0 0 ≤ 4 → 212 + 9 * (p + 1) ≤ length T → T' ≡ entered_process T p (take (get_or t 0 0 + 1) t) w.size w.reach w.breadth left
-    → (length T' ≡ length T) × (get_or T' 211 0 ≡ p + 1) × Bounded T'
+pub next_asks : (T T' t : List ℕ) (p left : ℕ) (w : Weight) → Bounded T → get_or t 0 0 ≤ 4 → process_place (p + 1) ≤ length T → T' ≡ entered_process T p (take (get_or t 0 0 + 1) t) w.size w.reach w.breadth left
+    → (length T' ≡ length T) × (process_count T' ≡ p + 1) × Bounded T'
 unfolding entered_process
 next_asks T T' t p left w b few room e =
     let short : length (take (get_or t 0 0 + 1) t) ≤ 5 = omega (arith, length-take (get_or t 0 0 + 1) t) in
     let same : length T' ≡ length T = ap length e ∙ entered_length T p (take (get_or t 0 0 + 1) t) (measure w) left short room in
     let same₁ = entered_length T p (take (get_or t 0 0 + 1) t) (measure w) left short room in
-    (same, ap (λ l. get_or l 211 0) e ∙ last_set T (p + 1) (set (set (set (set (paste T (212 + 9 * p) (take (get_or t 0 0 + 1) t) (length (take (get_or t 0 0 + 1) t))) (212 + 9 * p + 5) w.size) (212 + 9 * p + 6) w.reach) (212 + 9 * p + 7) w.breadth) (212 + 9 * p + 8) left) same₁ (omega arith), subst Bounded (sym e) (entered_bounded T p (take (get_or t 0 0 + 1) t) (measure w) left short room b))
+    (same, ap (λ l. process_count l) e ∙ last_set T (p + 1) (set (set (set (set (paste T (process_place p) (take (get_or t 0 0 + 1) t) (length (take (get_or t 0 0 + 1) t))) (process_place p + size_in) w.size) (process_place p + reach_in) w.reach) (process_place p + breadth_in) w.breadth) (process_place p + body_in) left) same₁ (omega arith), subst Bounded (sym e) (entered_bounded T p (take (get_or t 0 0 + 1) t) (measure w) left short room b))
 
 -- ── all of them ──
 
@@ -121,12 +122,12 @@ module _ (T t : List ℕ) (hi : ℕ) (q : Answer) (e : q ≡ process_weighed (de
         (omega (arith, r.0, h), r.1)
 
     -- x is the word read
-    module _ (p x : ℕ) (T' : List ℕ) (small : hi ≤ 4) (b : Bounded T) (count : get_or T 211 0 ≡ p) (room : 212 + 9 * (p + 1) ≤ length T) (i : x ≡ get_or t 0 0)
+    module _ (p x : ℕ) (T' : List ℕ) (small : hi ≤ 4) (b : Bounded T) (count : process_count T ≡ p) (room : process_place (p + 1) ≤ length T) (i : x ≡ get_or t 0 0)
         (en : T' ≡ entered_process T p (take (get_or t 0 0 + 1) t) w.size w.reach w.breadth (length t - (x + 1))) where
       entered : T' ≡ entered_process T p (take (get_or t 0 0 + 1) t) w.size w.reach w.breadth (length t - (get_or t 0 0 + 1))
       entered = en ∙ ap (λ y. entered_process T p (take (get_or t 0 0 + 1) t) w.size w.reach w.breadth (length t - (y + 1))) i
 
-      asks : (length T' ≡ length T) × (get_or T' 211 0 ≡ p + 1) × Bounded T'
+      asks : (length T' ≡ length T) × (process_count T' ≡ p + 1) × Bounded T'
       asks = next_asks T T' t p (length t - (x + 1)) w b (all_front small).0 room en
 
       one_last : n ≡ 0 → ProcessesRead t T (suc n) (found m w) T'
@@ -144,13 +145,13 @@ module _ (T t : List ℕ) (hi : ℕ) (q : Answer) (e : q ≡ process_weighed (de
             (λ P S y z k. next.placed whole P S u (tail_on r t whole tl (subst (λ y. Tail y t) (sym rest) (last_tail m t))) y z k);
       }
 
-  pub all_last : (n m p x : ℕ) (w : Weight) (T' : List ℕ) → n ≡ 1 → hi ≡ parameter_limit (n - 1) → hi ≤ 4 → q ≡ found m w → Bounded T → get_or T 211 0 ≡ p → 212 + 9 * (n + p) ≤ length T → x ≡ get_or t 0 0
+  pub all_last : (n m p x : ℕ) (w : Weight) (T' : List ℕ) → n ≡ 1 → hi ≡ parameter_limit (n - 1) → hi ≤ 4 → q ≡ found m w → Bounded T → process_count T ≡ p → process_place (n + p) ≤ length T → x ≡ get_or t 0 0
       → T' ≡ entered_process T p (take (get_or t 0 0 + 1) t) w.size w.reach w.breadth (length t - (x + 1)) → ProcessesRead t T n (found m w) T'
   all_last n m p x w T' o h small f b count room i en =
       let z : n - 1 ≡ 0 = omega arith in
       subst (λ y. ProcessesRead t T y (found m w) T') (sym o) (one_last 0 m w (h ∙ ap parameter_limit z) f p x T' small b count (omega arith) i en refl)
 
-  pub all_next : (n m p x : ℕ) (w : Weight) (T' r T'' : List ℕ) (v : Answer) → 1 ≤ n → hi ≡ parameter_limit (n - 1) → hi ≤ 4 → q ≡ found m w → Bounded T → get_or T 211 0 ≡ p → 212 + 9 * (n + p) ≤ length T → x ≡ get_or t 0 0
+  pub all_next : (n m p x : ℕ) (w : Weight) (T' r T'' : List ℕ) (v : Answer) → 1 ≤ n → hi ≡ parameter_limit (n - 1) → hi ≤ 4 → q ≡ found m w → Bounded T → process_count T ≡ p → process_place (n + p) ≤ length T → x ≡ get_or t 0 0
       → T' ≡ entered_process T p (take (get_or t 0 0 + 1) t) w.size w.reach w.breadth (length t - (x + 1)) → r ≡ last_of m t → ProcessesRead r T' (n - 1) v T'' → ProcessesRead t T n v T''
   all_next zero m p x w T' r T'' v l h small f b count room i en rest next = absurd (let z : ⊥ = omega arith in z)
   all_next (suc n) m p x w T' r T'' v l h small f b count room i en rest next =
@@ -163,12 +164,12 @@ pub record Going (t T₀ : List ℕ) (n p : ℕ) (a : Weighed) (T : List ℕ) : 
   pub within : p ≤ n
   pub short : a.left ≤ length t
   pub same_length : length T ≡ length T₀
-  pub count : get_or T 211 0 ≡ p
+  pub count : process_count T ≡ p
   pub bounded : Bounded T
   pub rest : (v : Answer) (T' : List ℕ) → 1 ≤ n - p → ProcessesRead (last_of a.left t) T (n - p) v T' → ProcessesRead t T₀ n v T'
   pub done : n ≡ p → ProcessesRead t T₀ n (Ok a) T
 
-pub going_start : (t T : List ℕ) (n : ℕ) (w : Weight) → 1 ≤ n → get_or T 211 0 ≡ 0 → Bounded T → Going t T n 0 (record { left = length t; weight = w }) T
+pub going_start : (t T : List ℕ) (n : ℕ) (w : Weight) → 1 ≤ n → process_count T ≡ 0 → Bounded T → Going t T n 0 (record { left = length t; weight = w }) T
 going_start t T n w l z b = record {
   within = omega arith;
   short = le_refl (length t);
@@ -201,9 +202,9 @@ module _ (t T₀ T u : List ℕ) (n p hi : ℕ) (a : Weighed) (g : Going t T₀ 
         let s = process_row_front T u (n - p - 1) b.left b.weight (was T u hi q e (n - p - 1) b.left b.weight limit f) in
         omega (arith, s.2, ap length i, last_length a.left t g.short)
 
-    pub going_next : (x : ℕ) (T' : List ℕ) → x ≡ get_or u 0 0 → 212 + 9 * n ≤ length T₀ → T' ≡ entered_process T p (take (get_or u 0 0 + 1) u) b.weight.size b.weight.reach b.weight.breadth (length u - (x + 1)) → Going t T₀ n (p + 1) b T'
+    pub going_next : (x : ℕ) (T' : List ℕ) → x ≡ get_or u 0 0 → process_place n ≤ length T₀ → T' ≡ entered_process T p (take (get_or u 0 0 + 1) u) b.weight.size b.weight.reach b.weight.breadth (length u - (x + 1)) → Going t T₀ n (p + 1) b T'
     going_next x T' j room en =
-        let here : 212 + 9 * (n - p + p) ≤ length T = omega (arith, g.same_length, l) in
+        let here : process_place (n - p + p) ≤ length T = omega (arith, g.same_length, l) in
         let asks = next_asks T T' u p (length u - (x + 1)) b.weight g.bounded going_front.0 (omega (arith, g.same_length, l)) en in
         record {
           within = omega arith;

@@ -1,7 +1,7 @@
 -- The sections in a row: a case for each way that these functions return, and what they ask.
 use mathlib.Core.Path.{◌≡◌, refl, ap, sym, ◌∙◌, subst}
 use mathlib.Core.List.{List}
-use Prim.Native.Nat.{ℕ, ◌+◌, ◌*◌, ◌≤◌, ◌<◌}
+use Prim.Native.Nat.{ℕ, ◌+◌, ◌≤◌}
 use native.Mathlib.Omega.{arith}
 use lib.ListN.{length, get_or, set, take, length-set}
 use lib.Seq.{paste, length-paste, length-take-le, get_or-set_same, get_or-set_other}
@@ -16,6 +16,7 @@ use Rattle.scan.specs.Checking.{checked, last_of, Checked}
 use Rattle.scan.specs.Laws.{Tail, tail_on, number_ends, got, last_tail}
 use Rattle.scan.specs.ReadingLaws.{checked_refused, then_refused_as, then_taken, not_taken, RefusedAs, same_refused}
 use Rattle.scan.specs.RowLaws.{count_word, repeat_ends, counted_ends}
+use Rattle.arguments.specs.Layout.{tables_length, labels_place, label_place, processes_place, process_place, domain_count, label_count, process_count, domains_place}
 use Rattle.arguments.specs.Tables.{row, declared}
 use Rattle.arguments.specs.TableLaws.{domains_length}
 use Rattle.declarations.specs.Entering.{put_rows, Entered}
@@ -60,25 +61,25 @@ module _ (T t : List ℕ) (p : Checked) (e : p ≡ checked (count_of 1 32 t)) wh
         placed = λ whole ds ls fs R u tl z g. absurd (not_taken (process_section ds ls fs t) k R u (then_refused_as (count_of 1 32 t) _ k r) g);
       }
 
-  pub section_in : (m n : ℕ) (r T' : List ℕ) (q : Answer) → 212 ≤ length T → Bounded T → p ≡ Ok m → n ≡ get_or t 0 0 → r ≡ last_of m t → ProcessesRead r (set T 211 0) n q T' → ProcessSectionRead t T q T'
+  pub section_in : (m n : ℕ) (r T' : List ℕ) (q : Answer) → process_place 0 ≤ length T → Bounded T → p ≡ Ok m → n ≡ get_or t 0 0 → r ≡ last_of m t → ProcessesRead r (set T processes_place 0) n q T' → ProcessSectionRead t T q T'
   unfolding process_section
   section_in m n r T' q room b h i l k =
-      let start : (ds : List ℕ) (ls : List (List ℕ)) (fs : List Function) → Tables T ds ls fs → Declares (set T 211 0) (without_processes edition_1 ds ls fs) =
+      let start : (ds : List ℕ) (ls : List (List ℕ)) (fs : List Function) → Tables T ds ls fs → Declares (set T processes_place 0) (without_processes edition_1 ds ls fs) =
       λ ds ls fs z. processes_start T ds ls fs room b.domains_few b.labels_few b.label_rows z in
       let same : (ds : List ℕ) (ls : List (List ℕ)) (fs : List Function) → process_section ds ls fs t ≡ read_processes n (without_processes edition_1 ds ls fs) r =
       λ ds ls fs. then_taken (count_of 1 32 t) (λ n. read_processes n (without_processes edition_1 ds ls fs)) (get_or t 0 0) (last_of m t) (count_word 1 32 m t (sym h ∙ e))
       ∙ (λ j. read_processes (sym i j) (without_processes edition_1 ds ls fs) (sym l j)) in
       record {
         answer = λ ds ls fs z. k.answer (without_processes edition_1 ds ls fs) (start ds ls fs z) tt ∙ sym (ap main_weighed (same ds ls fs));
-        same_length = k.same_length ∙ length-set T 211 0;
+        same_length = k.same_length ∙ length-set T processes_place 0;
         placed = λ whole ds ls fs R u tl z g.
             k.placed whole (without_processes edition_1 ds ls fs) R u (tail_on r t whole tl (subst (λ y. Tail y t) (sym l) (last_tail m t))) (record { declares = start ds ls fs z; rows = tt }) tt (sym (same ds ls fs) ∙ g);
       }
 
-  pub section_asks : (m n : ℕ) → length T ≡ 500 → Bounded T → p ≡ Ok m → n ≡ get_or t 0 0 → (1 ≤ n) × (n ≤ 32) × (get_or (set T 211 0) 211 0 ≡ 0) × Bounded (set T 211 0)
+  pub section_asks : (m n : ℕ) → length T ≡ tables_length → Bounded T → p ≡ Ok m → n ≡ get_or t 0 0 → (1 ≤ n) × (n ≤ 32) × (process_count (set T processes_place 0) ≡ 0) × Bounded (set T processes_place 0)
   section_asks m n s b h i =
       let c = count_between 1 32 m n t p e h i in
-      (c.0, c.1, get_or-set_same T 211 0 0 (omega arith), set_bounded T 211 0 (omega arith) (omega arith) b)
+      (c.0, c.1, get_or-set_same T processes_place 0 0 (omega arith), set_bounded T processes_place 0 (omega arith) (omega arith) b)
 
 -- ── labels ──
 
@@ -97,15 +98,15 @@ module _ (T t : List ℕ) (p : Checked) (e : p ≡ checked (count_of 1 64 t)) wh
         filled = λ ds z whole R u tl small g room. absurd (not_taken (label_section ds t) k R u (then_refused_as (read_labels (length ds) t) _ k (r ds)) g);
       }
 
-  module _ (m n x d y : ℕ) (s : length T ≡ 500) (few : get_or T 0 0 ≤ 16) (h : p ≡ Ok m) (i : n ≡ get_or t 0 0) (f : x ≡ n) (fd : d ≡ y) (fy : y ≡ get_or (set T 17 x) 0 0) where
-    pub labels_asks : 18 + 3 * n ≤ length (set T 17 x)
-    labels_asks = omega (arith, count_between 1 64 m n t p e h i, length-set T 17 x)
+  module _ (m n x d y : ℕ) (s : length T ≡ tables_length) (few : domain_count T ≤ 16) (h : p ≡ Ok m) (i : n ≡ get_or t 0 0) (f : x ≡ n) (fd : d ≡ y) (fy : y ≡ domain_count (set T labels_place x)) where
+    pub labels_asks : label_place n ≤ length (set T labels_place x)
+    labels_asks = omega (arith, count_between 1 64 m n t p e h i, length-set T labels_place x)
 
-    module _ (u : List ℕ) (l : u ≡ last_of m t) (r : Checked) (T' : List ℕ) (entered : Entered u (set T 17 x) n 18 d r T') where
+    module _ (u : List ℕ) (l : u ≡ last_of m t) (r : Checked) (T' : List ℕ) (entered : Entered u (set T labels_place x) n (label_place 0) d r T') where
       labels_read_are : (ds : List ℕ) → (declared T).domains ≡ ds → read_labels (length ds) t ≡ repeat n (label_of d) u
       unfolding counted
       labels_read_are ds z =
-          let c : length ds ≡ d = sym (ap length z) ∙ domains_length T ∙ sym (get_or-set_other T 17 0 x 0 (omega arith)) ∙ sym fy ∙ sym fd in
+          let c : length ds ≡ d = sym (ap length z) ∙ domains_length T ∙ sym (get_or-set_other T labels_place 0 x 0 (omega arith)) ∙ sym fy ∙ sym fd in
           then_taken (count_of 1 64 t) (λ n. repeat n (label_of (length ds))) (get_or t 0 0) (last_of m t) (count_word 1 64 m t (sym h ∙ e))
           ∙ (λ j. repeat (sym i j) (label_of (c j)) (sym l j))
 
@@ -119,8 +120,8 @@ module _ (T t : List ℕ) (p : Checked) (e : p ≡ checked (count_of 1 64 t)) wh
         known : (length labels_got.0 ≡ n) × All (λ l. length l ≤ 2) labels_got.0
         known = labels_read n d u (last_of j u) labels_got.0 labels_got.1
 
-        rows_there : T' ≡ put_rows 18 labels_got.0 (set T 17 (length labels_got.0))
-        rows_there = entered.rows labels_got.0 (last_of j u) labels_got.1 ∙ ap (λ k. put_rows 18 labels_got.0 (set T 17 k)) (f ∙ sym known.0)
+        rows_there : T' ≡ put_rows (label_place 0) labels_got.0 (set T labels_place (length labels_got.0))
+        rows_there = entered.rows labels_got.0 (last_of j u) labels_got.1 ∙ ap (λ k. put_rows (label_place 0) labels_got.0 (set T labels_place k)) (f ∙ sym known.0)
 
         sixty_four : length labels_got.0 ≤ 64
         sixty_four = omega (arith, known.0, count_between 1 64 m n t p e h i)
@@ -131,7 +132,7 @@ module _ (T t : List ℕ) (p : Checked) (e : p ≡ checked (count_of 1 64 t)) wh
         bounded : Bounded T'
         bounded = record {
           domains_few = omega (arith, sym (domains_length T') ∙ ap length label_heads.same_domains ∙ domains_length T);
-          labels_few = omega (arith, ap (λ S. get_or S 17 0) rows_there ∙ labels_counted T labels_got.0 (omega arith) sixty_four known.1, sixty_four);
+          labels_few = omega (arith, ap (λ S. label_count S) rows_there ∙ labels_counted T labels_got.0 (omega arith) sixty_four known.1, sixty_four);
           label_rows = subst (All (λ l. length l ≤ 2)) (sym label_heads.same_labels) known.1;
         }
 
@@ -145,25 +146,25 @@ module _ (T t : List ℕ) (p : Checked) (e : p ≡ checked (count_of 1 64 t)) wh
         labels_go : (v T'' D D' : List ℕ) (w : Result Rules Refusal) → v ≡ last_of j u → FunctionSectionRead v T' D w T'' D' → LabelSectionRead t T D w T'' D'
         labels_go v T'' D D' w o k = record {
           answer = λ ds z. k.answer ds labels_got.0 (heads_for ds z) ∙ sym (ap rules_weighed (section_by v o ds z));
-          same_tables = k.same_tables ∙ entered.same_length ∙ length-set T 17 x;
+          same_tables = k.same_tables ∙ entered.same_length ∙ length-set T labels_place x;
           same_directory = k.same_directory;
           filled = λ ds z whole R c tl small g room. k.filled ds labels_got.0 (heads_for ds z) whole R c
               (tail_on v u whole (tail_on u t whole tl (subst (λ y. Tail y t) (sym l) (last_tail m t))) (subst (λ y. Tail y u) (sym o) (last_tail j u))) small (sym (section_by v o ds z) ∙ g) room;
         }
 
-    pub labels_out : (u T' D : List ℕ) (r : Checked) (k : Refusal) → u ≡ last_of m t → Entered u (set T 17 x) n 18 d r T' → r ≡ Err k → LabelSectionRead t T D (Err k) T' D
+    pub labels_out : (u T' D : List ℕ) (r : Checked) (k : Refusal) → u ≡ last_of m t → Entered u (set T labels_place x) n (label_place 0) d r T' → r ≡ Err k → LabelSectionRead t T D (Err k) T' D
     unfolding label_section
     labels_out u T' D r k l en q = record {
       answer = λ ds z. rules_out (read_labels (length ds) t) _ k (labels_refused u l r T' en k q ds z);
-      same_tables = en.same_length ∙ length-set T 17 x;
+      same_tables = en.same_length ∙ length-set T labels_place x;
       same_directory = refl;
       filled = λ ds z whole R c tl small g room. absurd (not_taken (label_section ds t) k R c (then_refused_as (read_labels (length ds) t) _ k (labels_refused u l r T' en k q ds z)) g);
     }
 
-    pub labels_bounded : (u T' : List ℕ) (r : Checked) (j : ℕ) → u ≡ last_of m t → Entered u (set T 17 x) n 18 d r T' → r ≡ Ok j → Bounded T'
+    pub labels_bounded : (u T' : List ℕ) (r : Checked) (j : ℕ) → u ≡ last_of m t → Entered u (set T labels_place x) n (label_place 0) d r T' → r ≡ Ok j → Bounded T'
     labels_bounded u T' r j l en q = bounded u l r T' en j q
 
-    pub labels_in : (u v T' T'' D D' : List ℕ) (r : Checked) (j : ℕ) (w : Result Rules Refusal) → u ≡ last_of m t → Entered u (set T 17 x) n 18 d r T' → r ≡ Ok j → v ≡ last_of j u → FunctionSectionRead v T' D w T'' D' → LabelSectionRead t T D w T'' D'
+    pub labels_in : (u v T' T'' D D' : List ℕ) (r : Checked) (j : ℕ) (w : Result Rules Refusal) → u ≡ last_of m t → Entered u (set T labels_place x) n (label_place 0) d r T' → r ≡ Ok j → v ≡ last_of j u → FunctionSectionRead v T' D w T'' D' → LabelSectionRead t T D w T'' D'
     labels_in u v T' T'' D D' r j w l en q o k = labels_go u l r T' en j q v T'' D D' w o k
 
 -- ── the whole ──
@@ -180,7 +181,7 @@ module _ (T t : List ℕ) (p : Checked) (e : p ≡ checked (read_domains t)) whe
         directory = λ R u g room. absurd (not_taken (read_rules edition_1 t) k R u (then_refused_as (read_domains t) _ k r) g);
       }
 
-  module _ (m k : ℕ) (s : length T ≡ 500) (h : p ≡ Ok m) (i : k ≡ get_or t 0 0) where
+  module _ (m k : ℕ) (s : length T ≡ tables_length) (h : p ≡ Ok m) (i : k ≡ get_or t 0 0) where
     domains_here : RowAt 16 t (read_domains t) m
     domains_here = domains_row m t p e h
 
@@ -191,14 +192,14 @@ module _ (T t : List ℕ) (p : Checked) (e : p ≡ checked (read_domains t)) whe
     pub read_front : (k + 1 ≡ length (take (k + 1) t)) × (0 + length (take (k + 1) t) ≤ length T)
     read_front = let e = length-take-le (k + 1) t read_copies.1 in (sym e, rw e read_copies.0)
 
-    module _ (T' : List ℕ) (copy : T' ≡ paste T 0 (take (k + 1) t) (length (take (k + 1) t))) where
-      c : T' ≡ paste T 0 t (k + 1)
+    module _ (T' : List ℕ) (copy : T' ≡ paste T domains_place (take (k + 1) t) (length (take (k + 1) t))) where
+      c : T' ≡ paste T domains_place t (k + 1)
       c = copy ∙ sym (paste_front T t 0 (k + 1) read_copies.1)
 
-      copied : T' ≡ paste T 0 t (get_or t 0 0 + 1)
-      copied = c ∙ ap (λ n. paste T 0 t (n + 1)) i
+      copied : T' ≡ paste T domains_place t (get_or t 0 0 + 1)
+      copied = c ∙ ap (λ n. paste T domains_place t (n + 1)) i
 
-      pub read_asks : get_or T' 0 0 ≤ 16
+      pub read_asks : domain_count T' ≤ 16
       read_asks = omega (arith, ap (λ l. get_or l 0 0) copied ∙ domains_counted T t (row t 0) (last_of m t) domains_here.is (omega arith), domains_here.few, domains_here.small)
 
       named : (declared T').domains ≡ row t 0
@@ -211,7 +212,7 @@ module _ (T t : List ℕ) (p : Checked) (e : p ≡ checked (read_domains t)) whe
       pub read_in : (v T'' D D' : List ℕ) (w : Result Rules Refusal) → length t ≤ 65535 → v ≡ last_of m t → LabelSectionRead v T' D w T'' D' → RulesRead t T D w T'' D'
       read_in v T'' D D' w short o g = record {
         answer = g.answer (row t 0) named ∙ sym (ap rules_weighed (whole_is v o));
-        same_tables = g.same_tables ∙ ap length c ∙ length-paste T 0 t (k + 1) read_copies.0 read_copies.1;
+        same_tables = g.same_tables ∙ ap length c ∙ length-paste T domains_place t (k + 1) read_copies.0 read_copies.1;
         same_directory = g.same_directory;
         directory = λ R u e room. g.filled (row t 0) named t R u (subst (λ y. Tail y t) (sym o) (last_tail m t)) (omega arith) (sym (whole_is v o) ∙ e) room;
       }

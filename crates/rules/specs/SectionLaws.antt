@@ -1,6 +1,6 @@
 -- One process read and entered, then the rest: what the check of the processes answers, case by case.
 -- Document 01, "Blocks and the rule stream", items 2 to 5; refusals 4 to 6.
-use Rattle.std.specs.Prelude.{◌≡◌, refl, List, [], ◌∷◌, ℕ, zero, suc, ◌+◌, ◌-◌, ◌*◌, ◌≤◌, length, get_or, take, Ok, Err}
+use Rattle.std.specs.Prelude.{◌≡◌, refl, List, [], ◌∷◌, ℕ, zero, suc, ◌+◌, ◌-◌, ◌≤◌, length, get_or, take, Ok, Err}
 use Rattle.std.proofs.Math.Path.{ap, sym, subst}
 use Rattle.std.proofs.Common.{◌∙◌, arith, length-append}
 use Rattle.eb3.specs.RuleSets.{Process, RuleSet, main_process, process}
@@ -16,6 +16,7 @@ use Rattle.scan.specs.Checking.{last_of}
 use Rattle.scan.specs.Laws.{Tail, Fine, Ends, then_fine, giving_fine, tail_at, tail_short, number_ends}
 use Rattle.scan.specs.RowLaws.{counted_ends}
 use Rattle.rule_terms.specs.Laws.{term_ends}
+use Rattle.arguments.specs.Layout.{process_place, body_in, process_count, body_at}
 use Rattle.arguments.specs.Tables.{declared, callee}
 use Rattle.arguments.specs.TableLaws.{width_declared}
 use Rattle.declarations.specs.Declaring.{Declares, entered_process}
@@ -125,7 +126,7 @@ module _ (T t : List ℕ) (n : ℕ) where
       rest_reads = ap (λ r. then r λ P. read_processes n (with_process R P)) read_behind
 
       -- Entered, it is declared with the others, and its term is after its parameters.
-      module _ (p : ℕ) (T' : List ℕ) (b : Bounded T) (narrow : Narrow R) (count : get_or T 211 0 ≡ p) (room : 212 + 9 * (p + 1) ≤ length T)
+      module _ (p : ℕ) (T' : List ℕ) (b : Bounded T) (narrow : Narrow R) (count : process_count T ≡ p) (room : process_place (p + 1) ≤ length T)
           (entered : T' ≡ entered_process T p (take (get_or t 0 0 + 1) t) w.size w.reach w.breadth (length t - (get_or t 0 0 + 1))) where
         abbrev head : List ℕ
         head = length got.0.parameters ∷ got.0.parameters
@@ -139,7 +140,7 @@ module _ (T t : List ℕ) (n : ℕ) where
         c : length R.processes ≡ p
         c = sym (count_of_same T R.processes d.same_processes) ∙ count
 
-        enough : 212 + 9 * (length R.processes + 1) ≤ length T
+        enough : process_place (length R.processes + 1) ≤ length T
         enough = omega (arith, c)
 
         there : T' ≡ entered_process T (length R.processes) head w.size w.reach w.breadth (length t - (get_or t 0 0 + 1))
@@ -156,8 +157,8 @@ module _ (T t : List ℕ) (n : ℕ) where
             let short : length head ≤ 5 = omega (arith, four) in
             let kept : ProcessRows whole T' 0 R.processes = rows_kept whole T T' 0 R.processes
             (λ j o q. ap (λ S. get_or S j 0) there ∙ entered_before T (length R.processes) head (measure w) (length t - (get_or t 0 0 + 1)) short enough j (omega arith) (omega arith)) rows in
-            let place : get_or T' (212 + 9 * (0 + length R.processes) + 8) 0 ≡ length t - (get_or t 0 0 + 1) =
-            let z : 212 + 9 * (0 + length R.processes) + 8 ≡ 212 + 9 * length R.processes + 8 = omega arith in
+            let place : body_at T' (0 + length R.processes) ≡ length t - (get_or t 0 0 + 1) =
+            let z : process_place (0 + length R.processes) + body_in ≡ process_place (length R.processes) + body_in = omega arith in
             (λ i. get_or (there i) (z i) 0) ∙ entered_left T (length R.processes) head (measure w) (length t - (get_or t 0 0 + 1)) short enough in
             record {
               declares = grown;

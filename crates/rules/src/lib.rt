@@ -4,6 +4,7 @@
 
 ghost use Rattle.std.specs.Prelude.{◌≡◌, List, [], ◌∷◌, ◌++◌, ℕ, ◌+◌, ◌-◌, ◌*◌, ◌≤◌, ◌<◌, drop, take, get_or, length, set};
 ghost use Rattle.eb3.specs.RuleReading.{parameter_limit, read_process};
+ghost use Rattle.arguments.specs.Layout.{domain_count, process_count};
 ghost use Rattle.arguments.specs.Tables.{declared, callee};
 ghost use Rattle.declarations.specs.Declaring.{entered_process};
 ghost use Rattle.declarations.specs.ProcessLaws.{Bounded};
@@ -73,7 +74,7 @@ fn enter_process(tb: &mut [u32; TABLES], t: &[u16], p: usize, w: Weight, left: u
 // Stays, here and below: that the tables are `Bounded` is a fact of what the sections before have put into them, and each of these functions writes into
 // them.
 fn processes(t: &[u16], tb: &mut [u32; TABLES], n: usize) -> Result<Weighed, Refusal>
-    requires { (1 ≤ n) × (n ≤ 32) × (length t.now ≤ 65535) × (get_or tb.old 211 0 ≡ 0) × Bounded tb.old }
+    requires { (1 ≤ n) × (n ≤ 32) × (length t.now ≤ 65535) × (process_count tb.old ≡ 0) × Bounded tb.old }
     ensures { ProcessesRead t.now tb.old n result tb.new }
 {
     let mut main = Weighed {
@@ -125,7 +126,7 @@ fn function_section(t: &[u16], tb: &mut [u32; TABLES], dir: &mut [u32]) -> Resul
 }
 
 fn label_section(t: &[u16], tb: &mut [u32; TABLES], dir: &mut [u32]) -> Result<Rules, Refusal>
-    requires { (length t.now ≤ 65535) × (get_or tb.old 0 0 ≤ 16) }
+    requires { (length t.now ≤ 65535) × (domain_count tb.old ≤ 16) }
     ensures { LabelSectionRead t.now tb.old dir.old result tb.new dir.new }
 {
     let m = count(t, 1, 64)?;

@@ -24,6 +24,7 @@ use Rattle.scan.specs.Laws.{Fine, nil_form, cons_form}
 use Rattle.scan.specs.ReadingLaws.{Taken, giving_refused_as, giving_taken, same_refused}
 use Rattle.weights.specs.declared.Weight.{Weight}
 use Rattle.weights.specs.Weighing.{cap, measure}
+use Rattle.arguments.specs.Layout.{label_place, label_count}
 use Rattle.arguments.specs.Tables.{row, declared}
 use Rattle.arguments.specs.TableLaws.{labels_length, label_at}
 use Rattle.terms.specs.Given.{wrong, weighed_running}
@@ -50,7 +51,7 @@ module _ (T t : List ℕ) where
   action_none h = ap (λ u. weighed_running (action_of (declared T) u)) (sym (nil_form t h))
 
   -- b is the number of labels, d the label
-  module _ (h : length t ≡ 0 → ⊥) (b d : ℕ) (i : b ≡ get_or T 17 0) (z : d ≡ get_or t 0 0) where
+  module _ (h : length t ≡ 0 → ⊥) (b d : ℕ) (i : b ≡ label_count T) (z : d ≡ get_or t 0 0) where
     by_label : (c : Bool) → ltb d b ≡ c → action_of (declared T) t ≡ then (pick c (taken d (drop 1 t)) (refused 5)) (performed T)
     unfolding action_of by_number number_of declared
     by_label c e =
@@ -63,7 +64,7 @@ module _ (T t : List ℕ) where
     action_high o = refused_wrong _ _ (record { code = 5; read = by_label false (le-ltb d b o); named = refl })
 
     -- ds are the label's domains, u the words after the label, p how many words are left after an element of each domain
-    module _ (k : d < b) (ds u : List ℕ) (p : Option ℕ) (o : ds ≡ row T (18 + 3 * d)) (l : u ≡ drop 1 t) (f : p ≡ left_after (elements_of 1 (sizes_of (declared T) ds) u)) where
+    module _ (k : d < b) (ds u : List ℕ) (p : Option ℕ) (o : ds ≡ row T (label_place d)) (l : u ≡ drop 1 t) (f : p ≡ left_after (elements_of 1 (sizes_of (declared T) ds) u)) where
       domains_are : label (declared T) d ≡ ds
       domains_are = label_at T d (omega (arith, i)) ∙ sym o
 

@@ -6,7 +6,7 @@ use native.Mathlib.Omega.{arith}
 use mathlib.Core.Path.{◌≡◌, refl, sym, ap, ◌∙◌, subst}
 use mathlib.Core.Bool.{Bool}
 use mathlib.Core.List.{List, ◌++◌}
-use lib.ListN.{length, take, get_or, length-append}
+use lib.ListN.{length, take, length-append}
 use Rattle.eb3.specs.Editions.{edition_1}
 use Rattle.eb3.specs.Expressions.{Cond}
 use Rattle.eb3.specs.Spelling.{cond_words}
@@ -27,6 +27,7 @@ use Rattle.scan.specs.Laws.{last_len}
 use Rattle.scan.specs.ReadingLaws.{Taken, checked_refused, checked_taken, giving_refused_as, giving_taken, both_first_as, both_second_as, both_taken, both_behind, same_refused}
 use Rattle.grammar.specs.Laws.{cond_ends}
 use Rattle.weights.specs.Weighing.{cap, parallel_by, joint_of}
+use Rattle.arguments.specs.Layout.{label_count, function_count}
 use Rattle.arguments.specs.Tables.{declared}
 use Rattle.arguments.specs.TableLaws.{labels_length, guard_declared, mask_ends, mask_read}
 use Rattle.weights.specs.declared.Joint.{Joint}
@@ -102,7 +103,7 @@ weighed_parallel c Δ h (refused k) = refl
 weighed_parallel c Δ h (taken s t) = λ j. packed (length t) (h (measure_running (sat cap) 1 s.0) (measure_running (sat cap) 1 s.1) j)
 
 -- b is the number of labels, as the code has it
-module _ (T t : List ℕ) (b : ℕ) (p : Checked) (i : b ≡ get_or T 17 0) (e : p ≡ checked (mask_of 4 b t)) where
+module _ (T t : List ℕ) (b : ℕ) (p : Checked) (i : b ≡ label_count T) (e : p ≡ checked (mask_of 4 b t)) where
   abbrev masks : Reader Mask
   masks = mask_of 4 (length (declared T).labels)
 
@@ -139,7 +140,7 @@ words_taken P t C u e =
     omega (arith, ap length h.0, length-append (cond_words 1 C) u, cond_length 1 C)
 
 -- b is the number of functions, as the code has it
-module _ (T t : List ℕ) (b : ℕ) (p : Checked) (i : b ≡ get_or T 210 0) (e : p ≡ checked (read_cond 1 (record { edition = edition_1; arity = λ f. 1; now = b; before = 0; variables = 0 }) t)) where
+module _ (T t : List ℕ) (b : ℕ) (p : Checked) (i : b ≡ function_count T) (e : p ≡ checked (read_cond 1 (record { edition = edition_1; arity = λ f. 1; now = b; before = 0; variables = 0 }) t)) where
   abbrev conditions : Reader Cond
   conditions = read_cond (declared T).edition.width (guard_scope (attributes (declared T)) 0)
 

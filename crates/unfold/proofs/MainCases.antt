@@ -2,9 +2,9 @@
 -- Document 01, "Unfolding, size and breadth".
 use mathlib.Core.Path.{◌≡◌, refl, sym, ap, ◌∙◌, subst}
 use mathlib.Core.List.{List, [], ◌++◌, append_assoc}
-use Prim.Native.Nat.{ℕ, ◌+◌, ◌-◌, ◌*◌, ◌≤◌, ◌<◌, min}
+use Prim.Native.Nat.{ℕ, ◌-◌, ◌*◌, ◌≤◌, ◌<◌, min}
 use native.Mathlib.Omega.{arith}
-use lib.ListN.{length, get_or, take, drop, length-append, length-drop}
+use lib.ListN.{length, take, drop, length-append, length-drop}
 use lib.Seq.{drop-append-le, length-take-le}
 use Rattle.std.proofs.lemmas.List.{take-append-drop}
 use Rattle.std.specs.Prelude.{Option, Some, None, MatchOption, unwrap_or}
@@ -13,11 +13,12 @@ use Rattle.eb3.specs.Generic.Lists.{Within}
 use Rattle.eb3.specs.RuleSets.{RuleSet, sizes_of, process, main_process}
 use Rattle.eb3.specs.Spelling.{words}
 use Rattle.eb3.specs.Unfolding.{unfold_main}
+use Rattle.arguments.specs.Layout.{process_count, body_at}
 use Rattle.unfold.specs.declared.writer.Writer.{Writer}
 use Rattle.unfold.specs.Written.{written_from}
 use Rattle.unfold.specs.Unfolded.{Ready, RuleTermAt, unfolded_words, Unfolding, UnfoldedInto}
 use Rattle.unfold.specs.PutsLaws.{from_start}
-use Rattle.unfold.proofs.RuleFacts.{process_count, body_stands}
+use Rattle.unfold.proofs.RuleFacts.{processes_there, body_stands}
 
 -- Words written into the first m bytes of a buffer.
 front_written : (ws x : List ℕ) (m : ℕ) → 2 * length ws ≤ m → m ≤ length x → written ws (take m x) ++ drop m x ≡ written ws x
@@ -39,9 +40,9 @@ module _ (t T x : List ℕ) where
   abbrev Main : List ℕ → ℕ → Type 0
   Main y w = (length y ≡ length x) × ((R : RuleSet) → Ready t T R → length (words R.edition.width (unfold_main R)) ≤ 65535 → 2 * length (words R.edition.width (unfold_main R)) ≤ length x → (w ≡ length (words R.edition.width (unfold_main R))) × (y ≡ written (words R.edition.width (unfold_main R)) x))
 
-  module _ (k : ℕ) (is_k : k ≡ get_or T 211 0) where
+  module _ (k : ℕ) (is_k : k ≡ process_count T) where
     counted : (R : RuleSet) → Ready t T R → k ≡ length R.processes
-    counted R ready = is_k ∙ process_count t T R ready
+    counted R ready = is_k ∙ processes_there t T R ready
 
     pub main_none : k ≡ 0 → Main x 0
     main_none z = (refl, λ R ready few room. absurd (let f : ⊥ = omega (arith, counted R ready, ready.form.process_count.0) in f))
@@ -50,7 +51,7 @@ module _ (t T x : List ℕ) where
     main_many h = (refl, λ R ready few room. absurd (let f : ⊥ = omega (arith, counted R ready, ready.form.process_count.1) in f))
 
     -- m is how long the front of the buffer is that is lent on, and z the front after
-    module _ (f start m : ℕ) (is_f : f ≡ get_or T (212 + 9 * (k - 1) + 8) 0) (is_start : start ≡ f) (is_m : m ≡ min (length x) 131070) (z : List ℕ) where
+    module _ (f start m : ℕ) (is_f : f ≡ body_at T (k - 1)) (is_start : start ≡ f) (is_m : m ≡ min (length x) 131070) (z : List ℕ) where
       long : length z ≡ length (take m x) → length (z ++ drop m x) ≡ length x
       long h = omega (arith, length-append z (drop m x), h, length-take-le m x (omega arith), length-drop m x)
 
@@ -65,9 +66,9 @@ module _ (t T x : List ℕ) where
             let below : p < length R.processes = omega arith in
             let p_is : k - 1 ≡ p = omega (arith, counted R ready) in
             let stands = body_stands t T R ready p below in
-            let start_is : start ≡ get_or T (212 + 9 * p + 8) 0 = is_start ∙ is_f ∙ ap (λ j. get_or T (212 + 9 * j + 8) 0) p_is in
-            let v : UnfoldedInto t T (get_or T (212 + 9 * p + 8) 0) p [] (take m x) z r = subst (λ j. UnfoldedInto t T j p [] (take m x) z r) start_is (subst (λ j. UnfoldedInto t T start j [] (take m x) z r) p_is u) in
-            let there : RuleTermAt t (get_or T (212 + 9 * p + 8) 0) R p (process R p).parameters [] (process R p).term stands.0 = record {
+            let start_is : start ≡ body_at T p = is_start ∙ is_f ∙ ap (λ j. body_at T j) p_is in
+            let v : UnfoldedInto t T (body_at T p) p [] (take m x) z r = subst (λ j. UnfoldedInto t T j p [] (take m x) z r) start_is (subst (λ j. UnfoldedInto t T start j [] (take m x) z r) p_is u) in
+            let there : RuleTermAt t (body_at T p) R p (process R p).parameters [] (process R p).term stands.0 = record {
               process_there = omega arith;
               fits = ready.form.process_terms p below;
               values = subst (λ ds. Within (sizes_of R ds) []) (sym ready.form.main_parameters) tt;

@@ -16,6 +16,7 @@ use Rattle.std.specs.Int.{w16, to_le_bytes}
 use Rattle.eb3.specs.Bytes.{bytes_of, written}
 use Rattle.eb3.specs.Reading.{pick}
 use Rattle.scan.specs.Checking.{last_of}
+use Rattle.arguments.specs.Layout.{label_place}
 use Rattle.arguments.specs.Tables.{row}
 use Rattle.std.specs.Prelude.{Option, Some, None, ⊤, ◌⊎◌}
 use Rattle.unfold.specs.declared.writer.Writer.{Writer}
@@ -127,11 +128,11 @@ module _ (t σ : List ℕ) (count n : ℕ) where
 
 module _ (t T σ s : List ℕ) (n : ℕ) (x : Writer) (is_s : s ≡ last_of n t) where
   module _ (y : Writer) where
-    pub action_put : (u : ⊤) (l : ℕ) (ds : List ℕ) (z : Writer) (r : Option ℕ) → Heads (21 ∷ take 1 s) x y (Some u) → l ≡ get_or s 0 0 → ds ≡ row T (18 + 3 * l) → Puts (Instantiates t σ (length ds) (length s - 1)) y z r → Puts (Performs t T n σ) x z r
+    pub action_put : (u : ⊤) (l : ℕ) (ds : List ℕ) (z : Writer) (r : Option ℕ) → Heads (21 ∷ take 1 s) x y (Some u) → l ≡ get_or s 0 0 → ds ≡ row T (label_place l) → Puts (Instantiates t σ (length ds) (length s - 1)) y z r → Puts (Performs t T n σ) x z r
     action_put u l ds z r p e f q =
-        let k : length ds ≡ length (row T (18 + 3 * get_or (last_of n t) 0 0)) = ap length (f ∙ ap (λ j. row T (18 + 3 * j)) (e ∙ ap (λ u. get_or u 0 0) is_s)) in
+        let k : length ds ≡ length (row T (label_place (get_or (last_of n t) 0 0))) = ap length (f ∙ ap (λ j. row T (label_place j)) (e ∙ ap (λ u. get_or u 0 0) is_s)) in
         where_in _ _ x _ _
-        (head_last _ _ (Instantiates t σ (length (row T (18 + 3 * get_or (last_of n t) 0 0)))) x y u z r (subst (λ v. Heads (21 ∷ take 1 v) x y (Some u)) is_s p)
+        (head_last _ _ (Instantiates t σ (length (row T (label_place (get_or (last_of n t) 0 0))))) x y u z r (subst (λ v. Heads (21 ∷ take 1 v) x y (Some u)) is_s p)
         (subst (λ j. Puts (Instantiates t σ j (length (last_of n t) - 1)) y z r) k (subst (λ v. Puts (Instantiates t σ (length ds) (length v - 1)) y z r) is_s q)))
 
 module _ (t T σ : List ℕ) (n : ℕ) (x y : Writer) where

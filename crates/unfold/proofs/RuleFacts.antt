@@ -1,7 +1,7 @@
 -- What the tables say of a rule set that is ready to be unfolded, and what its form says of its terms' variables and expressions.
 use mathlib.Core.Path.{◌≡◌, refl, sym, ap, ◌∙◌, subst}
 use mathlib.Core.List.{List, [], ◌∷◌}
-use Prim.Native.Nat.{ℕ, zero, suc, ◌+◌, ◌*◌, ◌<◌}
+use Prim.Native.Nat.{ℕ, zero, suc, ◌+◌, ◌<◌}
 use native.Mathlib.Omega.{arith}
 use lib.ListN.{length, get_or, length-map, get_or-map}
 use Rattle.eb3.specs.Expressions.{Data, Undefined, Constant, Variable, Add, Subtract, If, Now, Before, Args, Nil, Cons, Cond, Equal, Less, And, Or, Not, True}
@@ -10,7 +10,8 @@ use Rattle.eb3.specs.RuleSets.{Argument, Process, RuleSet, domain_size, label, n
 use Rattle.eb3.specs.RuleSpelling.{rule_words}
 use Rattle.eb3.specs.WellFormedness.{Form, ArgumentsFit}
 use Rattle.eb3.proofs.Laws.CellCounts.{one_arity}
-use Rattle.arguments.specs.Tables.{row, declared, process_place}
+use Rattle.arguments.specs.Layout.{label_place, process_place, process_count, body_at}
+use Rattle.arguments.specs.Tables.{row, declared}
 use Rattle.arguments.specs.TableLaws.{labels_length, label_at, processes_length, process_at}
 use Rattle.declarations.specs.Directory.{Stands, ProcessRows}
 use Rattle.unfold.specs.Unfolded.{Ready}
@@ -22,28 +23,28 @@ module _ (t T : List ℕ) (R : RuleSet) (ready : Ready t T R) where
   pub domain_same : (d : ℕ) → domain_size (declared T) d ≡ domain_size R d
   domain_same d = ap (λ l. get_or l d 0) ready.declares.tables.heads.same_domains
 
-  pub label_row : (l : ℕ) → l < length R.labels → row T (18 + 3 * l) ≡ label R l
+  pub label_row : (l : ℕ) → l < length R.labels → row T (label_place l) ≡ label R l
   label_row l h =
       let same = ready.declares.tables.heads.same_labels in
       sym (label_at T l (omega (arith, labels_length T, ap length same))) ∙ ap (λ ls. get_or ls l []) same
 
-  pub process_count : get_or T 211 0 ≡ length R.processes
-  process_count =
+  pub processes_there : process_count T ≡ length R.processes
+  processes_there =
       sym (processes_length T) ∙ sym (length-map (declared T).processes (λ (P : Process). P.parameters)) ∙ ap length ready.declares.same_processes ∙ length-map R.processes (λ (P : Process). P.parameters)
 
-  pub parameters_row : (p : ℕ) → p < length R.processes → row T (212 + 9 * p) ≡ (process R p).parameters
+  pub parameters_row : (p : ℕ) → p < length R.processes → row T (process_place p) ≡ (process R p).parameters
   parameters_row p h =
-      sym (process_at T p (omega (arith, process_count)))
+      sym (process_at T p (omega (arith, processes_there)))
       ∙ (sym (get_or-map (λ (P : Process). P.parameters) (declared T).processes p no_process) ∙ ap (λ l. get_or l p []) ready.declares.same_processes ∙ get_or-map (λ (P : Process). P.parameters) R.processes p no_process)
 
-  standing : (Ps : List Process) (q p : ℕ) → ProcessRows R.edition.width t T q Ps → p < length Ps → Stands t (get_or T (process_place (q + p) + 8) 0) (rule_words R.edition.width (get_or Ps p no_process).term)
+  standing : (Ps : List Process) (q p : ℕ) → ProcessRows R.edition.width t T q Ps → p < length Ps → Stands t (body_at T (q + p)) (rule_words R.edition.width (get_or Ps p no_process).term)
   standing [] q p h l = absurd (let z : ⊥ = omega arith in z)
-  standing (P ∷ Ps) q zero h l = subst (λ k. Stands t (get_or T (process_place k + 8) 0) (rule_words R.edition.width P.term)) (let z : q ≡ q + 0 = omega arith in z) h.0
+  standing (P ∷ Ps) q zero h l = subst (λ k. Stands t (body_at T k) (rule_words R.edition.width P.term)) (let z : q ≡ q + 0 = omega arith in z) h.0
   standing (P ∷ Ps) q (suc p) h l =
-      subst (λ k. Stands t (get_or T (process_place k + 8) 0) (rule_words R.edition.width (get_or Ps p no_process).term)) (let z : suc q + p ≡ q + suc p = omega arith in z) (standing Ps (suc q) p h.1 (omega arith))
+      subst (λ k. Stands t (body_at T k) (rule_words R.edition.width (get_or Ps p no_process).term)) (let z : suc q + p ≡ q + suc p = omega arith in z) (standing Ps (suc q) p h.1 (omega arith))
 
-  pub body_stands : (p : ℕ) → p < length R.processes → Stands t (get_or T (212 + 9 * p + 8) 0) (rule_words R.edition.width (process R p).term)
-  body_stands p h = subst (λ k. Stands t (get_or T (process_place k + 8) 0) (rule_words R.edition.width (process R p).term)) (let z : 0 + p ≡ p = omega arith in z) (standing R.processes 0 p ready.processes h)
+  pub body_stands : (p : ℕ) → p < length R.processes → Stands t (body_at T p) (rule_words R.edition.width (process R p).term)
+  body_stands p h = subst (λ k. Stands t (body_at T k) (rule_words R.edition.width (process R p).term)) (let z : 0 + p ≡ p = omega arith in z) (standing R.processes 0 p ready.processes h)
 
 -- ── functions of one argument ──
 

@@ -22,6 +22,7 @@ use Rattle.eb3.proofs.Laws.Unfolding.{call_unfolds}
 use Rattle.eb3.proofs.Laws.Elements.{within_counted, within_more, arguments_within}
 use Rattle.eb3.specs.WellFormedness.{ArgumentsFit, Allowed}
 use Rattle.scan.specs.Checking.{last_of}
+use Rattle.arguments.specs.Layout.{label_place, process_place, body_at}
 use Rattle.arguments.specs.Tables.{from, row, declared}
 use Rattle.unfold.specs.Unfolded.{Ready, unfolded_words}
 use Rattle.unfold.specs.Puts.{Exactly}
@@ -212,7 +213,7 @@ module _ (t T : List ℕ) (n m i : ℕ) (σ : List ℕ) (R : RuleSet) (ready : R
             one = record { same_words = ap (λ z. 21 ∷ take 1 z) (sym here); same_left = omega arith };
             two = record {
               row = map expression rs;
-              counted = length-map rs expression ∙ arguments_counted R Γ (label R l) rs a ∙ ap length (sym (ap (λ k. row T (18 + 3 * k)) label_is ∙ label_row t T R ready l h));
+              counted = length-map rs expression ∙ arguments_counted R Γ (label R l) rs a ∙ ap length (sym (ap (λ k. row T (label_place k)) label_is ∙ label_row t T R ready l h));
               all_plain = arguments_plain rs;
               spelled = last_behind t args (c ∷ l ∷ []) n (e ∙ ap (λ z. c ∷ z) f) ∙ ap (λ z. z ++ rest) (ap (λ w. concat_map (argument_words w) rs) one_word ∙ sym (arguments_spelled rs));
               instantiated = ap (λ w. arguments_words w (map (argument_value σ) rs)) one_word ∙ arguments_put σ rs;
@@ -304,16 +305,16 @@ module _ (t T : List ℕ) (n m i : ℕ) (σ : List ℕ) (R : RuleSet) (ready : R
             let args = concat_map (argument_words R.edition.width) rs ++ rest in
             let below : p < length R.processes = omega arith in
             let rest_is : last_of (length args) t ≡ args = last_behind t args (c ∷ p ∷ []) n (e ∙ ap (λ z. c ∷ z) f) in
-            let count : length (row T (212 + 9 * p)) ≡ length rs = ap length (parameters_row t T R ready p below) ∙ sym (arguments_counted R Γ (process R p).parameters rs a) in
+            let count : length (row T (process_place p)) ≡ length rs = ap length (parameters_row t T R ready p below) ∙ sym (arguments_counted R Γ (process R p).parameters rs a) in
             let few_are = (ready.form.process_heads p below).0 in
             let long : length (last_of (length args) t) ≡ 2 * length rs + length rest = ap length rest_is ∙ length-append (concat_map (argument_words R.edition.width) rs) rest ∙ ap (λ k. k + length rest) (ap (λ w. length (concat_map (argument_words w) rs)) one_word ∙ arguments_long rs) in
             let stands = body_stands t T R ready p below in
-            let same : from 0 (length (row T (212 + 9 * p))) (argument_at σ (last_of (length args) t)) ≡ map (argument_value σ) rs = ap (λ k. from 0 k (argument_at σ (last_of (length args) t))) count ∙ values_are σ (last_of (length args) t) rest rs (rest_is ∙ ap (λ w. concat_map (argument_words w) rs ++ rest) one_word) in
+            let same : from 0 (length (row T (process_place p))) (argument_at σ (last_of (length args) t)) ≡ map (argument_value σ) rs = ap (λ k. from 0 k (argument_at σ (last_of (length args) t))) count ∙ values_are σ (last_of (length args) t) rest rs (rest_is ∙ ap (λ w. concat_map (argument_words w) rs ++ rest) one_word) in
             record {
               holds = (omega (arith, arguments_counted R Γ (process R p).parameters rs a), omega arith);
               says = record {
                 behind = stands.0;
-                unfolds = subst (λ v. Unfolds t T (get_or T (212 + 9 * p + 8) 0) p v ws stands.0) (sym same) (record {
+                unfolds = subst (λ v. Unfolds t T (body_at T p) p v ws stands.0) (sym same) (record {
                   rules = R;
                   domains = (process R p).parameters;
                   term = (process R p).term;

@@ -11,6 +11,7 @@ use Rattle.eb3.specs.RuleSets.{domain_size}
 use Rattle.eb3.specs.RuleSpelling.{rule_words}
 use Rattle.scan.specs.Checking.{last_of}
 use Rattle.scan.specs.Laws.{nil_form}
+use Rattle.arguments.specs.Layout.{process_place, body_at}
 use Rattle.arguments.specs.Tables.{from, row, declared}
 use Rattle.std.specs.Prelude.{Option, Some, None, ⊤}
 use Rattle.unfold.specs.declared.writer.Writer.{Writer}
@@ -112,16 +113,16 @@ module _ (t T : List ℕ) (n i : ℕ) (σ : List ℕ) (C K k : ℕ) (is_k : k �
 
 -- ── calls ──
 
-module _ (t T : List ℕ) (n p : ℕ) (σ s ds : List ℕ) (x : Writer) (is_s : s ≡ last_of n t) (is_row : ds ≡ row T (212 + 9 * p)) where
+module _ (t T : List ℕ) (n p : ℕ) (σ s ds : List ℕ) (x : Writer) (is_s : s ≡ last_of n t) (is_row : ds ≡ row T (process_place p)) where
   -- the body is read where the tables say that it is
-  module _ (vs : List ℕ) (y : Writer) (e start : ℕ) (f : vs ≡ from 0 (length ds) (argument_at σ s)) (g : e ≡ get_or T (212 + 9 * p + 8) 0) (h : start ≡ e) where
-    values_is : from 0 (length (row T (212 + 9 * p))) (argument_at σ (last_of n t)) ≡ vs
+  module _ (vs : List ℕ) (y : Writer) (e start : ℕ) (f : vs ≡ from 0 (length ds) (argument_at σ s)) (g : e ≡ body_at T p) (h : start ≡ e) where
+    values_is : from 0 (length (row T (process_place p))) (argument_at σ (last_of n t)) ≡ vs
     values_is = sym (f ∙ (λ j. from 0 (length (is_row j)) (argument_at σ (is_s j))))
 
-    unfolds_is : (ws rest : List ℕ) (w : Body t T n p σ (length (row T (212 + 9 * p))) ws rest) → Unfolds t T start p vs ws w.behind
-    unfolds_is ws rest w = subst (λ k. Unfolds t T k p vs ws w.behind) (sym (h ∙ g)) (subst (λ v. Unfolds t T (get_or T (212 + 9 * p + 8) 0) p v ws w.behind) values_is w.unfolds)
+    unfolds_is : (ws rest : List ℕ) (w : Body t T n p σ (length (row T (process_place p))) ws rest) → Unfolds t T start p vs ws w.behind
+    unfolds_is ws rest w = subst (λ k. Unfolds t T k p vs ws w.behind) (sym (h ∙ g)) (subst (λ v. Unfolds t T (body_at T p) p v ws w.behind) values_is w.unfolds)
 
-    left_same : length s - 2 * length ds ≡ length (last_of n t) - 2 * length (row T (212 + 9 * p))
+    left_same : length s - 2 * length ds ≡ length (last_of n t) - 2 * length (row T (process_place p))
     left_same = λ j. length (is_s j) - 2 * length (is_row j)
 
     pub body_put : (left : ℕ) → Unfolding t T start p vs x y (Some left) → Puts (Enters t T n p σ) x y (Some (length s - 2 * length ds))

@@ -4,6 +4,7 @@ use Rattle.std.specs.Prelude.{◌≡◌, List, [], ◌∷◌, ◌++◌, ℕ, zer
 use Rattle.eb3.specs.Reading.{pick}
 use Rattle.eb3.specs.RuleSets.{RuleTerm, RuleSet, domain_size}
 use Rattle.scan.specs.Checking.{last_of}
+use Rattle.arguments.specs.Layout.{label_place, process_place, body_at}
 use Rattle.arguments.specs.Tables.{from, row, declared}
 use Rattle.unfold.specs.Unfolded.{Ready, RuleTermAt, unfolded_words}
 use Rattle.unfold.specs.Puts.{Exactly, Then}
@@ -26,7 +27,7 @@ pub record Where (A : Type 0) (S : List ℕ → List ℕ → Type 0) (ws rest : 
 module _ (t T : List ℕ) (n : ℕ) where
   -- An action: its label, and as many arguments as the label has parameters.
   abbrev pub Performs : List ℕ → List ℕ → List ℕ → Type 0
-  Performs σ = Where (1 ≤ length (last_of n t)) (Then (Exactly (21 ∷ take 1 (last_of n t)) (length (last_of n t) - 1)) (Instantiates t σ (length (row T (18 + 3 * get_or (last_of n t) 0 0)))))
+  Performs σ = Where (1 ≤ length (last_of n t)) (Then (Exactly (21 ∷ take 1 (last_of n t)) (length (last_of n t) - 1)) (Instantiates t σ (length (row T (label_place (get_or (last_of n t) 0 0))))))
 
   -- A guard's condition, and its term.
   abbrev pub Conditions : List ℕ → List ℕ → List ℕ → Type 0
@@ -71,11 +72,11 @@ argument_at σ s j = pick (eqb (get_or s (2 * j) 0) 2) (get_or σ (get_or s (2 *
 -- A process's body, where the tables say that it is; after k arguments as many words are left as the whole leaves.
 pub record Body (t T : List ℕ) (n p : ℕ) (σ : List ℕ) (k : ℕ) (ws rest : List ℕ) : Type 0 where
   pub behind : List ℕ
-  pub unfolds : Unfolds t T (get_or T (212 + 9 * p + 8) 0) p (from 0 k (argument_at σ (last_of n t))) ws behind
+  pub unfolds : Unfolds t T (body_at T p) p (from 0 k (argument_at σ (last_of n t))) ws behind
   pub same_left : length (last_of n t) - 2 * k ≡ length rest
 
 abbrev pub Enters : List ℕ → List ℕ → ℕ → ℕ → List ℕ → List ℕ → List ℕ → Type 0
-Enters t T n p σ = Where ((length (row T (212 + 9 * p)) ≤ 8) × (2 * length (row T (212 + 9 * p)) ≤ length (last_of n t))) (Body t T n p σ (length (row T (212 + 9 * p))))
+Enters t T n p σ = Where ((length (row T (process_place p)) ≤ 8) × (2 * length (row T (process_place p)) ≤ length (last_of n t))) (Body t T n p σ (length (row T (process_place p))))
 
 -- A call names a lower process.
 abbrev pub Calls : List ℕ → List ℕ → ℕ → ℕ → List ℕ → List ℕ → List ℕ → Type 0

@@ -1,6 +1,6 @@
-use Rattle.std.specs.Prelude.{get_or}
+use Rattle.arguments.specs.Layout.{label_count}
 use Rattle.declarations.proofs.LaterCases.{Sofar}
 use Rattle.declarations.proofs.Context.later.Given as goal
 
 abbrev pub invariant-loop-l : goal.invariant-loop-l
-invariant-loop-l l = Sofar l.t l.self.tables.now l.initial.dir l.self.functions l.i (get_or l.self.tables.now 17 0) l.at l.dir l.left l.l
+invariant-loop-l l = Sofar l.t l.self.tables.now l.initial.dir l.self.functions l.i (label_count l.self.tables.now) l.at l.dir l.left l.l
