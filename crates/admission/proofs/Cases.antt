@@ -17,6 +17,7 @@ use Rattle.weights.specs.Weighing.{measure, reported}
 use Rattle.weights.specs.declared.Weight.{Weight}
 use Rattle.weights.specs.declared.Limits.{Limits}
 use Rattle.scan.specs.Checking.{last_of}
+use Rattle.eb3.proofs.Laws.Editions.{edition_1_defined}
 use Rattle.rules.specs.declared.Rules.{Rules}
 use Rattle.rules.specs.Sections.{rules_weighed, found_rules}
 use Rattle.rules.specs.WholeLaws.{rules_found, rules_refused, whole_long, whole_behind, whole_judged}
@@ -49,15 +50,15 @@ module _ (cells : ℕ) (w : Weight) where
 module _ (t : List ℕ) (p : Result Rules Refusal) (e : p ≡ rules_weighed (read_rules edition_1 t)) where
   pub words_refused : (k : Refusal) → p ≡ Err k → Err k ≡ read_whole t
   unfolding admitted
-  words_refused k f = let u = rules_refused t k (sym f ∙ e) in ap Err u.2 ∙ sym (ap admitted u.1)
+  words_refused k f = let u = rules_refused edition_1 edition_1_defined t k (sym f ∙ e) in ap Err u.2 ∙ sym (ap admitted u.1)
 
   module _ (left cells : ℕ) (w : Weight) (f : p ≡ found_rules left cells w) where
     pub words_few : cells < 4294967296
-    words_few = let h : cells ≤ 1024 = (rules_found t left cells w (sym f ∙ e)).few in omega arith
+    words_few = let h : cells ≤ 1024 = (rules_found edition_1 edition_1_defined t left cells w (sym f ∙ e)).few in omega arith
 
     pub words_long : 254 ≤ left → Err Form ≡ read_whole t
     unfolding admitted refusal
-    words_long h = sym (ap admitted (whole_long t left cells w (sym f ∙ e) h))
+    words_long h = sym (ap admitted (whole_long edition_1 edition_1_defined t left cells w (sym f ∙ e) h))
 
     module _ (u : List ℕ) (l : u ≡ last_of left t) (b : Bool) (z : b ≡ all_zero u) where
       same : b ≡ all_zero (last_of left t)
@@ -65,11 +66,11 @@ module _ (t : List ℕ) (p : Result Rules Refusal) (e : p ≡ rules_weighed (rea
 
       pub words_behind : not b ≡ true → Err Form ≡ read_whole t
       unfolding admitted refusal
-      words_behind n = sym (ap admitted (whole_behind t left cells w (sym f ∙ e) (λ x. subst T (sym same ∙ not-true b n) x)))
+      words_behind n = sym (ap admitted (whole_behind edition_1 edition_1_defined t left cells w (sym f ∙ e) (λ x. subst T (sym same ∙ not-true b n) x)))
 
       pub words_judged : (c : ℕ) (r : Result Limits Refusal) → left < 254 → not b ≡ false → c ≡ cells → r ≡ admitted (judged c (measure w)) → r ≡ read_whole t
       words_judged c r h n g k = k ∙ (ap (λ j. admitted (judged j (measure w))) g
-          ∙ sym (ap admitted (whole_judged t left cells w (sym f ∙ e) h (subst T (sym (sym same ∙ not-false b n)) tt))))
+          ∙ sym (ap admitted (whole_judged edition_1 edition_1_defined t left cells w (sym f ∙ e) h (subst T (sym (sym same ∙ not-false b n)) tt))))
 
 -- What was admitted of the words lent is so of the stream.
 pub file_admitted : (rules words D : List ℕ) (n : ℕ) (r : Result Limits Refusal) (words' T D' t : List ℕ) → words' ≡ stream rules ++ drop (254 * n) words → t ≡ drop 2 (stream rules) → WordsAdmitted t D r T D' → FileAdmitted rules words D n r words' T D'

@@ -27,7 +27,7 @@ use Rattle.eb3.proofs.Laws.Attributes.{no_domain_beyond}
 use Rattle.scan.specs.Laws.{Fine, Ends, tail_here, giving_fine, then_fine, both_ends, step_fine, pick_fine, number_ends, by_number_ends}
 use Rattle.scan.specs.RowLaws.{number_in_ends}
 use Rattle.arguments.specs.Layout.{sizes_place, label_place, process_place, domain_count, label_count, function_count, process_count}
-use Rattle.arguments.specs.Tables.{from, row, some_function, process_row, declared, constant_of_domain, variable_of_domain}
+use Rattle.arguments.specs.Tables.{edition_in, from, row, some_function, process_row, declared, constant_of_domain, variable_of_domain}
 
 -- Past the end of a table there is 0.
 pub entry_beyond : (T : List ℕ) (at : ℕ) → length T ≤ at → ◌≡◌ {A = ℕ} 0 (get_or T at 0)
@@ -55,9 +55,9 @@ from_zero_at n f j d h = from_at 0 n f j d h ∙ ap f (let e : 0 + j ≡ j = ome
 -- ── what the tables declare ──
 
 module _ (T : List ℕ) where
-  pub width_declared : (declared T).edition.width ≡ 1
+  pub edition_declared : (declared T).edition ≡ edition_in T
   unfolding declared
-  width_declared = refl
+  edition_declared = refl
 
   pub domains_length : length (declared T).domains ≡ domain_count T
   unfolding declared
@@ -112,11 +112,6 @@ module _ (T : List ℕ) where
   pub guard_declared : (n : ℕ) → guard_scope (attributes (declared T)) n ≡ record { edition = edition_1; arity = λ f. 1; now = function_count T; before = 0; variables = n }
   unfolding declared
   guard_declared n = λ i. record { edition = edition_1; arity = λ f. arity_one f i; now = functions_declared i; before = 0; variables = n }
-
--- Tables of one edition: there is no other yet.
-pub same_declared : (T U : List ℕ) → (declared T).edition ≡ (declared U).edition
-unfolding declared
-same_declared T U = refl
 
 -- ── masks ──
 

@@ -5,7 +5,7 @@ use Rattle.std.proofs.Math.Seq.{paste}
 use Rattle.eb3.specs.RuleSets.{Function, Process, RuleSet}
 use Rattle.eb3.specs.Measures.{sat, row_of}
 use Rattle.arguments.specs.Layout.{process_place, size_in, reach_in, breadth_in, body_in, function_count, processes_place}
-use Rattle.arguments.specs.Tables.{declared, callee}
+use Rattle.arguments.specs.Tables.{edition_in, declared, callee}
 
 -- These domains and labels.
 pub record Heads (T : List ℕ) (domains : List ℕ) (labels : List (List ℕ)) : Type 0 where
@@ -20,7 +20,7 @@ pub record Tables (T : List ℕ) (domains : List ℕ) (labels : List (List ℕ))
 
 -- All that a process after those of R is read by, and its processes' measures.
 pub record Declares (T : List ℕ) (R : RuleSet) : Type 0 where
-  pub same_edition : R.edition ≡ (declared T).edition
+  pub same_edition : R.edition ≡ edition_in T
   pub tables : Tables T R.domains R.labels R.functions
   pub same_processes : map (λ (P : Process). P.parameters) (declared T).processes ≡ map (λ (P : Process). P.parameters) R.processes
   pub same_measures : callee T ≡ row_of (sat 65536) R (length R.processes)

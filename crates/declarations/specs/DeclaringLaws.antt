@@ -24,7 +24,7 @@ use Rattle.eb3.proofs.Laws.Attributes.{no_domain_beyond}
 use Rattle.eb3.proofs.Laws.Signatures.{Alike, rows_grown}
 use Rattle.arguments.specs.Layout.{labels_place, functions_place, processes_place, process_place, size_in, reach_in, breadth_in, domain_count, label_count, process_count, body_at, label_words, domains_place, label_place, body_in}
 use Rattle.arguments.specs.Tables.{row, edition_in, declared, measure_row, callee}
-use Rattle.arguments.specs.TableLaws.{same_declared, domains_length, domain_at, labels_length, label_at, guard_declared}
+use Rattle.arguments.specs.TableLaws.{domains_length, domain_at, labels_length, label_at, guard_declared}
 use Rattle.declarations.specs.Entering.{put_row, put_rows}
 use Rattle.declarations.specs.Declaring.{Heads, Tables, Declares, entered_process}
 use Rattle.declarations.specs.Regions.{paste_before, paste_inside, row_is, row_kept, domains_kept, heads_kept, tables_kept, callee_at, callee_beyond, count_of_same, row_of_same, same_by_rows}
@@ -145,7 +145,7 @@ functions_entered T ds ls n room domains labels short = heads_kept T (set T func
 -- ── no process yet ──
 
 pub processes_start : (T ds : List ℕ) (ls : List (List ℕ)) (fs : List Function) → process_place 0 ≤ length T → domain_count T ≤ 16 → label_count T ≤ 64 → All (λ l. length l ≤ 2) (declared T).labels → Tables T ds ls fs → Declares (set T processes_place 0) (without_processes (edition_in T) ds ls fs)
-unfolding table declared
+unfolding table
 processes_start T ds ls fs room domains labels short k = record {
   same_edition = refl;
   tables = tables_kept T (set T processes_place 0) (omega arith) (length-set T processes_place 0) domains labels short (λ i b. get_or-set_other T processes_place i 0 0 (omega arith)) ds ls fs k;
@@ -268,7 +268,7 @@ pub process_entered : (T : List ℕ) (R : RuleSet) (P : Process) (m : Measure) (
     → All (λ (Q : Process). length Q.parameters ≤ 4) R.processes → length P.parameters ≤ 4 → m ≡ measure_term (sat 65536) R (row_of (sat 65536) R (length R.processes)) P.term
     → Declares (entered_process T (length R.processes) (length P.parameters ∷ P.parameters) m.size m.reach m.breadth left) (with_process R P)
 process_entered T R P m left d room domains labels short few small e = record {
-  same_edition = d.same_edition ∙ same_declared T U;
+  same_edition = d.same_edition;
   tables = tables_kept T U (omega arith) (entered_length T p l m left fits room) domains labels short (λ i b. entered_before T p l m left fits room i (omega arith) (omega arith)) R.domains R.labels R.functions d.tables;
   same_processes = same_by_rows U (R.processes ++ (P ∷ [])) (counted ∙ sym more) (λ q b. rows q (ℕ_discrete q p) (omega (arith, more)));
   same_measures = fun_ext λ q. measures q (ℕ_discrete q p) (dec_lt q p) ∙ sym (rows_grown (sat 65536) R P q) ∙ ap (λ n. row_of (sat 65536) (with_process R P) n q) (sym (more ∙ (let z : p + 1 ≡ suc p = omega arith in z)));

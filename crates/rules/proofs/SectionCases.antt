@@ -6,7 +6,6 @@ use native.Mathlib.Omega.{arith}
 use lib.ListN.{length, get_or, set, take, length-set}
 use lib.Seq.{paste, length-paste, length-take-le, get_or-set_same, get_or-set_other}
 use Rattle.eb3.specs.Generic.AllLists.{All}
-use Rattle.eb3.specs.Editions.{edition_1}
 use Rattle.eb3.specs.RuleSets.{Function, RuleSet}
 use Rattle.eb3.specs.RuleSpelling.{one_word}
 use Rattle.eb3.specs.Reading.{Read, taken, Reader, then, count_of, number_of, repeat, counted}
@@ -17,7 +16,7 @@ use Rattle.scan.specs.Laws.{Tail, tail_on, number_ends, got, last_tail}
 use Rattle.scan.specs.ReadingLaws.{checked_refused, then_refused_as, then_taken, not_taken, RefusedAs, same_refused}
 use Rattle.scan.specs.RowLaws.{count_word, repeat_ends, counted_ends}
 use Rattle.arguments.specs.Layout.{tables_length, labels_place, label_place, processes_place, process_place, domain_count, label_count, process_count, domains_place}
-use Rattle.arguments.specs.Tables.{row, declared}
+use Rattle.arguments.specs.Tables.{edition_in, row, declared}
 use Rattle.arguments.specs.TableLaws.{domains_length}
 use Rattle.declarations.specs.Entering.{put_rows, Entered}
 use Rattle.declarations.specs.Declaring.{Heads, Tables, Declares}
@@ -58,22 +57,22 @@ module _ (T t : List ℕ) (p : Checked) (e : p ≡ checked (count_of 1 32 t)) wh
       record {
         answer = λ ds ls fs z. main_out (count_of 1 32 t) _ k r;
         same_length = refl;
-        placed = λ whole ds ls fs R u tl z g. absurd (not_taken (process_section ds ls fs t) k R u (then_refused_as (count_of 1 32 t) _ k r) g);
+        placed = λ whole ds ls fs R u tl z g. absurd (not_taken (process_section (edition_in T) ds ls fs t) k R u (then_refused_as (count_of 1 32 t) _ k r) g);
       }
 
   pub section_in : (m n : ℕ) (r T' : List ℕ) (q : Answer) → process_place 0 ≤ length T → Bounded T → p ≡ Ok m → n ≡ get_or t 0 0 → r ≡ last_of m t → ProcessesRead r (set T processes_place 0) n q T' → ProcessSectionRead t T q T'
   unfolding process_section
   section_in m n r T' q room b h i l k =
-      let start : (ds : List ℕ) (ls : List (List ℕ)) (fs : List Function) → Tables T ds ls fs → Declares (set T processes_place 0) (without_processes edition_1 ds ls fs) =
+      let start : (ds : List ℕ) (ls : List (List ℕ)) (fs : List Function) → Tables T ds ls fs → Declares (set T processes_place 0) (without_processes (edition_in T) ds ls fs) =
       λ ds ls fs z. processes_start T ds ls fs room b.domains_few b.labels_few b.label_rows z in
-      let same : (ds : List ℕ) (ls : List (List ℕ)) (fs : List Function) → process_section ds ls fs t ≡ read_processes n (without_processes edition_1 ds ls fs) r =
-      λ ds ls fs. then_taken (count_of 1 32 t) (λ n. read_processes n (without_processes edition_1 ds ls fs)) (get_or t 0 0) (last_of m t) (count_word 1 32 m t (sym h ∙ e))
-      ∙ (λ j. read_processes (sym i j) (without_processes edition_1 ds ls fs) (sym l j)) in
+      let same : (ds : List ℕ) (ls : List (List ℕ)) (fs : List Function) → process_section (edition_in T) ds ls fs t ≡ read_processes n (without_processes (edition_in T) ds ls fs) r =
+      λ ds ls fs. then_taken (count_of 1 32 t) (λ n. read_processes n (without_processes (edition_in T) ds ls fs)) (get_or t 0 0) (last_of m t) (count_word 1 32 m t (sym h ∙ e))
+      ∙ (λ j. read_processes (sym i j) (without_processes (edition_in T) ds ls fs) (sym l j)) in
       record {
-        answer = λ ds ls fs z. k.answer (without_processes edition_1 ds ls fs) (start ds ls fs z) tt ∙ sym (ap main_weighed (same ds ls fs));
+        answer = λ ds ls fs z. k.answer (without_processes (edition_in T) ds ls fs) (start ds ls fs z) tt ∙ sym (ap main_weighed (same ds ls fs));
         same_length = k.same_length ∙ length-set T processes_place 0;
         placed = λ whole ds ls fs R u tl z g.
-            k.placed whole (without_processes edition_1 ds ls fs) R u (tail_on r t whole tl (subst (λ y. Tail y t) (sym l) (last_tail m t))) (record { declares = start ds ls fs z; rows = tt }) tt (sym (same ds ls fs) ∙ g);
+            k.placed whole (without_processes (edition_in T) ds ls fs) R u (tail_on r t whole tl (subst (λ y. Tail y t) (sym l) (last_tail m t))) (record { declares = start ds ls fs z; rows = tt }) tt (sym (same ds ls fs) ∙ g);
       }
 
   pub section_asks : (m n : ℕ) → length T ≡ tables_length → Bounded T → p ≡ Ok m → n ≡ get_or t 0 0 → (1 ≤ n) × (n ≤ 32) × (process_count (set T processes_place 0) ≡ 0) × Bounded (set T processes_place 0)
@@ -95,7 +94,7 @@ module _ (T t : List ℕ) (p : Checked) (e : p ≡ checked (count_of 1 64 t)) wh
         answer = λ ds z. rules_out (read_labels (length ds) t) _ k (r ds);
         same_tables = refl;
         same_directory = refl;
-        filled = λ ds z whole R u tl small g room. absurd (not_taken (label_section ds t) k R u (then_refused_as (read_labels (length ds) t) _ k (r ds)) g);
+        filled = λ ds z whole R u tl small g room. absurd (not_taken (label_section (edition_in T) ds t) k R u (then_refused_as (read_labels (length ds) t) _ k (r ds)) g);
       }
 
   module _ (m n x d y : ℕ) (s : length T ≡ tables_length) (few : domain_count T ≤ 16) (h : p ≡ Ok m) (i : n ≡ get_or t 0 0) (f : x ≡ n) (fd : d ≡ y) (fy : y ≡ domain_count (set T labels_place x)) where
@@ -139,9 +138,9 @@ module _ (T t : List ℕ) (p : Checked) (e : p ≡ checked (count_of 1 64 t)) wh
         heads_for : (ds : List ℕ) → (declared T).domains ≡ ds → Heads T' ds labels_got.0
         heads_for ds z = subst (λ D. Heads T' D labels_got.0) z label_heads
 
-        section_by : (v : List ℕ) → v ≡ last_of j u → (ds : List ℕ) → (declared T).domains ≡ ds → label_section ds t ≡ function_section ds labels_got.0 v
+        section_by : (v : List ℕ) → v ≡ last_of j u → (ds : List ℕ) → (declared T).domains ≡ ds → label_section (edition_in T) ds t ≡ function_section (edition_in T) ds labels_got.0 v
         unfolding label_section
-        section_by v o ds z = then_taken (read_labels (length ds) t) (λ ls. function_section ds ls) labels_got.0 (last_of j u) (labels_read_are ds z ∙ labels_got.1) ∙ ap (function_section ds labels_got.0) (sym o)
+        section_by v o ds z = then_taken (read_labels (length ds) t) (λ ls. function_section (edition_in T) ds ls) labels_got.0 (last_of j u) (labels_read_are ds z ∙ labels_got.1) ∙ ap (function_section (edition_in T) ds labels_got.0) (sym o)
 
         labels_go : (v T'' D D' : List ℕ) (w : Result Rules Refusal) → v ≡ last_of j u → FunctionSectionRead v T' D w T'' D' → LabelSectionRead t T D w T'' D'
         labels_go v T'' D D' w o k = record {
@@ -158,7 +157,7 @@ module _ (T t : List ℕ) (p : Checked) (e : p ≡ checked (count_of 1 64 t)) wh
       answer = λ ds z. rules_out (read_labels (length ds) t) _ k (labels_refused u l r T' en k q ds z);
       same_tables = en.same_length ∙ length-set T labels_place x;
       same_directory = refl;
-      filled = λ ds z whole R c tl small g room. absurd (not_taken (label_section ds t) k R c (then_refused_as (read_labels (length ds) t) _ k (labels_refused u l r T' en k q ds z)) g);
+      filled = λ ds z whole R c tl small g room. absurd (not_taken (label_section (edition_in T) ds t) k R c (then_refused_as (read_labels (length ds) t) _ k (labels_refused u l r T' en k q ds z)) g);
     }
 
     pub labels_bounded : (u T' : List ℕ) (r : Checked) (j : ℕ) → u ≡ last_of m t → Entered u (set T labels_place x) n (label_place 0) d r T' → r ≡ Ok j → Bounded T'
@@ -178,7 +177,7 @@ module _ (T t : List ℕ) (p : Checked) (e : p ≡ checked (read_domains t)) whe
         answer = rules_out (read_domains t) _ k r;
         same_tables = refl;
         same_directory = refl;
-        directory = λ R u g room. absurd (not_taken (read_rules edition_1 t) k R u (then_refused_as (read_domains t) _ k r) g);
+        directory = λ R u g room. absurd (not_taken (read_rules (edition_in T) t) k R u (then_refused_as (read_domains t) _ k r) g);
       }
 
   module _ (m k : ℕ) (s : length T ≡ tables_length) (h : p ≡ Ok m) (i : k ≡ get_or t 0 0) where
@@ -205,9 +204,9 @@ module _ (T t : List ℕ) (p : Checked) (e : p ≡ checked (read_domains t)) whe
       named : (declared T').domains ≡ row t 0
       named = ap (λ l. (declared l).domains) copied ∙ domains_entered T t (row t 0) (last_of m t) domains_here.is (omega arith)
 
-      whole_is : (v : List ℕ) → v ≡ last_of m t → read_rules edition_1 t ≡ label_section (row t 0) v
+      whole_is : (v : List ℕ) → v ≡ last_of m t → read_rules (edition_in T) t ≡ label_section (edition_in T) (row t 0) v
       unfolding read_rules label_section function_section process_section
-      whole_is v o = then_taken (read_domains t) (λ ds. label_section ds) (row t 0) (last_of m t) domains_here.is ∙ ap (label_section (row t 0)) (sym o)
+      whole_is v o = then_taken (read_domains t) (λ ds. label_section (edition_in T) ds) (row t 0) (last_of m t) domains_here.is ∙ ap (label_section (edition_in T) (row t 0)) (sym o)
 
       pub read_in : (v T'' D D' : List ℕ) (w : Result Rules Refusal) → length t ≤ 65535 → v ≡ last_of m t → LabelSectionRead v T' D w T'' D' → RulesRead t T D w T'' D'
       read_in v T'' D D' w short o g = record {

@@ -1,12 +1,11 @@
 -- What reading a rule set answers and fills: the tables by which its processes are read, and the directory of where its parts stand.
 -- Document 01, "Blocks and the rule stream", items 2 to 5; refusals 4 to 6.
 use Rattle.std.specs.Prelude.{◌≡◌, List, ℕ, ◌*◌, ◌≤◌, ◌<◌, length, Result}
-use Rattle.eb3.specs.Editions.{edition_1}
 use Rattle.eb3.specs.RuleSets.{Function, RuleSet}
 use Rattle.eb3.specs.Reading.{taken, Reader}
 use Rattle.eb3.specs.RuleReading.{read_processes, read_rules}
 use Rattle.scan.specs.Laws.{Tail}
-use Rattle.arguments.specs.Tables.{declared}
+use Rattle.arguments.specs.Tables.{edition_in, declared}
 use Rattle.declarations.specs.Declaring.{Heads, Tables, Declares}
 use Rattle.declarations.specs.ProcessLaws.{Narrow}
 use Rattle.declarations.specs.Directory.{ProcessRows, Directory, row_width}
@@ -20,7 +19,7 @@ use Rattle.rule_terms.specs.Weighed.{Answer}
 -- T declares R, and the terms of its processes stand where T says.
 pub record Placed (whole T : List ℕ) (R : RuleSet) : Type 0 where
   pub declares : Declares T R
-  pub rows : ProcessRows whole T 0 R.processes
+  pub rows : ProcessRows R.edition.width whole T 0 R.processes
 
 -- n processes behind those of any rule set that the tables T declare.
 pub record ProcessesRead (t T : List ℕ) (n : ℕ) (r : Answer) (T' : List ℕ) : Type 0 where
@@ -30,10 +29,10 @@ pub record ProcessesRead (t T : List ℕ) (n : ℕ) (r : Answer) (T' : List ℕ)
 
 -- All of them, behind domains, labels and functions.
 pub record ProcessSectionRead (t T : List ℕ) (r : Answer) (T' : List ℕ) : Type 0 where
-  pub answer : (domains : List ℕ) (labels : List (List ℕ)) (functions : List Function) → Tables T domains labels functions → r ≡ main_weighed (process_section domains labels functions t)
+  pub answer : (domains : List ℕ) (labels : List (List ℕ)) (functions : List Function) → Tables T domains labels functions → r ≡ main_weighed (process_section (edition_in T) domains labels functions t)
   pub same_length : length T' ≡ length T
   pub placed : (whole : List ℕ) (domains : List ℕ) (labels : List (List ℕ)) (functions : List Function) (R : RuleSet) (u : List ℕ) → Tail t whole → Tables T domains labels functions
-      → process_section domains labels functions t ≡ taken R u → Placed whole T' R
+      → process_section (edition_in T) domains labels functions t ≡ taken R u → Placed whole T' R
 
 -- ── the sections in a row ──
 
@@ -42,20 +41,20 @@ abbrev pub Filled : List ℕ → List ℕ → Reader RuleSet → List ℕ → Li
 Filled t D f T' D' = (whole : List ℕ) (R : RuleSet) (u : List ℕ) → Tail t whole → length whole < 4294967296 → f t ≡ taken R u → row_width (length R.labels) * length R.functions ≤ length D → Directory whole T' D' R
 
 pub record FunctionSectionRead (t T D : List ℕ) (r : Result Rules Refusal) (T' D' : List ℕ) : Type 0 where
-  pub answer : (domains : List ℕ) (labels : List (List ℕ)) → Heads T domains labels → r ≡ rules_weighed (function_section domains labels t)
+  pub answer : (domains : List ℕ) (labels : List (List ℕ)) → Heads T domains labels → r ≡ rules_weighed (function_section (edition_in T) domains labels t)
   pub same_tables : length T' ≡ length T
   pub same_directory : length D' ≡ length D
-  pub filled : (domains : List ℕ) (labels : List (List ℕ)) → Heads T domains labels → Filled t D (function_section domains labels) T' D'
+  pub filled : (domains : List ℕ) (labels : List (List ℕ)) → Heads T domains labels → Filled t D (function_section (edition_in T) domains labels) T' D'
 
 pub record LabelSectionRead (t T D : List ℕ) (r : Result Rules Refusal) (T' D' : List ℕ) : Type 0 where
-  pub answer : (domains : List ℕ) → (declared T).domains ≡ domains → r ≡ rules_weighed (label_section domains t)
+  pub answer : (domains : List ℕ) → (declared T).domains ≡ domains → r ≡ rules_weighed (label_section (edition_in T) domains t)
   pub same_tables : length T' ≡ length T
   pub same_directory : length D' ≡ length D
-  pub filled : (domains : List ℕ) → (declared T).domains ≡ domains → Filled t D (label_section domains) T' D'
+  pub filled : (domains : List ℕ) → (declared T).domains ≡ domains → Filled t D (label_section (edition_in T) domains) T' D'
 
 -- The whole rule set, at the front of t.
 pub record RulesRead (t T D : List ℕ) (r : Result Rules Refusal) (T' D' : List ℕ) : Type 0 where
-  pub answer : r ≡ rules_weighed (read_rules edition_1 t)
+  pub answer : r ≡ rules_weighed (read_rules (edition_in T) t)
   pub same_tables : length T' ≡ length T
   pub same_directory : length D' ≡ length D
-  pub directory : (R : RuleSet) (u : List ℕ) → read_rules edition_1 t ≡ taken R u → row_width (length R.labels) * length R.functions ≤ length D → Directory t T' D' R
+  pub directory : (R : RuleSet) (u : List ℕ) → read_rules (edition_in T) t ≡ taken R u → row_width (length R.labels) * length R.functions ≤ length D → Directory t T' D' R

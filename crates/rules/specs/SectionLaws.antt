@@ -3,6 +3,7 @@
 use Rattle.std.specs.Prelude.{◌≡◌, refl, List, [], ◌∷◌, ℕ, zero, suc, ◌+◌, ◌-◌, ◌≤◌, length, get_or, take, Ok, Err}
 use Rattle.std.proofs.Math.Path.{ap, sym, subst}
 use Rattle.std.proofs.Common.{◌∙◌, arith, length-append}
+use Rattle.eb3.specs.Editions.{Edition}
 use Rattle.eb3.specs.RuleSets.{Process, RuleSet, main_process, process}
 use Rattle.eb3.specs.Measures.{sat, Measure, measure_term, row_of, measure_main}
 use Rattle.eb3.proofs.Laws.Signatures.{own_measure}
@@ -18,7 +19,7 @@ use Rattle.scan.specs.RowLaws.{counted_ends}
 use Rattle.rule_terms.specs.Laws.{term_ends}
 use Rattle.arguments.specs.Layout.{process_place, body_in, process_count, body_at}
 use Rattle.arguments.specs.Tables.{declared, callee}
-use Rattle.arguments.specs.TableLaws.{width_declared}
+use Rattle.arguments.specs.TableLaws.{edition_declared}
 use Rattle.declarations.specs.Declaring.{Declares, entered_process}
 use Rattle.declarations.specs.DeclaringLaws.{entered_before, entered_left}
 use Rattle.declarations.specs.Directory.{Stands, ProcessRows}
@@ -152,18 +153,19 @@ module _ (T t : List ℕ) (n : ℕ) where
         grown_narrow : Narrow (with_process R got.0)
         grown_narrow = narrow_next R got.0 narrow four
 
-        grown_placed : (whole : List ℕ) → Tail t whole → ProcessRows whole T 0 R.processes → Placed whole T' (with_process R got.0)
+        grown_placed : (whole : List ℕ) → Tail t whole → ProcessRows R.edition.width whole T 0 R.processes → Placed whole T' (with_process R got.0)
         grown_placed whole tl rows =
             let short : length head ≤ 5 = omega (arith, four) in
-            let kept : ProcessRows whole T' 0 R.processes = rows_kept whole T T' 0 R.processes
+            let kept : ProcessRows R.edition.width whole T' 0 R.processes = rows_kept R.edition.width whole T T' 0 R.processes
             (λ j o q. ap (λ S. get_or S j 0) there ∙ entered_before T (length R.processes) head (measure w) (length t - (get_or t 0 0 + 1)) short enough j (omega arith) (omega arith)) rows in
             let place : body_at T' (0 + length R.processes) ≡ length t - (get_or t 0 0 + 1) =
             let z : process_place (0 + length R.processes) + body_in ≡ process_place (length R.processes) + body_in = omega arith in
             (λ i. get_or (there i) (z i) 0) ∙ entered_left T (length R.processes) head (measure w) (length t - (get_or t 0 0 + 1)) short enough in
             record {
               declares = grown;
-              rows = rows_more whole T' 0 R.processes got.0 kept
-                  (subst (λ m. Stands whole m (rule_words 1 got.0.term)) (sym place) (term_stands (declared T) (parameter_limit n) whole t got.0 got.1 (width_declared T) tl got.2));
+              rows = rows_more R.edition.width whole T' 0 R.processes got.0 kept
+                  (subst (λ m. Stands whole m (rule_words R.edition.width got.0.term)) (sym place)
+                  (subst (λ (L : Edition). Stands whole (length t - (get_or t 0 0 + 1)) (rule_words L.width got.0.term)) (edition_declared T ∙ sym d.same_edition) (term_stands (declared T) (parameter_limit n) whole t got.0 got.1 tl got.2)));
             }
 
         -- the last: it is main;
@@ -173,7 +175,7 @@ module _ (T t : List ℕ) (n : ℕ) where
             let q : found m w ≡ main_weighed (taken (with_process R got.0) got.1) = λ i. found (got.3 i) (weight ((weighs ∙ sym (main_read R got.0)) i)) in
             q ∙ (ap (λ k. main_weighed (read_processes k (with_process R got.0) got.1)) (sym z) ∙ sym (ap main_weighed rest_reads))
 
-        pub last_placed : n ≡ 0 → (whole : List ℕ) (Q : RuleSet) (u : List ℕ) → Tail t whole → ProcessRows whole T 0 R.processes → read_processes (suc n) R t ≡ taken Q u → Placed whole T' Q
+        pub last_placed : n ≡ 0 → (whole : List ℕ) (Q : RuleSet) (u : List ℕ) → Tail t whole → ProcessRows R.edition.width whole T 0 R.processes → read_processes (suc n) R t ≡ taken Q u → Placed whole T' Q
         unfolding read_processes
         last_placed z whole Q u tl rows e =
             let q : taken (with_process R got.0) got.1 ≡ taken Q u = ap (λ k. read_processes k (with_process R got.0) got.1) (sym z) ∙ sym rest_reads ∙ e in
@@ -187,6 +189,6 @@ module _ (T t : List ℕ) (n : ℕ) where
           pub next_answers : (q : Answer) → ((Q : RuleSet) → Declares T' Q → Narrow Q → q ≡ main_weighed (read_processes n Q r)) → q ≡ main_weighed (read_processes (suc n) R t)
           next_answers q next = next (with_process R got.0) grown grown_narrow ∙ ap (λ u. main_weighed (read_processes n (with_process R got.0) u)) left ∙ sym (ap main_weighed rest_reads)
 
-          pub next_placed : (T'' whole : List ℕ) (Q : RuleSet) (u : List ℕ) → Tail t whole → ProcessRows whole T 0 R.processes → read_processes (suc n) R t ≡ taken Q u
+          pub next_placed : (T'' whole : List ℕ) (Q : RuleSet) (u : List ℕ) → Tail t whole → ProcessRows R.edition.width whole T 0 R.processes → read_processes (suc n) R t ≡ taken Q u
               → ((P Q : RuleSet) → Placed whole T' P → Narrow P → read_processes n P r ≡ taken Q u → Placed whole T'' Q) → Placed whole T'' Q
           next_placed T'' whole Q u tl rows e next = next (with_process R got.0) Q (grown_placed whole tl rows) grown_narrow (ap (read_processes n (with_process R got.0)) left ∙ sym rest_reads ∙ e)

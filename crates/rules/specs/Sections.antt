@@ -1,7 +1,7 @@
 -- What the check of a whole rule set answers, and its sections as they follow one another.
 -- Document 01, "Blocks and the rule stream", items 2 to 5; refusals 4 to 6.
 use Rattle.std.specs.Prelude.{List, ℕ, length, Ok, Err, Result}
-use Rattle.eb3.specs.Editions.{edition_1}
+use Rattle.eb3.specs.Editions.{Edition}
 use Rattle.eb3.specs.Cells.{total_cells}
 use Rattle.eb3.specs.RuleSets.{Function, Process, RuleSet, attributes}
 use Rattle.eb3.specs.Measures.{sat, Measure, measure_term, measure_main}
@@ -36,12 +36,12 @@ abbrev pub joined : ℕ → Answer → Result Rules Refusal
 joined c (Ok a) = found_rules a.left c a.weight
 joined c (Err k) = Err k
 
--- The sections as they follow one another; `read_rules` is domains, then these.
-unfoldable pub process_section : List ℕ → List (List ℕ) → List Function → Reader RuleSet
-process_section domains labels functions t = then (count_of 1 32 t) λ n. read_processes n (without_processes edition_1 domains labels functions)
+-- The sections as they follow one another, in an edition; `read_rules` is domains, then these.
+unfoldable pub process_section : Edition → List ℕ → List (List ℕ) → List Function → Reader RuleSet
+process_section L domains labels functions t = then (count_of 1 32 t) λ n. read_processes n (without_processes L domains labels functions)
 
-unfoldable pub function_section : List ℕ → List (List ℕ) → Reader RuleSet
-function_section domains labels t = then (read_functions edition_1 (length domains) labels t) λ functions. process_section domains labels functions
+unfoldable pub function_section : Edition → List ℕ → List (List ℕ) → Reader RuleSet
+function_section L domains labels t = then (read_functions L (length domains) labels t) λ functions. process_section L domains labels functions
 
-unfoldable pub label_section : List ℕ → Reader RuleSet
-label_section domains t = then (read_labels (length domains) t) λ labels. function_section domains labels
+unfoldable pub label_section : Edition → List ℕ → Reader RuleSet
+label_section L domains t = then (read_labels (length domains) t) λ labels. function_section L domains labels
