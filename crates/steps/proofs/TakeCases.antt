@@ -74,7 +74,7 @@ module _ {s M : List ℕ} {k : ℕ} where
 
   -- The place in an answer is that of the path, where there was room if the term is within the limits; trying before changes nothing but the array's words.
   placed_path : {entry mid exit : List ℕ} {n r : ℕ} {o : Option ℕ} → length mid ≡ length entry → PathSought s M k mid exit n r
-      → ((P : Scope) (E : Term) → Whole s P E → size 1 E ≤ length entry → r < full) → Placed o r → PathFound s M k entry exit o
+      → ((P : Scope) (E : Term) → Whole s P E → size P.edition.width E ≤ length entry → r < full) → Placed o r → PathFound s M k entry exit o
   placed_path {o = None} e p enough q = record {
     same_length = p.same_length ∙ e;
     place_bounded = λ at z. absurd (none-some at z);
@@ -99,14 +99,14 @@ module _ {s M : List ℕ} {k : ℕ} where
 -- ── the move ──
 
 -- There is no move k.
-pub nothing_taken : (M : List ℕ) (k : ℕ) (E : Term) (B : List ℕ) → move_count M E ≤ k → Took (get_elem? (moves (holding M) E) k) B B None
+pub nothing_taken : (width : ℕ) (M : List ℕ) (k : ℕ) (E : Term) (B : List ℕ) → move_count M E ≤ k → Took width (get_elem? (moves (holding M) E) k) B B None
 unfolding taken_as built_over
-nothing_taken M k E B h = subst (λ o. Took o B B None) (sym (beyond_none (moves (holding M) E) k h)) (record { answer = refl; buffer = refl })
+nothing_taken width M k E B h = subst (λ o. Took width o B B None) (sym (beyond_none (moves (holding M) E) k h)) (record { answer = refl; buffer = refl })
 
 -- A path that was not found: the buffer is as it was.
 pub nowhere_taken : {s M : List ℕ} {k : ℕ} {entry exit : List ℕ} → PathFound s M k entry exit None → {o : Option Taken} → o ≡ None → (B : List ℕ)
-    → (P : Scope) (E : Term) → Whole s P E → size 1 E ≤ length entry → SuccessorFits (get_elem? (moves (holding M) E) k) B → Took (get_elem? (moves (holding M) E) k) B B o
-nowhere_taken {s} {M} {k} {entry} {exit} f {o} e B P E w b _ = subst (Took (get_elem? (moves (holding M) E) k) B B) (sym e) (nothing_taken M k E B (below (dec_lt k (move_count M E))))
+    → (P : Scope) (E : Term) → Whole s P E → size P.edition.width E ≤ length entry → SuccessorFits P.edition.width (get_elem? (moves (holding M) E) k) B → Took P.edition.width (get_elem? (moves (holding M) E) k) B B o
+nowhere_taken {s} {M} {k} {entry} {exit} f {o} e B P E w b _ = subst (Took P.edition.width (get_elem? (moves (holding M) E) k) B B) (sym e) (nothing_taken P.edition.width M k E B (below (dec_lt k (move_count M E))))
   where
     below : Dec (k < move_count M E) → move_count M E ≤ k
     below (yes l) = let q = f.found P E w b l in absurd (none-some q.0 q.1)
@@ -114,49 +114,49 @@ nowhere_taken {s} {M} {k} {entry} {exit} f {o} e B P E w b _ = subst (Took (get_
 
 -- No term within the limit has so many moves.
 pub too_many_taken : {s : List ℕ} (M : List ℕ) (k : ℕ) → 65535 < k → (n : ℕ) (B : List ℕ)
-    → (P : Scope) (E : Term) → Whole s P E → size 1 E ≤ n → SuccessorFits (get_elem? (moves (holding M) E) k) B → Took (get_elem? (moves (holding M) E) k) B B None
-too_many_taken M k h n B P E w _ _ = nothing_taken M k E B (omega (arith, w.narrow, moves_below_breadth (holding M) E))
+    → (P : Scope) (E : Term) → Whole s P E → size P.edition.width E ≤ n → SuccessorFits P.edition.width (get_elem? (moves (holding M) E) k) B → Took P.edition.width (get_elem? (moves (holding M) E) k) B B None
+too_many_taken M k h n B P E w _ _ = nothing_taken P.edition.width M k E B (omega (arith, w.narrow, moves_below_breadth (holding M) E))
 
 -- A term has no more words than the words it stands in.
-pub size_below : {s : List ℕ} {n : ℕ} → length s ≤ n → (P : Scope) (E : Term) → Whole s P E → size 1 E ≤ n
+pub size_below : {s : List ℕ} {n : ℕ} → length s ≤ n → (P : Scope) (E : Term) → Whole s P E → size P.edition.width E ≤ n
 size_below {s} h P E w =
-    let spelled : length s ≡ length (words 1 E ++ []) = ap length w.there.spelled in
-    omega (arith, spelled, length-append (words 1 E) [], fits_length P E w.there.fits)
+    let spelled : length s ≡ length (words P.edition.width E ++ []) = ap length w.there.spelled in
+    omega (arith, spelled, length-append (words P.edition.width E) [], fits_length P E w.there.fits)
 
 -- The answer where a successor is built.
 abbrev pub made : Built → Option Taken
 made b = Some (record { action = b.action; size = b.words })
 
 -- The buffer where a move's path leads to it.
-module _ (p : List ℕ) (E : Term) (x : Move) (leads : follow E p ≡ followed x.action x.successor []) where
-  same_words : built_words E p ≡ words 1 x.successor
-  same_words = ap (λ (y : Followed). words 1 y.successor) leads
+module _ (width : ℕ) (p : List ℕ) (E : Term) (x : Move) (leads : follow E p ≡ followed x.action x.successor []) where
+  same_words : built_words width E p ≡ words width x.successor
+  same_words = ap (λ (y : Followed). words width y.successor) leads
 
-  built_taken : {B B' : List ℕ} {b : Built} → BuiltRight E p B B' b → Took (some x) B B' (made b)
+  built_taken : {B B' : List ℕ} {b : Built} → BuiltRight width E p B B' b → Took width (some x) B B' (made b)
   unfolding taken_as built_over
   built_taken {B} {B'} {b} q = record {
     answer = λ i. Some (record { action = (q.action ∙ ap (λ (y : Followed). action_code y.action) leads) i; size = (q.size ∙ ap length same_words) i });
     buffer = q.written_there ∙ ap (λ ws. written ws B) same_words;
   }
 
-  fitting : (B : List ℕ) → length (words 1 x.successor) ≤ length B / 2 → 2 * length (built_words E p) ≤ length B
+  fitting : (B : List ℕ) → length (words width x.successor) ≤ length B / 2 → 2 * length (built_words width E p) ≤ length B
   fitting B h = omega (arith, ap length same_words)
 
 -- A path that was found, and the successor built along it.
 module _ {s M : List ℕ} {k : ℕ} {entry exit : List ℕ} {r : ℕ} (f : PathFound s M k entry exit (Some r)) {p B B' : List ℕ} {b : Built} (part : p ≡ drop r exit) (q : Building s p B B' b) where
-  leads_to : (P : Scope) (E : Term) → Whole s P E → size 1 E ≤ length entry → (x : Move) → get_elem? (moves (holding M) E) k ≡ some x → k < move_count M E
-      → (follow E p ≡ followed x.action x.successor []) × (marked E p ≡ true)
+  leads_to : (P : Scope) (E : Term) → Whole s P E → size P.edition.width E ≤ length entry → (x : Move) → get_elem? (moves (holding M) E) k ≡ some x → k < move_count M E
+      → (follow E p ≡ followed x.action x.successor []) × (marked P.edition.width E p ≡ true)
   leads_to P E w b x e l =
-      let q : p ≡ path 0 (holding M) E k ++ [] = part ∙ ap (λ i. drop i exit) (same_Some r _ (f.found P E w b l).1) ∙ (f.found P E w b l).2 ∙ sym (append-nil (path 0 (holding M) E k)) in
-      let h = follow_path (holding M) E (small_actions P E w.there.fits) k x e [] in
-      (ap (follow E) q ∙ h.0, ap (marked E) q ∙ h.1)
+      let q : p ≡ path P.edition.width 0 (holding M) E k ++ [] = part ∙ ap (λ i. drop i exit) (same_Some r _ (f.found P E w b l).1) ∙ (f.found P E w b l).2 ∙ sym (append-nil (path P.edition.width 0 (holding M) E k)) in
+      let h = follow_path P.edition.width (holding M) E (small_actions P E w.there.fits) k x e [] in
+      (ap (follow E) q ∙ h.0, ap (marked P.edition.width E) q ∙ h.1)
 
-  taken_at : (P : Scope) (E : Term) → Whole s P E → size 1 E ≤ length entry → (o : Maybe Move) → get_elem? (moves (holding M) E) k ≡ o → SuccessorFits o B → Took o B B' (made b)
+  taken_at : (P : Scope) (E : Term) → Whole s P E → size P.edition.width E ≤ length entry → (o : Maybe Move) → get_elem? (moves (holding M) E) k ≡ o → SuccessorFits P.edition.width o B → Took P.edition.width o B B' (made b)
   taken_at P E w g none e room = absurd (none-some r (sym (f.none_found P E w g (none_beyond (moves (holding M) E) k e))))
   taken_at P E w g (some x) e room =
       let leads = leads_to P E w g x e (some_within (moves (holding M) E) k x e) in
-      built_taken p E x leads.0 (q.right P E w.there leads.1 (q.has_room P E w.there leads.1 (fitting p E x leads.0 B room)))
+      built_taken P.edition.width p E x leads.0 (q.right P E w.there leads.1 (q.has_room P E w.there leads.1 (fitting P.edition.width p E x leads.0 B room)))
 
-  pub there_taken : (P : Scope) (E : Term) → Whole s P E → size 1 E ≤ length entry → SuccessorFits (get_elem? (moves (holding M) E) k) B
-      → Took (get_elem? (moves (holding M) E) k) B B' (made b)
+  pub there_taken : (P : Scope) (E : Term) → Whole s P E → size P.edition.width E ≤ length entry → SuccessorFits P.edition.width (get_elem? (moves (holding M) E) k) B
+      → Took P.edition.width (get_elem? (moves (holding M) E) k) B B' (made b)
   there_taken P E w g room = taken_at P E w g (get_elem? (moves (holding M) E) k) refl room

@@ -41,9 +41,9 @@ module _ (R : RuleSet) (form : Form R) where
   fits (Parallel Δ E F) h = (h.0.0, fits E h.1, fits F h.2)
   fits (Guard C E) h = (h.0, fits E h.1)
 
-  pub whole : (E : Term) → Running R E → (s : List ℕ) → s ≡ words 1 E → Whole s (guard_scope (attributes R) 0) E
+  pub whole : (E : Term) → Running R E → (s : List ℕ) → s ≡ words R.edition.width E → Whole s (guard_scope (attributes R) 0) E
   whole E r s e = record {
-    there = record { plain = plain_guard R form 0; fits = fits E r.form; spelled = e ∙ sym (append-nil (words 1 E)); closed = λ z. let w : ⊥ = omega arith in w };
+    there = record { plain = plain_guard R form 0; fits = fits E r.form; spelled = e ∙ sym (append-nil (words R.edition.width E)); closed = λ z. let w : ⊥ = omega arith in w };
     narrow = r.breadth_limit;
   }
 

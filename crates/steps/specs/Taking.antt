@@ -21,34 +21,34 @@ use Rattle.steps.specs.declared.moving.Taken.{Taken}
 pub record PathSought (s M : List ℕ) (k : ℕ) (entry exit : List ℕ) (n r : ℕ) : Type 0 where
   pub same_length : length exit ≡ length entry
   pub place_bounded : r < passed → r ≤ length entry
-  pub has_room : (P : Scope) (E : Term) (rest : List ℕ) → TermAt s P E rest → size 1 E ≤ length entry → room (holding M) E ≤ n → r < full
-  pub found : (P : Scope) (E : Term) (rest : List ℕ) → TermAt s P E rest → r < full → k < move_count M E → (r < passed) × (drop r exit ≡ path 0 (holding M) E k)
+  pub has_room : (P : Scope) (E : Term) (rest : List ℕ) → TermAt s P E rest → size P.edition.width E ≤ length entry → room (holding M) E ≤ n → r < full
+  pub found : (P : Scope) (E : Term) (rest : List ℕ) → TermAt s P E rest → r < full → k < move_count M E → (r < passed) × (drop r exit ≡ path P.edition.width 0 (holding M) E k)
   pub none_found : (P : Scope) (E : Term) (rest : List ℕ) → TermAt s P E rest → r < full → move_count M E ≤ k → passed ≤ r
 
 -- Sought in as much room as it takes: there is always an answer.
 pub record PathFound (s M : List ℕ) (k : ℕ) (entry exit : List ℕ) (r : Option ℕ) : Type 0 where
   pub same_length : length exit ≡ length entry
   pub place_bounded : (at : ℕ) → r ≡ Some at → at ≤ length entry
-  pub found : (P : Scope) (E : Term) → Whole s P E → size 1 E ≤ length entry → k < move_count M E → (at : ℕ) × (r ≡ Some at) × (drop at exit ≡ path 0 (holding M) E k)
-  pub none_found : (P : Scope) (E : Term) → Whole s P E → size 1 E ≤ length entry → move_count M E ≤ k → r ≡ None
+  pub found : (P : Scope) (E : Term) → Whole s P E → size P.edition.width E ≤ length entry → k < move_count M E → (at : ℕ) × (r ≡ Some at) × (drop at exit ≡ path P.edition.width 0 (holding M) E k)
+  pub none_found : (P : Scope) (E : Term) → Whole s P E → size P.edition.width E ≤ length entry → move_count M E ≤ k → r ≡ None
 
--- ── the move ──
+-- ── the move; a constant has `width` words ──
 
 -- The action's number and the successor's size, or that there is no such move.
-unfoldable pub taken_as : Maybe Move → Option Taken
-taken_as none = None
-taken_as (some x) = Some (record { action = action_code x.action; size = length (words 1 x.successor) })
+unfoldable pub taken_as : ℕ → Maybe Move → Option Taken
+taken_as width none = None
+taken_as width (some x) = Some (record { action = action_code x.action; size = length (words width x.successor) })
 
 -- The buffer afterwards.
-unfoldable pub built_over : Maybe Move → List ℕ → List ℕ
-built_over none B = B
-built_over (some x) B = written (words 1 x.successor) B
+unfoldable pub built_over : ℕ → Maybe Move → List ℕ → List ℕ
+built_over width none B = B
+built_over width (some x) B = written (words width x.successor) B
 
 -- There is room for the successor.
-abbrev pub SuccessorFits : Maybe Move → List ℕ → Type 0
-SuccessorFits none B = Unit
-SuccessorFits (some x) B = length (words 1 x.successor) ≤ word_count B
+abbrev pub SuccessorFits : ℕ → Maybe Move → List ℕ → Type 0
+SuccessorFits width none B = Unit
+SuccessorFits width (some x) B = length (words width x.successor) ≤ word_count B
 
-pub record Took (o : Maybe Move) (B B' : List ℕ) (r : Option Taken) : Type 0 where
-  pub answer : r ≡ taken_as o
-  pub buffer : B' ≡ built_over o B
+pub record Took (width : ℕ) (o : Maybe Move) (B B' : List ℕ) (r : Option Taken) : Type 0 where
+  pub answer : r ≡ taken_as width o
+  pub buffer : B' ≡ built_over width o B

@@ -91,7 +91,7 @@ pub fn take_move_in(
 ) -> Option<Taken>
     requires { length s.now ≤ 65535 }
     ensures arrays { SameArrays scratch.old scratch.new }
-    ensures taken { (P : Scope) (E : Term) → Whole s.now P E → size 1 E ≤ length scratch.old.path.now → SuccessorFits (get_elem? (moves (holding m.now) E) k) out.old → Took (get_elem? (moves (holding m.now) E) k) out.old out.new result }
+    ensures taken { (P : Scope) (E : Term) → Whole s.now P E → size P.edition.width E ≤ length scratch.old.path.now → SuccessorFits P.edition.width (get_elem? (moves (holding m.now) E) k) out.old → Took P.edition.width (get_elem? (moves (holding m.now) E) k) out.old out.new result }
 {
     if 65535 < k {
         return None;
@@ -108,7 +108,7 @@ pub fn take_move_in(
 // Stays: it only makes arrays, of a size that its caller picks, since there is no heap.
 fn take_sized<const N: usize>(s: &[u16], m: &[u16], k: usize, out: &mut [u8]) -> Option<Taken>
     requires { (length s.now ≤ 65535) × (N ≤ 65535) }
-    ensures { (P : Scope) (E : Term) → Whole s.now P E → size 1 E ≤ N → SuccessorFits (get_elem? (moves (holding m.now) E) k) out.old → Took (get_elem? (moves (holding m.now) E) k) out.old out.new result }
+    ensures { (P : Scope) (E : Term) → Whole s.now P E → size P.edition.width E ≤ N → SuccessorFits P.edition.width (get_elem? (moves (holding m.now) E) k) out.old → Took P.edition.width (get_elem? (moves (holding m.now) E) k) out.old out.new result }
 {
     let mut path = [0u16; N];
     let mut acts = [0u32; 256];
@@ -124,7 +124,7 @@ fn take_sized<const N: usize>(s: &[u16], m: &[u16], k: usize, out: &mut [u8]) ->
 // With small arrays for a short term, so that little is cleared for it.
 pub fn take_move(s: &[u16], m: &[u16], k: usize, out: &mut [u8]) -> Option<Taken>
     requires { length s.now ≤ 65535 }
-    ensures { (P : Scope) (E : Term) → Whole s.now P E → size 1 E ≤ 8192 → SuccessorFits (get_elem? (moves (holding m.now) E) k) out.old → Took (get_elem? (moves (holding m.now) E) k) out.old out.new result }
+    ensures { (P : Scope) (E : Term) → Whole s.now P E → size P.edition.width E ≤ 8192 → SuccessorFits P.edition.width (get_elem? (moves (holding m.now) E) k) out.old → Took P.edition.width (get_elem? (moves (holding m.now) E) k) out.old out.new result }
 {
     if s.len() <= 256 {
         return take_sized::<256>(s, m, k, out);
