@@ -20,7 +20,7 @@ use Rattle.cabinet.specs.declared.Counted.{Counted as CCounted}
 use Rattle.engine.specs.declared.stepping.Step.{Step}
 use Rattle.engine.specs.Stepping.{told, moved_as, Done}
 use Rattle.cabinet.specs.declared.Moved.{Moved as CMoved}
-use Rattle.mains.specs.declared.Totals.{Totals}
+use Rattle.runs.specs.declared.main_process.Totals.{Totals}
 use Rattle.engine.specs.Running.{ran_as, RunDone}
 use Rattle.eb3.specs.Operations.{admit, start, count, move, present, run, ScratchAfter}
 use Rattle.cabinet.specs.declared.Ran.{Ran as CRan}

@@ -21,7 +21,7 @@ use Rattle.steps.specs.Storing.{Ruled, Stored}
 use Rattle.steps.specs.Judging.{whole, moves_judged}
 use Rattle.given.specs.declared.giving.Given.{Given}
 use Rattle.given.specs.Giving.{GivenDone, given_in, found_term}
-use Rattle.mains.specs.declared.admitted.Admitted.{Admitted}
+use Rattle.runs.specs.declared.admitted.Admitted.{Admitted}
 use Rattle.engine.specs.Describing.{DescribedBy, described_by_ruled}
 use Rattle.engine.proofs.MadeCases.{found}
 use Rattle.given.specs.GivingLaws.{told_refused}

@@ -7,7 +7,7 @@ use Rattle.std.specs.Prelude.{Result}
 use Rattle.eb3.specs.Blocks.{stream}
 use Rattle.weights.specs.declared.Limits.{Limits}
 use Rattle.admission.specs.Knowing.{Known}
-use Rattle.mains.specs.declared.admitted.Admitted.{Admitted}
+use Rattle.runs.specs.declared.admitted.Admitted.{Admitted}
 use Rattle.given.specs.declared.giving.Given.{Given}
 use Rattle.given.specs.Giving.{Described, GivenDone, given_in, found_term}
 use Rattle.given.specs.GivingLaws.{Found, told_found, described_few}

@@ -21,8 +21,8 @@ use Rattle.eb3.specs.Operations.{main_reach, cells_needed}
 use Rattle.declarations.specs.Directory.{Directory}
 use Rattle.readers.specs.Table.{counted_by}
 use Rattle.readers.proofs.Laws.Counting.{zeros, counted_increases}
-use Rattle.mains.specs.Mains.{RunsMain}
-use Rattle.mains.specs.declared.Totals.{Totals}
+use Rattle.runs.specs.MainProcess.{RunsMain}
+use Rattle.runs.specs.declared.main_process.Totals.{Totals}
 use Rattle.weights.specs.declared.Limits.{Limits}
 use Rattle.admission.specs.Knowing.{Known}
 use Rattle.engine.specs.Running.{RunDone}

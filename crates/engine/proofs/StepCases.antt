@@ -37,7 +37,7 @@ use Rattle.steps.specs.Storing.{Ruled, Stored, StoreRenewed}
 use Rattle.steps.specs.Judging.{fits, whole, moves_judged}
 use Rattle.steps.specs.Taking.{taken_as, built_over, SuccessorFits, Took}
 use Rattle.engine.specs.declared.stepping.Step.{Step}
-use Rattle.mains.specs.declared.admitted.Admitted.{Admitted}
+use Rattle.runs.specs.declared.admitted.Admitted.{Admitted}
 use Rattle.given.specs.Giving.{Described}
 use Rattle.engine.specs.Describing.{DescribedBy, described_by_ruled}
 use Rattle.given.specs.declared.asking.Wanted.{Wanted}

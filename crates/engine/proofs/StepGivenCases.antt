@@ -12,7 +12,7 @@ use Rattle.eb3.specs.Memory.{cell_room}
 use Rattle.eb3.specs.Answers.{Moved as Answer_moved, Written}
 use Rattle.eb3.proofs.Laws.Editions.{width_is_1}
 use Rattle.declarations.specs.Declaring.{Declares}
-use Rattle.mains.specs.declared.admitted.Admitted.{Admitted}
+use Rattle.runs.specs.declared.admitted.Admitted.{Admitted}
 use Rattle.given.specs.declared.giving.Given.{Given}
 use Rattle.given.specs.Giving.{GivenDone, found_term}
 use Rattle.given.specs.GivingLaws.{told_refused}

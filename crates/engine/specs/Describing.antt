@@ -3,7 +3,7 @@ use Rattle.std.specs.Prelude.{◌≡◌, List, ℕ}
 use Rattle.eb3.specs.Terms.{Term}
 use Rattle.eb3.specs.RuleSets.{RuleSet}
 use Rattle.eb3.specs.Operations.{cells_needed}
-use Rattle.mains.specs.declared.admitted.Admitted.{Admitted}
+use Rattle.runs.specs.declared.admitted.Admitted.{Admitted}
 use Rattle.steps.specs.Storing.{Ruled}
 use Rattle.given.specs.Giving.{Described}
 use Rattle.given.specs.GivingLaws.{described_ruled}

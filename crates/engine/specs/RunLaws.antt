@@ -14,8 +14,8 @@ use Rattle.eb3.specs.Admission.{admission}
 use Rattle.eb3.specs.Answers.{refused, answered, Ran as Answer_ran, Tabled, untabled}
 use Rattle.eb3.specs.Readers.{lets_through, increased}
 use Rattle.eb3.specs.Operations.{cells_needed, main_reach, term_fits, memory_fits, run_fits, reader_counts, ran_with, tabling, run, ScratchAfter}
-use Rattle.mains.specs.Mains.{RanRight}
-use Rattle.mains.specs.declared.Totals.{Totals}
+use Rattle.runs.specs.MainProcess.{RanRight}
+use Rattle.runs.specs.declared.main_process.Totals.{Totals}
 use Rattle.engine.specs.Running.{ran_as, RunDone}
 use Rattle.refusals.specs.declared.Refusal.{Refusal}
 use Rattle.refusals.specs.declared.Refusal.TheVariants.{Space, Reader}

@@ -3,7 +3,7 @@
 use Rattle.std.specs.Prelude.{◌≡◌, List, ℕ, Ok, Err, Result}
 use Rattle.eb3.specs.Answers.{Answer, refused, answered, Ran as Answer_ran}
 use Rattle.eb3.specs.Operations.{run, ScratchAfter}
-use Rattle.mains.specs.declared.Totals.{Totals}
+use Rattle.runs.specs.declared.main_process.Totals.{Totals}
 use Rattle.refusals.specs.declared.Refusal.{Refusal}
 use Rattle.refusals.specs.Numbers.{refusal}
 

@@ -17,7 +17,7 @@ use Rattle.eb3.specs.Memory.{cell_room, memory_words}
 use Rattle.eb3.specs.Answers.{Answer, refused, answered, or_refused, Moved as Answer_moved, Written}
 use Rattle.eb3.specs.Operations.{listed, writing, moved, chosen}
 use Rattle.steps.specs.Storing.{Stored}
-use Rattle.mains.specs.declared.admitted.Admitted.{Admitted}
+use Rattle.runs.specs.declared.admitted.Admitted.{Admitted}
 use Rattle.engine.specs.declared.stepping.Step.{Step}
 use Rattle.engine.specs.declared.stepping.Next.{Next}
 use Rattle.engine.specs.declared.stepping.Visible.{Visible}

@@ -15,7 +15,7 @@ use blocks::{CONTENT_WORDS, open};
 use declarations::DIRECTORY;
 use expressions::store;
 use given::giving::given_in;
-use mains::admitted::Admitted;
+use runs::admitted::Admitted;
 use refusals::Refusal;
 use scan::front;
 use steps::counting::count_moves;

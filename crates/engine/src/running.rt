@@ -9,14 +9,14 @@ use arguments::layout::TABLES;
 use blocks::opened::Blocks;
 use blocks::{CONTENT_WORDS, open};
 use declarations::DIRECTORY;
-use mains::admitted::{Admitted, Course};
-use mains::{Totals, run_main};
+use runs::admitted::{Admitted, Course};
+use runs::main_process::{Totals, run_main};
 use readers::list::lets_through;
 use readers::{COUNTS, add_table};
 use refusals::Refusal;
 
 // An opened file, decoded into lent words. What was counted at each reader is added to the table at the end.
-// Stays, here and below: the words, the table, the term, the memory and the spare buffer are lent apart, as in mains (its `finish` says why). That the words
+// Stays, here and below: the words, the table, the term, the memory and the spare buffer are lent apart, as in runs::main_process (its `finish` says why). That the words
 // have room for the blocks is the clause of `blocks::join`, whose line says why.
 fn run_in(
     file: &Blocks,

@@ -11,7 +11,7 @@ use blocks::opened::Blocks;
 use blocks::{CONTENT_WORDS, open};
 use cells::{fill, lay, save};
 use declarations::DIRECTORY;
-use mains::admitted::Admitted;
+use runs::admitted::Admitted;
 use refusals::Refusal;
 use unfold::unfold_main;
 

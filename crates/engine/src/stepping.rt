@@ -23,7 +23,7 @@ use declarations::DIRECTORY;
 use expressions::store;
 use given::asking::{Request, Wanted, ask};
 use given::giving::given_in;
-use mains::admitted::Admitted;
+use runs::admitted::Admitted;
 use refusals::Refusal;
 use scan::front;
 use steps::counting::first_move;

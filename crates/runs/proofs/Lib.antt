@@ -3,3 +3,5 @@ mod Replies
 mod StepCases
 mod RunCases
 mod SharedCases
+mod MainCases
+mod BareCases

@@ -1,6 +1,6 @@
 // The memory machine run by a list of numbers, its term in words and its cells in a store (document 01, "Memory and the history
 // machine"; "Operations": Run: numbers not offered are counted and passed over), each counted at its reader, too (document 02, K1). Nothing is
-// admitted or checked again between two numbers, so that each costs what its step costs.
+// admitted or checked again between two numbers, so that each costs what its step costs. The run of the main process from the start is in main_process.
 // Stays: that words are at most 65,535 is a clause of each function here, for the reason in successors (docs/DESIGN-PASS.md, "A struct for words").
 #![tactic(auto)]
 
@@ -8,12 +8,9 @@ ghost use Rattle.std.specs.Prelude.{◌≡◌, ◌+◌, ◌≤◌, ◌<◌, leng
 ghost use Rattle.derivation.specs.Arrays.{SameArrays};
 ghost use Rattle.runs.specs.Running.{StepsOnce, outcome_of, counted, Runs};
 
+pub mod admitted;
+pub mod main_process;
 pub mod shared;
-
-// The arrays that a run works in, under the name that callers know.
-pub mod scratch {
-    pub use derivation::Scratch;
-}
 
 use cells::{Functions, load};
 use derivation::Scratch;
@@ -51,7 +48,7 @@ fn outcome(done: Option<Done>) -> Outcome
 }
 
 // Move k of the term in the first n words: its successor is built in lent bytes and put in the term's place, the cells are renewed.
-// Stays, here and in run_moves: the words, the store, the buffer and the arrays of the run are lent apart, as in mains (its `finish` says why); and that each
+// Stays, here and in run_moves: the words, the store, the buffer and the arrays of the run are lent apart, as in main_process (its `finish` says why); and that each
 // keeps its length is a fact of what it was and what it is then, which no field of a struct holds.
 fn step_once(
     functions: &Functions,

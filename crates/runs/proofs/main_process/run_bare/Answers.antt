@@ -1,10 +1,10 @@
 -- One word at the start, the run and the last term spelled out, put together (`bare_run`); there is always room for a word (`bare_none`).
 use Rattle.std.proofs.Common.{rules}
 use mathlib.Core.Path.{refl}
-use Rattle.mains.proofs.BareCases.{bare_none, bare_run}
+use Rattle.runs.proofs.BareCases.{bare_none, bare_run}
 use Rattle.scan.specs.Laws.{set_first}
 use lib.ListN.{length-set}
-use Rattle.mains.proofs.run_bare.Goals as goal
+use Rattle.runs.proofs.main_process.run_bare.Goals as goal
 
 pub returns-then-d-eq0 : goal.returns-then-d-eq0
 returns-then-d-eq0 c = bare_none c.if-d-eq0.true

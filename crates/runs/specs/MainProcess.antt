@@ -15,7 +15,7 @@ use Rattle.expressions.specs.Stores.{now_place}
 use Rattle.readers.specs.Table.{counted_by}
 use Rattle.runs.specs.Scratch.{WordsOnly}
 use Rattle.runs.specs.declared.Tally.{Tally}
-use Rattle.mains.specs.declared.Totals.{Totals}
+use Rattle.runs.specs.declared.main_process.Totals.{Totals}
 
 -- A tally as it is told: its size in 32 bits.
 abbrev pub totals : Tally → Totals

@@ -40,9 +40,9 @@ use Rattle.readers.specs.Table.{counted_by}
 use Rattle.runs.specs.Scratch.{WordsOnly}
 use Rattle.runs.specs.ScratchLaws.{words_written, words_then}
 use Rattle.runs.specs.Running.{Holding, Spelled, Ended, Runs, CountedBy}
-use Rattle.mains.specs.Mains.{RanRight, RunsMain, Finished}
-use Rattle.mains.specs.Starts.{AtStart, RunsBare, RunsMasked}
-use Rattle.mains.specs.declared.Totals.{Totals}
+use Rattle.runs.specs.MainProcess.{RanRight, RunsMain, Finished}
+use Rattle.runs.specs.Starts.{AtStart, RunsBare, RunsMasked}
+use Rattle.runs.specs.declared.main_process.Totals.{Totals}
 use Rattle.runs.specs.declared.Tally.{Tally}
 
 -- ── main and its run ──

@@ -3,19 +3,17 @@
 // of which only whole words are written; the successors of a term with masks are built there, too. Each number is counted at its reader
 // (document 02, K1).
 // Stays: that words are at most 65,535 is a clause of each function here, for the reason in successors (docs/DESIGN-PASS.md, "A struct for words").
-#![tactic(auto)]
-
 ghost use Rattle.std.specs.Prelude.{◌≡◌, ◌≤◌, length};
-ghost use Rattle.mains.specs.Mains.{Padded, Finished, totals};
-ghost use Rattle.mains.specs.Starts.{CourseBare, CourseMasked, CourseMain};
+ghost use Rattle.runs.specs.MainProcess.{Padded, Finished, totals};
+ghost use Rattle.runs.specs.Starts.{CourseBare, CourseMasked, CourseMain};
 
-use admitted::Course;
+use super::admitted::Course;
+use super::shared::run_shared;
+use super::{Tally, run_moves};
 use cells::{load, save};
+use derivation::Scratch;
 use expressions::store;
 use readers::COUNTS;
-use runs::scratch::Scratch;
-use runs::shared::run_shared;
-use runs::{Tally, run_moves};
 use scan::front;
 use sharing::beginning::part_word;
 use sharing::expanding::expand;
@@ -24,10 +22,8 @@ use steps::storing::start_store;
 use unfold::unfold_main;
 use writing::put_words;
 
-pub mod admitted;
-
 // The last term's size in words, and how many numbers took a visible move, took an internal one, or were refused.
-// Stays beside runs' Tally, whose size is a place in an array (usize): here it has 32 bits, as a size has in every other answer. One struct generic in the
+// Stays beside Tally, whose size is a place in an array (usize): here it has 32 bits, as a size has in every other answer. One struct generic in the
 // size would be written with that type at every place, and would be turned by the same function.
 #[derive(Clone, Copy, Default)]
 pub struct Totals {

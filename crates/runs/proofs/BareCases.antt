@@ -31,11 +31,11 @@ use Rattle.std.specs.Prelude.{Option, None, Some}
 use Rattle.runs.specs.ScratchLaws.{words_kept}
 use Rattle.runs.specs.Running.{Spelled, Ended, CountedBy}
 use Rattle.runs.specs.Sharing.{SharedOver, RunsShared}
-use Rattle.mains.specs.Mains.{Finished}
-use Rattle.mains.specs.Starts.{RunsBare}
-use Rattle.mains.specs.declared.Totals.{Totals}
+use Rattle.runs.specs.MainProcess.{Finished}
+use Rattle.runs.specs.Starts.{RunsBare}
+use Rattle.runs.specs.declared.main_process.Totals.{Totals}
 use Rattle.runs.specs.declared.Tally.{Tally}
-use Rattle.mains.proofs.MainCases.{start, main_there, main_reaches, main_size, spelled_length, run_fits, main_ended}
+use Rattle.runs.proofs.MainCases.{start, main_there, main_reaches, main_size, spelled_length, run_fits, main_ended}
 
 -- ── one part ──
 

@@ -14,9 +14,9 @@ use Rattle.steps.specs.Storing.{Stored, Ruled}
 use Rattle.sharing.specs.Shared.{Unmasked}
 use Rattle.runs.specs.Running.{Spelled, Roomy}
 use Rattle.runs.specs.Sharing.{RoomyOver}
-use Rattle.mains.specs.Mains.{RanRight, RunsMain}
-use Rattle.mains.specs.declared.Totals.{Totals}
-use Rattle.mains.specs.declared.admitted.Course.{Course}
+use Rattle.runs.specs.MainProcess.{RanRight, RunsMain}
+use Rattle.runs.specs.declared.main_process.Totals.{Totals}
+use Rattle.runs.specs.declared.admitted.Course.{Course}
 
 -- The store M holds the cells of the start, and the lent buffers have room for main's reach and for the cells.
 pub record AtStart (R : RuleSet) (t T D : List ℕ) (w functions c reach : ℕ) (M term memory : List ℕ) : Type 0 where

@@ -1,7 +1,7 @@
 -- The run in main's own words and what is written, put together (`masked_run`).
 use mathlib.Core.Path.{refl}
-use Rattle.mains.proofs.MainCases.{masked_run}
-use Rattle.mains.proofs.run_masked.Goals as goal
+use Rattle.runs.proofs.MainCases.{masked_run}
+use Rattle.runs.proofs.main_process.run_masked.Goals as goal
 
 pub returns : goal.returns
 returns c = (c.run_moves-r.ensures.bytes, rw c.finish.ensures.told (masked_run c.run_moves-r.ensures.words c.run_moves-r.ensures.run c.finish.ensures.written refl))

@@ -1,3 +1,0 @@
--- What the proofs of several functions use (document 01, "Operations": Run).
-mod MainCases
-mod BareCases
