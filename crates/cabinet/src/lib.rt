@@ -87,7 +87,9 @@ pub extern "C" fn eb3_admit(rules: &[u8]) -> Sizes
 
 #[unsafe(no_mangle)]
 pub extern "C" fn eb3_start(rules: &[u8], term: &mut [u8], memory: &mut [u8]) -> Started
-    ensures { (result ≡ started (start rules.now term.old memory.old).answer) × (term.new ≡ (start rules.now term.old memory.old).term) × (memory.new ≡ (start rules.now term.old memory.old).memory) }
+    ensures answer { result ≡ started (start rules.now term.old memory.old).answer }
+    ensures term_after { term.new ≡ (start rules.now term.old memory.old).term }
+    ensures memory_after { memory.new ≡ (start rules.now term.old memory.old).memory }
 {
     match start(rules, term, memory) {
         Ok(n) => Started {
@@ -165,7 +167,9 @@ pub extern "C" fn eb3_move(
     next_term: &mut [u8],
     next_memory: &mut [u8],
 ) -> Moved
-    ensures { (result ≡ moved (move rules.now term.now memory.now k next_term.old next_memory.old).answer) × (next_term.new ≡ (move rules.now term.now memory.now k next_term.old next_memory.old).term) × (next_memory.new ≡ (move rules.now term.now memory.now k next_term.old next_memory.old).memory) }
+    ensures answer { result ≡ moved (move rules.now term.now memory.now k next_term.old next_memory.old).answer }
+    ensures term_after { next_term.new ≡ (move rules.now term.now memory.now k next_term.old next_memory.old).term }
+    ensures memory_after { next_memory.new ≡ (move rules.now term.now memory.now k next_term.old next_memory.old).memory }
 {
     Moved::from(make_move(rules, term, memory, k as usize, next_term, next_memory))
 }
@@ -179,7 +183,9 @@ pub extern "C" fn eb3_present(
     next_term: &mut [u8],
     next_memory: &mut [u8],
 ) -> Moved
-    ensures { (result ≡ moved (present rules.now term.now memory.now event.now next_term.old next_memory.old).answer) × (next_term.new ≡ (present rules.now term.now memory.now event.now next_term.old next_memory.old).term) × (next_memory.new ≡ (present rules.now term.now memory.now event.now next_term.old next_memory.old).memory) }
+    ensures answer { result ≡ moved (present rules.now term.now memory.now event.now next_term.old next_memory.old).answer }
+    ensures term_after { next_term.new ≡ (present rules.now term.now memory.now event.now next_term.old next_memory.old).term }
+    ensures memory_after { next_memory.new ≡ (present rules.now term.now memory.now event.now next_term.old next_memory.old).memory }
 {
     Moved::from(present(rules, term, memory, event, next_term, next_memory))
 }
