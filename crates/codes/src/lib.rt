@@ -208,7 +208,7 @@ pub fn operands(w: usize, t: &[u16], shape: usize) -> usize
 // ── skipping ──
 
 // The code at a place; None where there is no word, or one that is no code.
-fn code_at(s: &[u16], at: usize) -> Option<usize>
+pub fn code_at(s: &[u16], at: usize) -> Option<usize>
     ensures { MatchOption result (at < length s.now → 30 < get_or s.now at 0) (λ w. (w ≡ get_or s.now at 0) × (at < length s.now) × (w ≤ 30)) }
 {
     s.get(at).map(|w| usize::from(*w)).filter(|w| *w <= DONE)
