@@ -1,4 +1,5 @@
 pub mod Sorts
+pub mod Due
 pub mod Table
 pub mod Shapes
 pub mod Pieces

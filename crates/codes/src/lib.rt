@@ -7,11 +7,11 @@
 // that contracts go by (specs/Shapes.antt) are of this number.
 #![tactic(auto)]
 
-ghost use Rattle.std.specs.Prelude.{◌≡◌, ℕ, ◌+◌, ◌*◌, ◌-◌, ◌≤◌, ◌<◌, List, [], ◌∷◌, eqb, length, drop, get_or, MatchOption};
+ghost use Rattle.std.specs.Prelude.{◌≡◌, ℕ, ◌+◌, ◌*◌, ◌-◌, ◌≤◌, ◌<◌, List, [], ◌∷◌, eqb, length, drop, get_or, IfOk, MatchOption};
 ghost use Rattle.eb3.specs.Scopes.{Scope};
 ghost use Rattle.eb3.specs.Sizes.{breadth};
 ghost use Rattle.eb3.specs.Terms.{Term};
-ghost use Rattle.codes.specs.Sorts.{refusal_of, refused_as};
+ghost use Rattle.codes.specs.Sorts.{refusal_of, refused_as, code_due};
 ghost use Rattle.codes.specs.Table.{operands_after, moving_code};
 ghost use Rattle.codes.specs.Shapes.{width_of, two_parameters, arity_of, more_words, argument_count, more_operands, operand_count};
 ghost use Rattle.codes.specs.Rows.{Piece, of_term, RowAt};
@@ -42,6 +42,21 @@ pub fn refusal(w: u16, due: Due) -> Option<Refusal>
         (Due::RunningTerm, INTERNAL..=GUARD) => None,
         (Due::RunningTerm, DONE) => None,
         _ => Some(Refusal::Form),
+    }
+}
+
+// The code at a place where something is due, or its refusal; form where there is no word. Each check of a rule stream, a guard or a given term asks this
+// first at each place, and says itself only what follows a code that may be there.
+pub fn code_due(s: &[u16], at: usize, due: Due) -> Result<usize, Refusal>
+    ensures coded { result ≡ code_due due s.now at }
+    ensures there { IfOk result (λ w. at < length s.now) }
+{
+    let Some(w) = s.get(at) else {
+        return Err(Refusal::Form);
+    };
+    match refusal(*w, due) {
+        None => Ok(usize::from(*w)),
+        Some(refusal) => Err(refusal),
     }
 }
 
@@ -193,7 +208,7 @@ pub fn operands(w: usize, t: &[u16], shape: usize) -> usize
 // ── skipping ──
 
 // The code at a place; None where there is no word, or one that is no code.
-fn code_at(s: &[u16], at: usize) -> Option<usize>
+pub fn code_at(s: &[u16], at: usize) -> Option<usize>
     ensures { MatchOption result (at < length s.now → 30 < get_or s.now at 0) (λ w. (w ≡ get_or s.now at 0) × (at < length s.now) × (w ≤ 30)) }
 {
     s.get(at).map(|w| usize::from(*w)).filter(|w| *w <= DONE)

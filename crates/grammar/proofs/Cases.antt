@@ -10,7 +10,12 @@ use mathlib.Core.Bool.{Bool, true, false}
 use lib.Dec.{ltb}
 use lib.ListN.{length, take, drop, get_or, drop_of_length-le}
 use lib.Seq.{drop-cons}
-use borrow.Author.Tests.{ne_eqb, lt-ltb, le-ltb, le-leb, lt-leb}
+use borrow.Author.Tests.{lt-ltb, le-ltb, le-leb, lt-leb}
+use Rattle.codes.specs.declared.Due.{Due}
+use Rattle.codes.specs.declared.Due.TheVariants.{Data as DueData, Condition as DueCondition}
+use Rattle.codes.specs.Sorts.{code_due}
+use Rattle.codes.specs.Laws.Sorts.{no_data, no_condition}
+use Rattle.codes.specs.Laws.Due.{code_taken, code_refused}
 use Rattle.eb3.specs.Expressions.{Data, Undefined, Cond, Args, Constant, Variable, Add, Subtract, Now, Before, Equal, Less, And, Or, Not, True}
 use Rattle.eb3.specs.Scopes.{Scope}
 use Rattle.eb3.specs.Reading.{Read, refused, taken, Reader, pick, giving, then, both, number_of, by_number, number_in, repeat}
@@ -87,25 +92,17 @@ abbrev OtherD : ℕ → Type 0
 OtherD w = ((((((Unit {0} × (w ≡ 0 → ⊥)) × (w ≡ 1 → ⊥)) × (w ≡ 2 → ⊥)) × (w ≡ 5 → ⊥)) × (w ≡ 6 → ⊥)) × (w ≡ 7 → ⊥))
 
 abbrev OtherC : ℕ → Type 0
-OtherC w = ((Unit {0} × (w ≡ 12 → ⊥)) × (w ≡ 13 → ⊥))
-
-data_other : (P : Scope) (w : ℕ) → OtherD w → (w ≡ 3 → ⊥) → (w ≡ 4 → ⊥) → data_kind P w ≡ DataKind.wrong
-data_other P w h a b = simp (ne_eqb w 0 h.0.0.0.0.0.1, ne_eqb w 1 h.0.0.0.0.1, ne_eqb w 2 h.0.0.0.1, ne_eqb w 3 a, ne_eqb w 4 b, ne_eqb w 5 h.0.0.1, ne_eqb w 6 h.0.1, ne_eqb w 7 h.1)
-
-cond_other : (w : ℕ) → (w ≡ 8 → ⊥) → (w ≡ 9 → ⊥) → (w ≡ 10 → ⊥) → (w ≡ 11 → ⊥) → OtherC w → cond_kind w ≡ CondKind.wrong
-cond_other w a b c d h = simp (ne_eqb w 8 a, ne_eqb w 9 b, ne_eqb w 10 c, ne_eqb w 11 d, ne_eqb w 12 h.0.1, ne_eqb w 13 h.1)
+OtherC w = Unit {0} × (w ≡ 12 → ⊥)
 
 -- ── no word ──
 
-pub data_none : (P : Scope) (s : List ℕ) (at rest : ℕ) → length s ≤ at → DataFront P s at rest (Err Form)
+data_none : (P : Scope) (s : List ℕ) (at rest : ℕ) → length s ≤ at → DataFront P s at rest (Err Form)
 unfolding read_data readers checked repeat both giving then refusal
 data_none P s at rest h = rw (drop_of_length-le s {i = at} h)
 
-pub cond_none : (P : Scope) (s : List ℕ) (at rest : ℕ) → length s ≤ at → CondFront P s at rest (Err Form)
+cond_none : (P : Scope) (s : List ℕ) (at rest : ℕ) → length s ≤ at → CondFront P s at rest (Err Form)
 unfolding read_cond readers checked repeat both giving then refusal
 cond_none P s at rest h = rw (drop_of_length-le s {i = at} h)
-
--- ── a word at the place `at` ──
 
 -- A number after it, and m of f's after that.
 faced : {A B : Type 0} (f : Reader A) (g : Reader B) (after : ℕ) (s : List ℕ) (at rest m : ℕ) (k : Refusal) (limit : ℕ) (r : Result Front Refusal) → m ≤ at + 2
@@ -115,7 +112,62 @@ faced f g after s at rest m k limit (Ok (On d o)) l e (x, y, z, n) = ((omega (ar
 faced f g after s at rest m k limit (Ok (Other d)) l e n = absurd n
 faced f g after s at rest m k limit (Err j) l e n = sym (e ∙ ap (λ r. checked (then r (λ v. repeat m f))) n.read ∙ ap Err (sym n.named))
 
-module _ (P : Scope) (s : List ℕ) (at rest : ℕ) (h : at < length s) (few : rest ≤ at + 1) where
+-- ── a word at the place `at` ──
+
+module _ (P : Scope) (s : List ℕ) (at rest : ℕ) (h : at < length s) where
+  back : drop (suc at) s ≡ drop (at + 1) s
+  back =
+      let e : suc at ≡ at + 1 = omega arith in
+      ap (λ i. drop i s) e
+
+  -- what is there by its kind
+  data_at : (k : DataKind) → data_kind P (get_or s at 0) ≡ k → read_data 1 P (drop at s) ≡ data_by 1 P (whole 1 P) k (drop (at + 1) s)
+  data_at k e = ap (read_data 1 P) (drop-cons s at 0 h) ∙ data_case 1 P (get_or s at 0 ∷ drop (suc at) s) k (λ z. omega arith) e ∙ ap (data_by 1 P (whole 1 P) k) back
+
+  cond_at : (k : CondKind) → cond_kind (get_or s at 0) ≡ k → read_cond 1 P (drop at s) ≡ cond_by (whole 1 P) k (drop (at + 1) s)
+  cond_at k e = ap (read_cond 1 P) (drop-cons s at 0 h) ∙ cond_case 1 P (get_or s at 0 ∷ drop (suc at) s) k (λ z. omega arith) e ∙ ap (cond_by (whole 1 P) k) back
+
+  data_row : {B : Type 0} (k : DataKind) (r : Read B) → data_kind P (get_or s at 0) ≡ k → forget (data_by 1 P (whole 1 P) k (drop (at + 1) s)) ≡ forget r
+      → checked (repeat (suc rest) (read_data 1 P) (drop at s)) ≡ checked (then r (λ a. repeat rest (read_data 1 P)))
+  data_row k r e f = row_step (read_data 1 P) r rest (drop at s) (ap forget (data_at k e) ∙ f)
+
+  cond_row : {B : Type 0} (k : CondKind) (r : Read B) → cond_kind (get_or s at 0) ≡ k → forget (cond_by (whole 1 P) k (drop (at + 1) s)) ≡ forget r
+      → checked (repeat (suc rest) (read_cond 1 P) (drop at s)) ≡ checked (then r (λ a. repeat rest (read_cond 1 P)))
+  cond_row k r e f = row_step (read_cond 1 P) r rest (drop at s) (ap forget (cond_at k e) ∙ f)
+
+  data_wrong : data_kind P (get_or s at 0) ≡ DataKind.wrong → DataFront P s at rest (Err Form)
+  unfolding then checked refusal
+  data_wrong e = sym (data_row {B = Data} DataKind.wrong (refused 4) e refl)
+
+  cond_wrong : cond_kind (get_or s at 0) ≡ CondKind.wrong → CondFront P s at rest (Err Form)
+  unfolding then checked refusal
+  cond_wrong e = sym (cond_row {B = Cond} CondKind.wrong (refused 4) e refl)
+
+-- ── no word, or a code that may not be there ──
+
+module _ (P : Scope) (s : List ℕ) (at rest : ℕ) (k : Refusal) (r : Result Front Refusal) (h : IsErr r × IsErrAnd r (λ e. e ≡ k)) where
+  pub data_refused : Err k ≡ code_due DueData s at → DataFront P s at rest r
+  data_refused e =
+      let o = code_refused DueData s at k e in
+      subst (DataFront P s at rest) (sym (handed_err r k h ∙ ap Err o.form)) (go (dec_le (length s) at) o.outside)
+    where
+      go : Dec (length s ≤ at) → (at < length s → get_or s at 0 ≤ 7 → ⊥) → DataFront P s at rest (Err Form)
+      go (yes l) o = data_none P s at rest l
+      go (no l) o = data_wrong P s at rest (omega arith) (no_data P (get_or s at 0) (o (omega arith)))
+
+  pub cond_refused : Err k ≡ code_due DueCondition s at → CondFront P s at rest r
+  cond_refused e =
+      let o = code_refused DueCondition s at k e in
+      subst (CondFront P s at rest) (sym (handed_err r k h ∙ ap Err o.form)) (go (dec_le (length s) at) o.outside)
+    where
+      go : Dec (length s ≤ at) → (at < length s → (8 ≤ get_or s at 0) × (get_or s at 0 ≤ 13) → ⊥) → CondFront P s at rest (Err Form)
+      go (yes l) o = cond_none P s at rest l
+      go (no l) o = cond_wrong P s at rest (omega arith) (no_condition (get_or s at 0) (o (omega arith)))
+
+-- ── a code that may be there ──
+
+-- w is the code that the code found there
+module _ (P : Scope) (s : List ℕ) (at rest : ℕ) (few : rest ≤ at + 1) (due : Due) (w : ℕ) (is : Ok w ≡ code_due due s at) where
   abbrev rd : Reader Data
   rd = read_data 1 P
 
@@ -125,8 +177,11 @@ module _ (P : Scope) (s : List ℕ) (at rest : ℕ) (h : at < length s) (few : r
   abbrev t : List ℕ
   t = drop (at + 1) s
 
+  within : at < length s
+  within = (code_taken due s at w is).there
+
   behind : (m : ℕ) → m ≤ rest + 2 → Behind s at (at + 1) m
-  behind m l = (omega arith, omega (arith, h), omega (arith, few, l))
+  behind m l = (omega arith, omega (arith, within), omega (arith, few, l))
 
   one : suc rest ≡ rest + 1
   one = omega arith
@@ -134,41 +189,29 @@ module _ (P : Scope) (s : List ℕ) (at rest : ℕ) (h : at < length s) (few : r
   two : suc (suc rest) ≡ rest + 2
   two = omega arith
 
-  back : drop (suc at) s ≡ t
-  back =
-      let e : suc at ≡ at + 1 = omega arith in
-      ap (λ i. drop i s) e
+  by_data : {B : Type 0} (k : DataKind) (r : Read B) → data_kind P w ≡ k → forget (data_by 1 P (whole 1 P) k t) ≡ forget r → checked (repeat (suc rest) rd (drop at s)) ≡ checked (then r (λ a. repeat rest rd))
+  by_data k r e f = data_row P s at rest within k r (ap (data_kind P) (code_taken due s at w is).code ∙ e) f
 
-  -- what is there by its kind
-  data_at : (k : DataKind) → data_kind P (get_or s at 0) ≡ k → rd (drop at s) ≡ data_by 1 P (whole 1 P) k t
-  data_at k e = ap rd (drop-cons s at 0 h) ∙ data_case 1 P (get_or s at 0 ∷ drop (suc at) s) k (λ z. omega arith) e ∙ ap (data_by 1 P (whole 1 P) k) back
+  by_cond : {B : Type 0} (k : CondKind) (r : Read B) → cond_kind w ≡ k → forget (cond_by (whole 1 P) k t) ≡ forget r → checked (repeat (suc rest) rc (drop at s)) ≡ checked (then r (λ a. repeat rest rc))
+  by_cond k r e f = cond_row P s at rest within k r (ap cond_kind (code_taken due s at w is).code ∙ e) f
 
-  cond_at : (k : CondKind) → cond_kind (get_or s at 0) ≡ k → rc (drop at s) ≡ cond_by (whole 1 P) k t
-  cond_at k e = ap rc (drop-cons s at 0 h) ∙ cond_case 1 P (get_or s at 0 ∷ drop (suc at) s) k (λ z. omega arith) e ∙ ap (cond_by (whole 1 P) k) back
-
-  by_data : {B : Type 0} (k : DataKind) (r : Read B) → data_kind P (get_or s at 0) ≡ k → forget (data_by 1 P (whole 1 P) k t) ≡ forget r → checked (repeat (suc rest) rd (drop at s)) ≡ checked (then r (λ a. repeat rest rd))
-  by_data k r e f = row_step rd r rest (drop at s) (ap forget (data_at k e) ∙ f)
-
-  by_cond : {B : Type 0} (k : CondKind) (r : Read B) → cond_kind (get_or s at 0) ≡ k → forget (cond_by (whole 1 P) k t) ≡ forget r → checked (repeat (suc rest) rc (drop at s)) ≡ checked (then r (λ a. repeat rest rc))
-  by_cond k r e f = row_step rc r rest (drop at s) (ap forget (cond_at k e) ∙ f)
-
-  pub data_undefined : get_or s at 0 ≡ 0 → DataFront P s at rest (Ok (On (at + 1) rest))
+  pub data_undefined : w ≡ 0 → DataFront P s at rest (Ok (On (at + 1) rest))
   unfolding then
   data_undefined e = (behind rest (omega arith), by_data DataKind.undefined (taken Undefined t) (ap (data_kind P) e) refl)
 
-  pub data_constant : (r : Result Front Refusal) → get_or s at 0 ≡ 1 → P.edition.top ≡ 65534 → Operand Form 65535 s (at + 1) rest r → DataFront P s at rest r
+  pub data_constant : (r : Result Front Refusal) → w ≡ 1 → P.edition.top ≡ 65534 → Operand Form 65535 s (at + 1) rest r → DataFront P s at rest r
   data_constant r e o = faced rd (repeat 1 rc) (rest + 2) s at rest rest Form 65535 r (omega (arith, few)) (by_data DataKind.constant (number_of 4 65535 t) (ap (data_kind P) e) (ap (λ m. forget (giving Constant (constant_of 1 m t))) o ∙ one_constant t))
 
-  pub data_variable : (r : Result Front Refusal) → get_or s at 0 ≡ 2 → Operand Reference P.variables s (at + 1) rest r → DataFront P s at rest r
+  pub data_variable : (r : Result Front Refusal) → w ≡ 2 → Operand Reference P.variables s (at + 1) rest r → DataFront P s at rest r
   data_variable r e = faced rd (repeat 1 rc) (rest + 2) s at rest rest Reference P.variables r (omega (arith, few)) (by_data DataKind.variable (number_of 5 P.variables t) (ap (data_kind P) e) (forget_giving Variable (number_of 5 P.variables t)))
 
-  paired : (k : Data → Data → Data) → data_kind P (get_or s at 0) ≡ DataKind.pair k → DataFront P s at rest (Ok (On (at + 1) (rest + 2)))
+  paired : (k : Data → Data → Data) → data_kind P (w) ≡ DataKind.pair k → DataFront P s at rest (Ok (On (at + 1) (rest + 2)))
   paired k e = (behind (rest + 2) (omega arith), by_data (DataKind.pair k) (both rd rd t) e (forget_giving _ (both rd rd t)) ∙ row_join rd rd rest t ∙ row_more rd (suc rest) t ∙ ap (λ n. checked (repeat n rd t)) two)
 
-  pub data_pair : OtherD (get_or s at 0) → get_or s at 0 < 5 → DataFront P s at rest (Ok (On (at + 1) (rest + 2)))
-  data_pair o u = ⊎_elim (λ e. paired Add (ap (data_kind P) e)) (λ e. paired Subtract (ap (data_kind P) e)) (two_ways (get_or s at 0) 3 (omega arith) (omega arith))
+  pub data_pair : OtherD w → w < 5 → DataFront P s at rest (Ok (On (at + 1) (rest + 2)))
+  data_pair o u = ⊎_elim (λ e. paired Add (ap (data_kind P) e)) (λ e. paired Subtract (ap (data_kind P) e)) (two_ways (w) 3 (omega arith) (omega arith))
 
-  pub data_select : get_or s at 0 ≡ 5 → DataFront P s at rest (Ok (Other (at + 1)))
+  pub data_select : w ≡ 5 → DataFront P s at rest (Ok (Other (at + 1)))
   unfolding both
   data_select e = (
     behind (rest + 2) (omega arith),
@@ -179,57 +222,60 @@ module _ (P : Scope) (s : List ℕ) (at rest : ℕ) (h : at < length s) (few : r
         ∙ led rc (repeat 1 rc) (repeat (rest + 2) rd) t (sym (one_left rc t)),
   )
 
-  named : (k : ℕ → Args → Data) (limit : ℕ) (r : Result Front Refusal) → P.arity ≡ (λ f. 1) → data_kind P (get_or s at 0) ≡ DataKind.attribute k limit → Operand Reference limit s (at + 1) (rest + 1) r → DataFront P s at rest r
+  named : (k : ℕ → Args → Data) (limit : ℕ) (r : Result Front Refusal) → P.arity ≡ (λ f. 1) → data_kind P (w) ≡ DataKind.attribute k limit → Operand Reference limit s (at + 1) (rest + 1) r → DataFront P s at rest r
   named k limit r a e =
       faced rd (repeat 1 rc) (rest + 2) s at rest (rest + 1) Reference limit r (omega (arith, few))
       (by_data (DataKind.attribute k limit) (both (number_of 5 limit) rd t) e (one_named limit P.arity k rd t (λ n. ap (λ g. g n) a))
       ∙ row_join (number_of 5 limit) rd rest t
       ∙ ap (λ n. checked (then (number_of 5 limit t) (λ w. repeat n rd))) one)
 
-  pub data_now : (r : Result Front Refusal) → get_or s at 0 ≡ 6 → P.arity ≡ (λ f. 1) → Operand Reference P.now s (at + 1) (rest + 1) r → DataFront P s at rest r
+  pub data_now : (r : Result Front Refusal) → w ≡ 6 → P.arity ≡ (λ f. 1) → Operand Reference P.now s (at + 1) (rest + 1) r → DataFront P s at rest r
   data_now r e a = named Now P.now r a (ap (data_kind P) e)
 
-  pub data_before : (r : Result Front Refusal) → get_or s at 0 ≡ 7 → P.arity ≡ (λ f. 1) → 0 < P.before → Operand Reference P.before s (at + 1) (rest + 1) r → DataFront P s at rest r
+  pub data_before : (r : Result Front Refusal) → w ≡ 7 → P.arity ≡ (λ f. 1) → 0 < P.before → Operand Reference P.before s (at + 1) (rest + 1) r → DataFront P s at rest r
   data_before r e a l = named Before P.before r a (ap (data_kind P) e ∙ rw (lt-ltb 0 P.before l))
 
-  wrong : data_kind P (get_or s at 0) ≡ DataKind.wrong → DataFront P s at rest (Err Form)
-  unfolding then checked refusal
-  wrong e = sym (by_data {B = Data} DataKind.wrong (refused 4) e refl)
+  pub data_barred : w ≡ 7 → P.before ≤ 0 → DataFront P s at rest (Err Form)
+  data_barred e l = data_wrong P s at rest within (ap (data_kind P) (code_taken due s at w is).code ∙ ap (data_kind P) e ∙ rw (le-ltb 0 P.before l))
 
-  pub data_barred : get_or s at 0 ≡ 7 → P.before ≤ 0 → DataFront P s at rest (Err Form)
-  data_barred e l = wrong (ap (data_kind P) e ∙ rw (le-ltb 0 P.before l))
-
-  pub data_high : OtherD (get_or s at 0) → 5 ≤ get_or s at 0 → DataFront P s at rest (Err Form)
-  data_high o l = wrong (data_other P (get_or s at 0) o (λ e. omega arith) (λ e. omega arith))
-
-  compared : (k : Data → Data → Cond) → cond_kind (get_or s at 0) ≡ CondKind.compare k → CondFront P s at rest (Ok (Other (at + 1)))
+  compared : (k : Data → Data → Cond) → cond_kind (w) ≡ CondKind.compare k → CondFront P s at rest (Ok (Other (at + 1)))
   compared k e = (behind rest (omega arith), by_cond (CondKind.compare k) (both rd rd t) e (forget_giving _ (both rd rd t)) ∙ led (both rd rd) (repeat 2 rd) (repeat rest rc) t (sym (two_left rd t)))
 
-  pub cond_compare : 8 ≤ get_or s at 0 → get_or s at 0 < 10 → CondFront P s at rest (Ok (Other (at + 1)))
-  cond_compare l u = ⊎_elim (λ e. compared Equal (ap cond_kind e)) (λ e. compared Less (ap cond_kind e)) (two_ways (get_or s at 0) 8 l (omega arith))
+  pub cond_compare : 8 ≤ w → w < 10 → CondFront P s at rest (Ok (Other (at + 1)))
+  cond_compare l u = ⊎_elim (λ e. compared Equal (ap cond_kind e)) (λ e. compared Less (ap cond_kind e)) (two_ways (w) 8 l (omega arith))
 
-  joined : (k : Cond → Cond → Cond) → cond_kind (get_or s at 0) ≡ CondKind.join k → CondFront P s at rest (Ok (On (at + 1) (rest + 2)))
+  joined : (k : Cond → Cond → Cond) → cond_kind (w) ≡ CondKind.join k → CondFront P s at rest (Ok (On (at + 1) (rest + 2)))
   joined k e = (behind (rest + 2) (omega arith), by_cond (CondKind.join k) (both rc rc t) e (forget_giving _ (both rc rc t)) ∙ row_join rc rc rest t ∙ row_more rc (suc rest) t ∙ ap (λ n. checked (repeat n rc t)) two)
 
-  pub cond_join : 10 ≤ get_or s at 0 → get_or s at 0 < 12 → CondFront P s at rest (Ok (On (at + 1) (rest + 2)))
-  cond_join l u = ⊎_elim (λ e. joined And (ap cond_kind e)) (λ e. joined Or (ap cond_kind e)) (two_ways (get_or s at 0) 10 l (omega arith))
+  pub cond_join : 10 ≤ w → w < 12 → CondFront P s at rest (Ok (On (at + 1) (rest + 2)))
+  cond_join l u = ⊎_elim (λ e. joined And (ap cond_kind e)) (λ e. joined Or (ap cond_kind e)) (two_ways (w) 10 l (omega arith))
 
-  pub cond_negate : get_or s at 0 ≡ 12 → CondFront P s at rest (Ok (On (at + 1) (rest + 1)))
+  pub cond_negate : w ≡ 12 → CondFront P s at rest (Ok (On (at + 1) (rest + 1)))
   cond_negate e = (behind (rest + 1) (omega arith), by_cond CondKind.negate (rc t) (ap cond_kind e) (forget_giving Not (rc t)) ∙ row_more rc rest t ∙ ap (λ n. checked (repeat n rc t)) one)
 
-  pub cond_always : get_or s at 0 ≡ 13 → CondFront P s at rest (Ok (On (at + 1) rest))
+  always : w ≡ 13 → CondFront P s at rest (Ok (On (at + 1) rest))
   unfolding then
-  cond_always e = (behind rest (omega arith), by_cond CondKind.always (taken True t) (ap cond_kind e) refl)
+  always e = (behind rest (omega arith), by_cond CondKind.always (taken True t) (ap cond_kind e) refl)
 
-  astray : cond_kind (get_or s at 0) ≡ CondKind.wrong → CondFront P s at rest (Err Form)
-  unfolding then checked refusal
-  astray e = sym (by_cond {B = Cond} CondKind.wrong (refused 4) e refl)
+-- ── the last arms ──
 
-  pub cond_low : get_or s at 0 < 8 → CondFront P s at rest (Err Form)
-  cond_low l = astray (cond_other (get_or s at 0) (λ e. omega arith) (λ e. omega arith) (λ e. omega arith) (λ e. omega arith) ((tt, λ e. omega arith), λ e. omega arith))
+-- There is no code of data above 7.
+pub data_high : (P : Scope) (s : List ℕ) (at rest w : ℕ) → Ok w ≡ code_due DueData s at → OtherD w → 5 ≤ w → DataFront P s at rest (Err Form)
+data_high P s at rest w is o l =
+    let u : w ≤ 7 = (code_taken DueData s at w is).sort in
+    absurd (let z : ⊥ = omega (arith, u, l, o.0.0.1, o.0.1, o.1) in z)
 
-  pub cond_high : OtherC (get_or s at 0) → 12 ≤ get_or s at 0 → CondFront P s at rest (Err Form)
-  cond_high o l = astray (cond_other (get_or s at 0) (λ e. omega arith) (λ e. omega arith) (λ e. omega arith) (λ e. omega arith) o)
+module _ (P : Scope) (s : List ℕ) (at rest : ℕ) (few : rest ≤ at + 1) (w : ℕ) (is : Ok w ≡ code_due DueCondition s at) where
+  sort : (8 ≤ w) × (w ≤ 13)
+  sort = (code_taken DueCondition s at w is).sort
+
+  -- no code of a condition is below 8
+  pub cond_low : w < 8 → CondFront P s at rest (Ok (On (at + 1) rest))
+  cond_low l = absurd (let z : ⊥ = omega (arith, sort.0) in z)
+
+  -- true is the condition that is left
+  pub cond_always : OtherC w → 12 ≤ w → CondFront P s at rest (Ok (On (at + 1) rest))
+  cond_always n l = always P s at rest few DueCondition w is (let z : w ≡ 13 = omega (arith, n.1, l, sort.1) in z)
 
 pub ruleset fronts =
-    (data_none, cond_none, data_undefined, data_constant, data_variable, data_pair, data_select, data_now, data_before, data_barred, data_high, cond_compare, cond_join, cond_negate, cond_always, cond_low, cond_high)
+    (data_refused, cond_refused, data_undefined, data_constant, data_variable, data_pair, data_select, data_now, data_before, data_barred, data_high, cond_compare, cond_join, cond_negate, cond_low, cond_always)

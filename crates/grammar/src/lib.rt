@@ -12,9 +12,9 @@ ghost use Rattle.grammar.specs.Scoping.{scope};
 ghost use Rattle.grammar.specs.Fronts.{Operand, DataFront, CondFront};
 
 use code_numbers::{
-    AND, BEFORE, CONSTANT, DIFFERENCE, EQUAL, IF, LESS, NOT, NOW, OR, SUM, TRUE, UNDEFINED,
-    VARIABLE,
+    AND, BEFORE, CONSTANT, DIFFERENCE, EQUAL, IF, LESS, NOT, NOW, OR, SUM, UNDEFINED, VARIABLE,
 };
+use codes::{Due, code_due};
 use refusals::Refusal;
 use scan::number;
 
@@ -56,11 +56,9 @@ fn data_front(s: &[u16], at: usize, rest: usize, c: Scope) -> Result<Front, Refu
     requires { rest ≤ at + 1 }
     ensures { DataFront (scope c) s.now at rest result }
 {
-    if s.len() <= at {
-        return Err(Refusal::Form);
-    }
+    let w = code_due(s, at, Due::Data)?;
     let b = at + 1;
-    match s[at] as usize {
+    match w {
         UNDEFINED => Ok(Front::On(b, rest)),
         CONSTANT => operand(s, b, Refusal::Form, 65535, rest),
         VARIABLE => operand(s, b, Refusal::Reference, c.variables, rest),
@@ -68,6 +66,7 @@ fn data_front(s: &[u16], at: usize, rest: usize, c: Scope) -> Result<Front, Refu
         IF => Ok(Front::Other(b)),
         NOW => operand(s, b, Refusal::Reference, c.now, rest + 1),
         BEFORE if 0 < c.before => operand(s, b, Refusal::Reference, c.before, rest + 1),
+        // before, where it may name no function
         _ => Err(Refusal::Form),
     }
 }
@@ -78,16 +77,14 @@ fn cond_front(s: &[u16], at: usize, rest: usize, c: Scope) -> Result<Front, Refu
     requires { rest ≤ at + 1 }
     ensures { CondFront (scope c) s.now at rest result }
 {
-    if s.len() <= at {
-        return Err(Refusal::Form);
-    }
+    let w = code_due(s, at, Due::Condition)?;
     let b = at + 1;
-    match s[at] as usize {
+    match w {
         EQUAL..=LESS => Ok(Front::Other(b)),
         AND..=OR => Ok(Front::On(b, rest + 2)),
         NOT => Ok(Front::On(b, rest + 1)),
-        TRUE => Ok(Front::On(b, rest)),
-        _ => Err(Refusal::Form),
+        // true
+        _ => Ok(Front::On(b, rest)),
     }
 }
 

@@ -21,8 +21,9 @@ use arguments::{
     processes, row_at, size_of, with,
 };
 use code_numbers::{
-    ACTION, CALL, CHOICE, CHOICE_OVER, GUARD, INTERNAL, PARALLEL, PARALLEL_OVER, SEQUENCE, STAR,
+    ACTION, CHOICE, CHOICE_OVER, GUARD, INTERNAL, PARALLEL, PARALLEL_OVER, SEQUENCE, STAR,
 };
+use codes::{Due, code_due};
 use grammar::{Scope, check_cond};
 use refusals::Refusal;
 use scan::repeats::leading;
@@ -224,11 +225,9 @@ fn check_plain(s: &[u16], context: &Context) -> Result<Weighed, Refusal>
     requires { get_or s.now 0 0 ≡ 24 → ⊥ }
     ensures { result ≡ answer context.now.tables.now (terms context.now.tables.now context.now.variables.now s.now) }
 {
-    if s.len() == 0 {
-        return Err(Refusal::Form);
-    }
+    let w = code_due(s, 0, Due::RuleTerm)?;
     let t = behind(s);
-    match s[0] as usize {
+    match w {
         INTERNAL => Ok(Weighed {
             left: t.len(),
             weight: single(1),
@@ -251,8 +250,8 @@ fn check_plain(s: &[u16], context: &Context) -> Result<Weighed, Refusal>
             }
             Err(Refusal::Form)
         }
-        CALL => call(t, context),
-        _ => Err(Refusal::Form),
+        // a call
+        _ => call(t, context),
     }
 }
 

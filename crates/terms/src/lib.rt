@@ -17,7 +17,8 @@ ghost use Rattle.terms.specs.Lending.{Kept, said};
 
 use arguments::layout::{LABEL_ROWS, LABEL_WORDS};
 use arguments::{MASK_WORDS, check_mask, functions, labels, mask_zero, row_at, size_of};
-use code_numbers::{ACTION, CHOICE, CONSTANT, DONE, GUARD, INTERNAL, PARALLEL, SEQUENCE, STAR};
+use code_numbers::{ACTION, CHOICE, CONSTANT, GUARD, INTERNAL, PARALLEL, SEQUENCE, STAR};
+use codes::{Due, code_due};
 use grammar::{Scope, check_cond};
 use scan::repeats::leading;
 use scan::{behind, last};
@@ -174,11 +175,11 @@ impl Weigher<'_> {
         ensures kept { Kept self.old self.new result }
         ensures read { said self.new result ≡ weighed_running (read_term (declared self.old.tables.now) s.now) }
     {
-        if s.len() == 0 {
+        let Ok(w) = code_due(s, 0, Due::RunningTerm) else {
             return None;
-        }
+        };
         let t = behind(s);
-        match s[0] as usize {
+        match w {
             INTERNAL => self.leaf(t.len(), single(1)),
             ACTION => self.action(t),
             SEQUENCE => self.two_terms(t, Joint::Sequence),
@@ -186,8 +187,8 @@ impl Weigher<'_> {
             STAR => self.starred(t),
             PARALLEL => self.in_parallel(t),
             GUARD => self.guarded(t),
-            DONE => self.leaf(t.len(), empty()),
-            _ => None,
+            // done
+            _ => self.leaf(t.len(), empty()),
         }
     }
 }

@@ -19,14 +19,16 @@ use Rattle.scan.specs.Checking.{last_of}
 use Rattle.arguments.specs.Layout.{label_place}
 use Rattle.arguments.specs.Tables.{row}
 use Rattle.std.specs.Prelude.{Option, Some, None, ⊤, ◌⊎◌}
+use Rattle.codes.specs.Table.{words_after, operands_after}
+use Rattle.codes.specs.Shapes.{more_words}
 use Rattle.unfold.specs.declared.writer.Writer.{Writer}
 use Rattle.unfold.specs.Written.{written_from}
 use Rattle.unfold.specs.Puts.{Puts, Heads, Putting}
 use Rattle.unfold.specs.PutsLaws.{from_next, head_none, head_some, head_last, puts_lost, putting_fail, putting_next, putting_all, putting_start, putting_stuck}
-use Rattle.unfold.specs.Instantiation.{Instantiates, front_width, operands, front_words}
+use Rattle.unfold.specs.Instantiation.{Instantiates, front_width, front_words}
 use Rattle.unfold.specs.Saying.{Performs, Conditions}
 use Rattle.unfold.specs.SayingLaws.{where_in}
-use Rattle.unfold.specs.InstantiationLaws.{last_behind, row_step, row_there, row_done}
+use Rattle.unfold.specs.InstantiationLaws.{last_behind, row_step, row_there, row_known, row_done}
 
 -- ── a code and the words that go with it ──
 
@@ -72,7 +74,7 @@ module _ (σ s : List ℕ) (x y : Writer) (r : Option ⊤) where
 
 -- The front alone says what is put for it: a variable's number is in it.
 front_alone : (σ s : List ℕ) (m : ℕ) → m ≡ front_width (get_or s 0 0) → 1 ≤ m → m ≤ length s → front_words σ (take m s) (length (take m s)) ≡ front_words σ s m
-unfolding front_words front_width
+unfolding front_words words_after
 front_alone σ s m e l k = go (cases_eq (get_or s 0 0) 2)
   where
     code : get_or (take m s) 0 0 ≡ get_or s 0 0
@@ -100,24 +102,31 @@ module _ (t σ : List ℕ) (count n : ℕ) where
     instantiated = h.instantiated;
   })
 
-  module _ (k left : ℕ) (s : List ℕ) (x y : Writer) (c m : ℕ) (p : Putting (Instantiates t σ count n) (Instantiates t σ k left) x y) (some : 0 < k) (is_s : s ≡ last_of left t) (is_c : c ≡ get_or s 0 0) (is_m : m ≡ front_width c) where
-    m_is : m ≡ front_width (get_or s 0 0)
-    m_is = is_m ∙ ap front_width is_c
+  pub row_unknown : (k left : ℕ) (s : List ℕ) (x y : Writer) (r : Option ℕ) → Putting (Instantiates t σ count n) (Instantiates t σ k left) x y → 0 < k → s ≡ last_of left t → (0 < length s → 30 < get_or s 0 0)
+      → r ≡ None → Puts (Instantiates t σ count n) x y r
+  row_unknown k left s x y r p some e h z =
+      subst (Puts (Instantiates t σ count n) x y) (sym z)
+      (putting_stuck _ _ x y p (λ ws rest g. let o = row_known t σ s k left e some ws rest g in let l : 30 < get_or s 0 0 = h o.0 in omega (arith, l, o.1)))
 
-    pub row_short : length s < m → Puts (Instantiates t σ count n) x y None
-    row_short h = putting_stuck _ _ x y p (λ ws rest g. let l : m ≤ length s = row_there t σ s k left m is_s some m_is ws rest g in omega arith)
+  -- w is the number of words after the code c
+  module _ (k left : ℕ) (s : List ℕ) (x y : Writer) (c w : ℕ) (p : Putting (Instantiates t σ count n) (Instantiates t σ k left) x y) (some : 0 < k) (is_s : s ≡ last_of left t) (is_c : c ≡ get_or s 0 0) (is_w : w ≡ more_words 0 c) where
+    m_is : 1 + w ≡ front_width (get_or s 0 0)
+    m_is = ap (λ j. 1 + j) is_w ∙ ap front_width is_c
 
-    module _ (wide : 1 ≤ m) (long : m ≤ length s) (z : Writer) where
-      put_whole : (r : Option ⊤) → Heads (front_words σ (take m s) (length (take m s))) y z r → Heads (front_words σ s m) y z r
-      put_whole r q = subst (λ ws. Heads ws y z r) (front_alone σ s m m_is wide long) q
+    pub row_short : length s < 1 + w → Puts (Instantiates t σ count n) x y None
+    row_short h = putting_stuck _ _ x y p (λ ws rest g. let l : 1 + w ≤ length s = row_there t σ s k left (1 + w) is_s some m_is ws rest g in omega arith)
 
-      pub row_none : (r : Option ℕ) → r ≡ None → Heads (front_words σ (take m s) (length (take m s))) y z None → Puts (Instantiates t σ count n) x z r
-      row_none r e q = puts_lost _ x z r e (putting_fail _ _ x y p _ z _ (row_step t σ s k left m is_s some m_is) (head_none _ (length s - m) y z (put_whole None q)))
+    module _ (long : 1 + w ≤ length s) (z : Writer) where
+      put_whole : (r : Option ⊤) → Heads (front_words σ (take (1 + w) s) (length (take (1 + w) s))) y z r → Heads (front_words σ s (1 + w)) y z r
+      put_whole r q = subst (λ ws. Heads ws y z r) (front_alone σ s (1 + w) m_is (omega arith) long) q
 
-      pub row_next : (u : ⊤) (o : ℕ) → Heads (front_words σ (take m s) (length (take m s))) y z (Some u) → o ≡ operands c → Putting (Instantiates t σ count n) (Instantiates t σ (k - 1 + o) (length s - m)) x z
+      pub row_none : (r : Option ℕ) → r ≡ None → Heads (front_words σ (take (1 + w) s) (length (take (1 + w) s))) y z None → Puts (Instantiates t σ count n) x z r
+      row_none r e q = puts_lost _ x z r e (putting_fail _ _ x y p _ z _ (row_step t σ s k left (1 + w) is_s some m_is) (head_none _ (length s - (1 + w)) y z (put_whole None q)))
+
+      pub row_next : (u : ⊤) (o : ℕ) → Heads (front_words σ (take (1 + w) s) (length (take (1 + w) s))) y z (Some u) → o ≡ operands_after c → Putting (Instantiates t σ count n) (Instantiates t σ (k - 1 + o) (length s - (1 + w))) x z
       row_next u o q f =
-          subst (λ j. Putting (Instantiates t σ count n) (Instantiates t σ (k - 1 + j) (length s - m)) x z) (sym (f ∙ ap operands is_c))
-          (putting_next _ _ x y p _ z (λ j. Instantiates t σ (k - 1 + operands (get_or s 0 0)) (length s - m)) (length s - m) (row_step t σ s k left m is_s some m_is) (head_some _ (length s - m) y z u (put_whole (Some u) q)))
+          subst (λ j. Putting (Instantiates t σ count n) (Instantiates t σ (k - 1 + j) (length s - (1 + w))) x z) (sym (f ∙ ap operands_after is_c))
+          (putting_next _ _ x y p _ z (λ j. Instantiates t σ (k - 1 + operands_after (get_or s 0 0)) (length s - (1 + w))) (length s - (1 + w)) (row_step t σ s k left (1 + w) is_s some m_is) (head_some _ (length s - (1 + w)) y z u (put_whole (Some u) q)))
 
   pub row_end : (k left : ℕ) (x y : Writer) → Putting (Instantiates t σ count n) (Instantiates t σ k left) x y → k ≤ 0 → left ≤ length t → Puts (Instantiates t σ count n) x y (Some left)
   row_end k left x y p z l =
@@ -141,4 +150,4 @@ module _ (t T σ : List ℕ) (n : ℕ) (x y : Writer) where
 
 pub ruleset actions = (action_put, condition_put)
 
-pub ruleset rows = (row_start, row_short, row_none, row_next, row_end)
+pub ruleset rows = (row_start, row_unknown, row_short, row_none, row_next, row_end)

@@ -1,7 +1,7 @@
 -- Expressions in a row with their variables become constants (document 01, "Unfolding, size and breadth"): the arguments of an action, and a guard's
 -- condition. Each variable's two words become a constant's two words, so the words are gone through from the front: the first word or two of an
 -- expression, and as many expressions after them as its code has operands.
-use Rattle.std.specs.Prelude.{◌≡◌, List, [], ◌∷◌, ◌++◌, map, ℕ, eqb, length, take, get_or}
+use Rattle.std.specs.Prelude.{◌≡◌, List, [], ◌∷◌, ◌++◌, map, ℕ, ◌+◌, eqb, length, take, get_or}
 use Rattle.eb3.specs.Generic.Lists.{concat_map}
 use Rattle.eb3.specs.Generic.AllLists.{All}
 use Rattle.eb3.specs.Expressions.{Data, Undefined, Constant, Variable, Add, Subtract, If, Now, Before, Args, Nil, Cons, Cond, Equal, Less, And, Or, Not, True}
@@ -9,6 +9,7 @@ use Rattle.eb3.specs.Reading.{pick}
 use Rattle.eb3.specs.Spelling.{data_words, cond_words}
 use Rattle.eb3.specs.Unfolding.{instantiate_data, instantiate_cond}
 use Rattle.scan.specs.Checking.{last_of}
+use Rattle.codes.specs.Shapes.{more_words}
 
 pub data Expression : Type 0 where
   value : Data → Expression
@@ -64,12 +65,9 @@ pub record Instantiates (t σ : List ℕ) (k n : ℕ) (ws rest : List ℕ) : Typ
 
 -- ── the front of an expression, by its code ──
 
--- How many words it has, and how many expressions follow them.
-unfoldable pub front_width : ℕ → ℕ
-front_width c = pick (eqb c 1) 2 (pick (eqb c 2) 2 (pick (eqb c 6) 2 (pick (eqb c 7) 2 1)))
-
-unfoldable pub operands : ℕ → ℕ
-operands c = pick (eqb c 0) 0 (pick (eqb c 1) 0 (pick (eqb c 2) 0 (pick (eqb c 13) 0 (pick (eqb c 5) 3 (pick (eqb c 6) 1 (pick (eqb c 7) 1 (pick (eqb c 12) 1 2)))))))
+-- How many words it has; as many expressions follow them as codes' table says (`operands_after`).
+abbrev pub front_width : ℕ → ℕ
+front_width c = 1 + more_words 0 c
 
 -- What is put for it: a variable's value as a constant, and else its words.
 unfoldable pub front_words : List ℕ → List ℕ → ℕ → List ℕ

@@ -2,41 +2,16 @@
 // breadth").
 ghost use Rattle.std.specs.Prelude.{◌≡◌, ◌≤◌, length, IfSome};
 ghost use Rattle.unfold.specs.Puts.{Puts, Heads};
-ghost use Rattle.unfold.specs.Instantiation.{Instantiates, front_width, operands, front_words};
+ghost use Rattle.unfold.specs.Instantiation.{Instantiates, front_words};
 ghost use Rattle.unfold.specs.Saying.{Performs, Conditions};
 
 use super::scope::Scope;
 use super::writer::Writer;
 use arguments::layout::{LABEL_ROWS, LABEL_WORDS};
 use arguments::row_at;
-use code_numbers::{ACTION, BEFORE, CONSTANT, GUARD, IF, NOT, NOW, TRUE, UNDEFINED, VARIABLE};
+use code_numbers::{ACTION, CONSTANT, GUARD, VARIABLE};
+use codes::{EDITION_1, code_at, operands_after, words_after};
 use scan::{behind, first, last};
-
-// How many words the front of an expression has.
-// Stays, and so does operands_of: codes::words_after and codes::operands_after ask for a code up to 30. Any word may come here, so that a test
-// and an answer for a word that is no code would be needed before each.
-#[tactic(auto, unfolding(crate::specs::Instantiation::front_width))]
-fn width_of(c: usize) -> usize
-    ensures { (result ≡ front_width c) × (1 ≤ result) × (result ≤ 2) }
-{
-    match c {
-        CONSTANT | VARIABLE | NOW | BEFORE => 2,
-        _ => 1,
-    }
-}
-
-// How many expressions follow its front.
-#[tactic(auto, unfolding(crate::specs::Instantiation::operands))]
-fn operands_of(c: usize) -> usize
-    ensures { (result ≡ operands c) × (result ≤ 3) }
-{
-    match c {
-        UNDEFINED..=VARIABLE | TRUE => 0,
-        NOW | BEFORE | NOT => 1,
-        IF => 3,
-        _ => 2,
-    }
-}
 
 // The front of an expression; a variable's becomes a constant's.
 fn put_front(front: &[u16], vars: &[u16], out: &mut Writer) -> Option<()>
@@ -63,13 +38,13 @@ pub fn put_row(scope: &Scope, n: usize, count: usize, out: &mut Writer) -> Optio
     let mut k = count;
     while 0 < k {
         let s = last(scope.words, left);
-        let c = first(s);
-        let m = width_of(c);
+        let c = code_at(s, 0)?;
+        let m = 1 + words_after(c, EDITION_1);
         if s.len() < m {
             return None;
         }
         put_front(&s[..m], scope.context.variables, out)?;
-        k = k - 1 + operands_of(c);
+        k = k - 1 + operands_after(c);
         left = s.len() - m;
     }
     Some(left)

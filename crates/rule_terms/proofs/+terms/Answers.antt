@@ -3,7 +3,7 @@ use native.Mathlib.Omega.{arith}
 use lib.ListN.{length, length-drop}
 use Rattle.scan.specs.Laws.{last_len, by_number_pos}
 use Rattle.scan.specs.ReadingLaws.{handed_on}
-use Rattle.rule_terms.proofs.Codes.{codes, parts, binders}
+use Rattle.rule_terms.proofs.Codes.{term_refused, term_internal, parts, binders}
 use Rattle.rule_terms.proofs.Stars.{around}
 use Rattle.rule_terms.proofs.+terms.Goals as goal
 
@@ -59,7 +59,10 @@ pub check_term-check_plain-requires : goal.check_term-check_plain-requires
 check_term-check_plain-requires t c = (omega (arith, ap length c.after.ensures, length-drop c.leading-k.result c.args.s.now), search around)
 
 pub check_plain-returns-in-20 : goal.check_plain-returns-in-20
-check_plain-returns-in-20 t c = search codes
+check_plain-returns-in-20 t c = term_internal _ _ _ _ _ c.in_ok-w.ensures.coded c.behind-t.ensures _ c.in-20.is c.single.ensures
 
 pub quantified-copies-requires : goal.quantified-copies-requires
 quantified-copies-requires t c = (omega (arith, last_len), tt)
+
+pub check_plain-returns-in_err-w : goal.check_plain-returns-in_err-w
+check_plain-returns-in_err-w t c = term_refused _ _ _ _ _ c.from_residual.ensures c.in_err-w.ensures.coded

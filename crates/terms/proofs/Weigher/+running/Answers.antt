@@ -1,4 +1,5 @@
 use native.Mathlib.Omega.{arith}
+use borrow.Author.Rules.{rules}
 use mathlib.Core.Path.{refl, ◌∙◌}
 use Rattle.scan.specs.Laws.{last_len}
 use Rattle.terms.proofs.Weighers.{left_said, right_said, measures_said}
@@ -11,10 +12,10 @@ use Rattle.terms.proofs.Weighers.{at_tables}
 use Rattle.terms.proofs.Weigher.+running.Goals as goal
 
 pub check-returns-in-20-clause-read : goal.check-returns-in-20-clause-read
-check-returns-in-20-clause-read t c = term_internal _ _ _ c.if-s-eq0.false c.behind-t.ensures _ _ c.in-20.is c.single.ensures c.leaf.ensures.read
+check-returns-in-20-clause-read t c = term_internal _ _ _ _ c.in-Ok.ensures.coded c.behind-t.ensures _ _ c.in-20.is c.single.ensures c.leaf.ensures.read
 
-pub check-returns-in-30-clause-read : goal.check-returns-in-30-clause-read
-check-returns-in-30-clause-read t c = term_done _ _ _ c.if-s-eq0.false c.behind-t.ensures _ _ (omega (arith, c.in-30.is)) c.empty.ensures c.leaf-in-30.ensures.read
+pub check-returns-in_default-w-clause-read : goal.check-returns-in_default-w-clause-read
+check-returns-in_default-w-clause-read t c = term_done _ _ _ _ c.in-Ok.ensures.coded c.behind-t.ensures _ _ (search rules) c.empty.ensures c.leaf-in_default-w.ensures.read
 
 pub guarded-check-requires : goal.guarded-check-requires
 guarded-check-requires t c = (omega (arith, last_len), omega (arith, last_len))

@@ -1,21 +1,24 @@
 use native.Mathlib.Omega.{arith}
-use Rattle.unfold.proofs.RowCases.{rows, last_size, row_next}
+use Rattle.unfold.proofs.RowCases.{rows, last_size, row_unknown, row_short, row_none, row_next}
 use Rattle.unfold.proofs.rows.put_row.Goals as goal
 
 pub loop-k-init : goal.loop-k-init
 loop-k-init c = (omega (arith, last_size), omega (arith, last_size), omega (arith, last_size), search rows)
 
+pub returns-in_err-c-clause-puts : goal.returns-in_err-c-clause-puts
+returns-in_err-c-clause-puts c = row_unknown _ _ _ _ _ _ _ _ _ _ c.loop-k.invariant.3 c.loop-k-test.true c.last-s.ensures c.in_err-c.ensures c.from_residual.ensures
+
 pub returns-then-s-m-clause-puts : goal.returns-then-s-m-clause-puts
-returns-then-s-m-clause-puts c = search rows
+returns-then-s-m-clause-puts c = row_short _ _ _ _ _ _ _ _ _ _ _ c.loop-k.invariant.3 c.loop-k-test.true c.last-s.ensures c.in_ok-c.ensures.0 c.words_after-m.ensures.0 c.if-s-m.true
 
 pub returns-in_err-put_front-clause-puts : goal.returns-in_err-put_front-clause-puts
-returns-in_err-put_front-clause-puts c = search (rows, c.in_err-put_front.ensures)
+returns-in_err-put_front-clause-puts c = row_none _ _ _ _ _ _ _ _ _ _ _ c.loop-k.invariant.3 c.loop-k-test.true c.last-s.ensures c.in_ok-c.ensures.0 c.words_after-m.ensures.0 c.if-s-m.false _ _ c.from_residual-in_err-put_front.ensures c.in_err-put_front.ensures
 
 pub loop-k-smaller : goal.loop-k-smaller
 loop-k-smaller c = omega (arith, last_size)
 
 pub loop-k-preserved : goal.loop-k-preserved
-loop-k-preserved c = (omega (arith, last_size), omega (arith, last_size), omega (arith, last_size), row_next _ _ _ _ _ _ _ _ _ _ _ c.loop-k.invariant.3 c.loop-k-test.true c.last-s.ensures c.first-c.ensures.0 c.width_of-m.ensures.0 c.width_of-m.ensures.1 c.if-s-m.false _ _ _ c.in_ok-put_front.ensures c.operands_of.ensures.0)
+loop-k-preserved c = (omega (arith, last_size), omega (arith, last_size), omega (arith, last_size), row_next _ _ _ _ _ _ _ _ _ _ _ c.loop-k.invariant.3 c.loop-k-test.true c.last-s.ensures c.in_ok-c.ensures.0 c.words_after-m.ensures.0 c.if-s-m.false _ _ _ c.in_ok-put_front.ensures c.operands_after.ensures.0)
 
 pub returns-clause-puts : goal.returns-clause-puts
 returns-clause-puts c = search rows
