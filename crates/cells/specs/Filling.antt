@@ -10,7 +10,7 @@ use Rattle.eb3.specs.Attributes.{Attributes, number_of_functions, function, expr
 use Rattle.eb3.specs.Cells.{total_cells, cells_up_to}
 use Rattle.eb3.specs.Spelling.{data_words}
 use Rattle.declarations.specs.Directory.{Stands}
-use Rattle.expressions.specs.Stores.{stored, now_place, before_place, variable_in, reading_in}
+use Rattle.expressions.specs.Stores.{stored, now_place, before_place, variable_in, reading_in, argument_place, row_place}
 use Rattle.expressions.specs.Answering.{Plain}
 use Rattle.cells.specs.Layout.{Laid, Holds}
 
@@ -35,7 +35,7 @@ pub record Filling (A : Attributes) (o : Option VisibleAction) (b : Reading) (t 
   pub functions : n ≡ number_of_functions A
   pub largest : A.edition.top ≡ 65534
   pub laid : Laid A M
-  pub small : (f : ℕ) → f < n → stored M (4 + 2 * f) ≤ 64
+  pub small : (f : ℕ) → f < n → stored M (row_place f) ≤ 64
   pub room : now_place + total_cells A ≤ length M
   pub apart : now_place + total_cells A ≤ before_place M
   pub arguments_few : length (arguments_of o) ≤ 2
@@ -44,5 +44,5 @@ pub record Filling (A : Attributes) (o : Option VisibleAction) (b : Reading) (t 
 
 pub record Filled (A : Attributes) (o : Option VisibleAction) (b : Reading) (M M' : List ℕ) : Type 0 where
   pub cells : Holds M' now_place (cells_up_to A o b (number_of_functions A))
-  pub kept_below : (i : ℕ) → 1 ≤ i → i < now_place → stored M' i ≡ stored M i
+  pub kept_below : (i : ℕ) → argument_place 0 ≤ i → i < now_place → stored M' i ≡ stored M i
   pub kept_above : (i : ℕ) → now_place + total_cells A ≤ i → stored M' i ≡ stored M i

@@ -17,7 +17,7 @@ use Rattle.eb3.specs.Spelling.{data_words}
 use Rattle.scan.specs.Checking.{last_of}
 use Rattle.scan.specs.Laws.{last_behind}
 use Rattle.expressions.specs.declared.valued.Valued.{Valued}
-use Rattle.expressions.specs.Stores.{stored, row_place, now_place, before_place, cell_in, reading_in, variable_in, environment_in}
+use Rattle.expressions.specs.Stores.{stored, row_place, now_place, before_place, cell_in, reading_in, variable_in, environment_in, parameter_place, argument_place, old_cells_place, begin_place}
 use Rattle.expressions.specs.Answering.{DataAt, Evaluated}
 use Rattle.expressions.specs.Laws.{data_parted}
 use Rattle.expressions.specs.ValueLaws.{word_of_value}
@@ -43,15 +43,15 @@ not_named x (number k) n = ne_eqb x k n
 -- ── an element in the store's first word ──
 
 -- Of m, and x stored in its first word; the old cells begin after it.
-module _ (m : List ℕ) (x : ℕ) (behind : 1 ≤ before_place m) where
+module _ (m : List ℕ) (x : ℕ) (behind : argument_place 0 ≤ before_place m) where
   abbrev mx : List ℕ
-  mx = set m 0 x
+  mx = set m parameter_place x
 
-  else_where : (i : ℕ) → 1 ≤ i → stored mx i ≡ stored m i
-  else_where i h = stored_else m 0 i x (λ e. let z : ⊥ = omega arith in z)
+  else_where : (i : ℕ) → argument_place 0 ≤ i → stored mx i ≡ stored m i
+  else_where i h = stored_else m parameter_place i x (λ e. let z : ⊥ = omega arith in z)
 
   reads_same : (at g : ℕ) → 1 ≤ at → (vs : List Value) → reading_in mx at g vs ≡ reading_in m at g vs
-  reads_same at g h vs = reading_kept m mx at g (else_where (row_place g) (omega arith)) (else_where (row_place g + 1) (omega arith)) (λ i l. else_where i (omega arith)) vs
+  reads_same at g h vs = reading_kept m mx at g (else_where (row_place g) (omega arith)) (else_where (begin_place g) (omega arith)) (λ i l. else_where i (omega arith)) vs
 
   argument_same : (i : ℕ) → variable_in mx (suc i) ≡ variable_in m (suc i)
   unfolding variable_in
@@ -63,20 +63,20 @@ module _ (m : List ℕ) (x : ℕ) (behind : 1 ≤ before_place m) where
   naming_same (argument i) = argument_same i
   naming_same (value_now g i) = reads_same now_place g (omega arith) _ ∙ ap (λ v. reading_in m now_place g (v ∷ [])) (argument_same i)
   naming_same (value_before g i) =
-      ap (λ at. reading_in mx at g (variable_in mx (suc i) ∷ [])) (else_where 3 (omega arith))
+      ap (λ at. reading_in mx at g (variable_in mx (suc i) ∷ [])) (else_where old_cells_place (omega arith))
       ∙ reads_same (before_place m) g behind _ ∙ ap (λ v. reading_in m (before_place m) g (v ∷ [])) (argument_same i)
 
-  module _ (there : 0 < length m) (small : x ≤ 65534) where
+  module _ (there : parameter_place < length m) (small : x ≤ 65534) where
     element_read : variable_in mx 0 ≡ number x
     unfolding variable_in
-    element_read = ap (decode 65534) (stored_there m 0 x there) ∙ decode_small x small
+    element_read = ap (decode 65534) (stored_there m parameter_place x there) ∙ decode_small x small
 
     -- before f(x0) reads the old cell
-    kept_read : (f : ℕ) → x < stored m (row_place f) → evaluate_data (kept_value f) (environment_in mx) ≡ decode 65534 (stored m (before_place m + (stored m (row_place f + 1) + x)))
+    kept_read : (f : ℕ) → x < stored m (row_place f) → evaluate_data (kept_value f) (environment_in mx) ≡ decode 65534 (stored m (before_place m + (stored m (begin_place f) + x)))
     unfolding evaluate_data reading_in cell_in
     kept_read f h =
         ap (λ v. reading_in mx (before_place mx) f (v ∷ [])) element_read
-        ∙ ap (λ at. reading_in mx at f (number x ∷ [])) (else_where 3 (omega arith))
+        ∙ ap (λ at. reading_in mx at f (number x ∷ [])) (else_where old_cells_place (omega arith))
         ∙ reads_same (before_place m) f behind (number x ∷ [])
         ∙ apply_numbers (stored m (row_place f) ∷ []) (λ xs. cell_in m (before_place m) f (get_or xs 0 0)) (x ∷ []) (h, tt)
 
@@ -85,7 +85,7 @@ module _ (m : List ℕ) (x : ℕ) (behind : 1 ≤ before_place m) where
 -- Of m, the store when the turn begins.
 module _ {t : List ℕ} {f left : ℕ} (T : Turn t f left) (m : List ℕ) (entered : Reached T m 0) (s : List ℕ) (at k : ℕ) (placed : Placed t f left s m at k) where
   abbrev place : ℕ
-  place = stored m (row_place f + 1)
+  place = stored m (begin_place f)
 
   abbrev spelt : Data
   spelt = expression (function T.A f) T.o
@@ -95,10 +95,10 @@ module _ {t : List ℕ} {f left : ℕ} (T : Turn t f left) (m : List ℕ) (enter
 
   -- the word of element x's new cell
   abbrev new_word : ℕ → ℕ
-  new_word x = encode 65535 (evaluate_data spelt (environment_in (set m 0 x)))
+  new_word x = encode 65535 (evaluate_data spelt (environment_in (set m parameter_place x)))
 
-  begins_at : at ≡ 36 + offset T.A f
-  begins_at = placed.begin ∙ ap (λ i. 36 + i) (begin_here T m entered k place placed.size refl)
+  begins_at : at ≡ now_place + offset T.A f
+  begins_at = placed.begin ∙ ap (λ i. now_place + i) (begin_here T m entered k place placed.size refl)
 
   element : (x : ℕ) → x < k → x < stored T.M (row_place f)
   element x h = omega (arith, size_here T m entered k place placed.size refl)
@@ -107,7 +107,7 @@ module _ {t : List ℕ} {f left : ℕ} (T : Turn t f left) (m : List ℕ) (enter
   small_element x h = let e = element x h in let l = T.filling.small f T.known in omega arith
 
   all_new : (M' : List ℕ) → length M' ≡ length m → ((x : ℕ) → x < k → stored M' (at + x) ≡ new_word x)
-      → ((i : ℕ) → 1 ≤ i → i < at → stored M' i ≡ stored m i) → ((i : ℕ) → at + k ≤ i → stored M' i ≡ stored m i)
+      → ((i : ℕ) → argument_place 0 ≤ i → i < at → stored M' i ≡ stored m i) → ((i : ℕ) → at + k ≤ i → stored M' i ≡ stored m i)
       → Partly T.A T.o T.b T.M M' (offset T.A (suc f))
   all_new M' same cells below above = record {
     same_length = same ∙ entered.same_length;
@@ -119,11 +119,11 @@ module _ {t : List ℕ} {f left : ℕ} (T : Turn t f left) (m : List ℕ) (enter
       last : (c : ℕ) → c < offset T.A (suc f) → (c < offset T.A f → ⊥) → c - offset T.A f < k
       last c l n = omega (arith, next_offset T.A f, count_here T m entered k place placed.size refl)
 
-      words : (c : ℕ) → c < offset T.A (suc f) → Dec (c < offset T.A f) → stored M' (36 + c) ≡ encode 65535 (get_or new_cells c undefined)
-      words c l (yes h) = below (36 + c) (omega arith) (omega (arith, begins_at)) ∙ entered.begun.words c (omega arith)
+      words : (c : ℕ) → c < offset T.A (suc f) → Dec (c < offset T.A f) → stored M' (now_place + c) ≡ encode 65535 (get_or new_cells c undefined)
+      words c l (yes h) = below (now_place + c) (omega arith) (omega (arith, begins_at)) ∙ entered.begun.words c (omega arith)
       words c l (no n) =
           let h : c - offset T.A f < k = last c l n in
-          let i : 36 + c ≡ at + (c - offset T.A f) = omega (arith, begins_at) in
+          let i : now_place + c ≡ at + (c - offset T.A f) = omega (arith, begins_at) in
           let j : offset T.A f + (c - offset T.A f) ≡ c = omega arith in
           ap (stored M') i ∙ cells (c - offset T.A f) h
           ∙ ap (encode 65535) (turn_value T m (c - offset T.A f) 0 entered (element (c - offset T.A f) h) ∙ ap (λ o. get_or new_cells o undefined) j)
@@ -144,14 +144,14 @@ module _ {t : List ℕ} {f left : ℕ} (T : Turn t f left) (m : List ℕ) (enter
 
   -- ── old cells ──
 
-  old_behind : 36 + offset T.A f + k ≤ before_place m
-  old_behind = omega (arith, T.filling.apart, cells_here T m entered k place placed.size refl, entered.kept_below 3 (omega arith) (lit< tt))
+  old_behind : now_place + offset T.A f + k ≤ before_place m
+  old_behind = omega (arith, T.filling.apart, cells_here T m entered k place placed.size refl, entered.kept_below old_cells_place (omega arith) (lit< tt))
 
   module _ (from : ℕ) (is_from : from ≡ before_place m + place) (words : (i : ℕ) → stored m i < 65536) where
     later : at ≤ from
     later = omega (arith, is_from, old_behind, placed.begin)
 
-    kept_word : (x : ℕ) → x < k → stored m (from + x) ≡ encode 65535 (evaluate_data (kept_value f) (environment_in (set m 0 x)))
+    kept_word : (x : ℕ) → x < k → stored m (from + x) ≡ encode 65535 (evaluate_data (kept_value f) (environment_in (set m parameter_place x)))
     kept_word x h =
         let i : from + x ≡ before_place m + (place + x) = omega (arith, is_from) in
         let v = kept_read m x (let o = old_behind in omega arith) (let r = T.filling.room in omega (arith, entered.same_length)) (let l = small_element x h in omega arith) f (omega (arith, placed.size)) in
@@ -161,7 +161,7 @@ module _ {t : List ℕ} {f left : ℕ} (T : Turn t f left) (m : List ℕ) (enter
     kept_cells tells M' copied =
         let e : spelt ≡ kept_value f = (tells ready.scope spelt ready.stands.0 stands_here).0 refl in
         all_new M' copied.same_length
-        (λ x h. copied.copies later x h ∙ kept_word x h ∙ ap (λ d. encode 65535 (evaluate_data d (environment_in (set m 0 x)))) (sym e))
+        (λ x h. copied.copies later x h ∙ kept_word x h ∙ ap (λ d. encode 65535 (evaluate_data d (environment_in (set m parameter_place x)))) (sym e))
         (λ i h l. copied.kept_below i l)
         (λ i h. copied.kept_above i h)
 
@@ -169,7 +169,7 @@ module _ {t : List ℕ} {f left : ℕ} (T : Turn t f left) (m : List ℕ) (enter
 
     -- d is what the element's name answers, a what its value does, u and v the words after them.
     module _ (asks : Tells true s AsksOne) (d : Valued) (named : Evaluated (drop 4 s) m d) (u : List ℕ) (is_u : u ≡ last_of d.left s)
-        (a : Valued) (valued : Evaluated u (set m 0 d.value) a) (v : List ℕ) (is_v : v ≡ last_of a.left u) (keeps : Tells true v (λ b. b ≡ kept_value f)) where
+        (a : Valued) (valued : Evaluated u (set m parameter_place d.value) a) (v : List ℕ) (is_v : v ≡ last_of a.left u) (keeps : Tells true v (λ b. b ≡ kept_value f)) where
       asks_here : AsksOne spelt
       asks_here = (asks ready.scope spelt ready.stands.0 stands_here).0 refl
 
@@ -205,60 +205,60 @@ module _ {t : List ℕ} {f left : ℕ} (T : Turn t f left) (m : List ℕ) (enter
             ∙ ap (last_of (length (data_words ready.scope.edition.width yes_value ++ behind_yes))) spelt_words ∙ last_behind (asking 0 (data_words ready.scope.edition.width name)) (data_words ready.scope.edition.width yes_value ++ behind_yes);
       }
 
-      yes_word : a.value ≡ encode 65535 (evaluate_data yes_value (environment_in (set m 0 d.value)))
-      yes_word = (data_parted u (set m 0 d.value) a ready.scope behind_yes valued yes_value yes_at).word
+      yes_word : a.value ≡ encode 65535 (evaluate_data yes_value (environment_in (set m parameter_place d.value)))
+      yes_word = (data_parted u (set m parameter_place d.value) a ready.scope behind_yes valued yes_value yes_at).word
 
       no_at : DataAt v ready.scope no_value ready.stands.0
       no_at = record {
         plain = ready.plain;
         in_scope = scoped.2;
-        spelled = (data_parted u (set m 0 d.value) a ready.scope behind_yes valued yes_value yes_at).behind v is_v;
+        spelled = (data_parted u (set m parameter_place d.value) a ready.scope behind_yes valued yes_value yes_at).behind v is_v;
       }
 
       spelt_is : spelt ≡ If (Equal (Variable 0) name) yes_value (kept_value f)
       spelt_is = asks_here.asked ∙ ap (If (Equal (Variable 0) name) yes_value) ((keeps ready.scope no_value ready.stands.0 no_at).0 refl)
 
-      chosen : (x : ℕ) → x < k → evaluate_data spelt (environment_in (set m 0 x))
-          ≡ cond (equal (number x) (evaluate_data name (environment_in m))) (evaluate_data yes_value (environment_in (set m 0 x))) (evaluate_data (kept_value f) (environment_in (set m 0 x)))
+      chosen : (x : ℕ) → x < k → evaluate_data spelt (environment_in (set m parameter_place x))
+          ≡ cond (equal (number x) (evaluate_data name (environment_in m))) (evaluate_data yes_value (environment_in (set m parameter_place x))) (evaluate_data (kept_value f) (environment_in (set m parameter_place x)))
       unfolding evaluate_data
       chosen x h =
-          let o : 1 ≤ before_place m = omega (arith, old_behind) in
-          let r : 0 < length m = omega (arith, T.filling.room, entered.same_length) in
+          let o : argument_place 0 ≤ before_place m = omega (arith, old_behind) in
+          let r : parameter_place < length m = omega (arith, T.filling.room, entered.same_length) in
           let l : x ≤ 65534 = omega (arith, small_element x h) in
-          ap (λ y. evaluate_data y (environment_in (set m 0 x))) spelt_is
-          ∙ (λ j. cond (equal (element_read m x o r l j) (naming_same m x o asks_here.named j)) (evaluate_data yes_value (environment_in (set m 0 x))) (evaluate_data (kept_value f) (environment_in (set m 0 x))))
+          ap (λ y. evaluate_data y (environment_in (set m parameter_place x))) spelt_is
+          ∙ (λ j. cond (equal (element_read m x o r l j) (naming_same m x o asks_here.named j)) (evaluate_data yes_value (environment_in (set m parameter_place x))) (evaluate_data (kept_value f) (environment_in (set m parameter_place x))))
 
       one_word : (x : ℕ) → x < k → x ≡ d.value → a.value ≡ new_word x
       one_word x h e =
           let l : x < 65535 = omega (arith, small_element x h) in
-          yes_word ∙ ap (λ y. encode 65535 (evaluate_data yes_value (environment_in (set m 0 y)))) (sym e)
-          ∙ ap (λ q. encode 65535 (cond q (evaluate_data yes_value (environment_in (set m 0 x))) (evaluate_data (kept_value f) (environment_in (set m 0 x))))) (sym (is_named x _ l (e ∙ name_word)))
+          yes_word ∙ ap (λ y. encode 65535 (evaluate_data yes_value (environment_in (set m parameter_place y)))) (sym e)
+          ∙ ap (λ q. encode 65535 (cond q (evaluate_data yes_value (environment_in (set m parameter_place x))) (evaluate_data (kept_value f) (environment_in (set m parameter_place x))))) (sym (is_named x _ l (e ∙ name_word)))
           ∙ ap (encode 65535) (sym (chosen x h))
 
       other_word : (x : ℕ) → x < k → (x ≡ d.value → ⊥) → stored m (from + x) ≡ new_word x
       other_word x h n =
           kept_word x h
-          ∙ ap (λ q. encode 65535 (cond q (evaluate_data yes_value (environment_in (set m 0 x))) (evaluate_data (kept_value f) (environment_in (set m 0 x))))) (sym (not_named x _ (λ e. n (e ∙ sym name_word))))
+          ∙ ap (λ q. encode 65535 (cond q (evaluate_data yes_value (environment_in (set m parameter_place x))) (evaluate_data (kept_value f) (environment_in (set m parameter_place x))))) (sym (not_named x _ (λ e. n (e ∙ sym name_word))))
           ∙ ap (encode 65535) (sym (chosen x h))
 
-      module _ (M' : List ℕ) (copied : Copied (set m 0 d.value) M' from at k) where
+      module _ (M' : List ℕ) (copied : Copied (set m parameter_place d.value) M' from at k) where
         copied_word : (x : ℕ) → x < k → stored M' (at + x) ≡ stored m (from + x)
-        copied_word x h = copied.copies later x h ∙ stored_else m 0 (from + x) d.value (λ e. let z : ⊥ = omega (arith, later, placed.begin) in z)
+        copied_word x h = copied.copies later x h ∙ stored_else m parameter_place (from + x) d.value (λ e. let z : ⊥ = omega (arith, later, placed.begin) in z)
 
         copied_new : (x : ℕ) → x < k → (x ≡ d.value → ⊥) → stored M' (at + x) ≡ new_word x
         copied_new x h n = copied_word x h ∙ other_word x h n
 
-        below : (i : ℕ) → 1 ≤ i → i < at → stored M' i ≡ stored m i
-        below i h l = copied.kept_below i l ∙ stored_else m 0 i d.value (λ e. let z : ⊥ = omega arith in z)
+        below : (i : ℕ) → argument_place 0 ≤ i → i < at → stored M' i ≡ stored m i
+        below i h l = copied.kept_below i l ∙ stored_else m parameter_place i d.value (λ e. let z : ⊥ = omega arith in z)
 
         above : (i : ℕ) → at + k ≤ i → stored M' i ≡ stored m i
-        above i h = copied.kept_above i h ∙ stored_else m 0 i d.value (λ e. let z : ⊥ = omega (arith, placed.begin) in z)
+        above i h = copied.kept_above i h ∙ stored_else m parameter_place i d.value (λ e. let z : ⊥ = omega (arith, placed.begin) in z)
 
         pub none_named : k ≤ d.value → Partly T.A T.o T.b T.M M' (offset T.A (suc f))
-        none_named h = all_new M' (copied.same_length ∙ length-set m 0 d.value) (λ x l. copied_new x l (λ e. let z : ⊥ = omega arith in z)) below above
+        none_named h = all_new M' (copied.same_length ∙ length-set m parameter_place d.value) (λ x l. copied_new x l (λ e. let z : ⊥ = omega arith in z)) below above
 
         pub one_named : d.value < k → at + k ≤ length m → Partly T.A T.o T.b T.M (set M' (at + d.value) a.value) (offset T.A (suc f))
-        one_named h room = all_new (set M' (at + d.value) a.value) (length-set M' (at + d.value) a.value ∙ copied.same_length ∙ length-set m 0 d.value)
+        one_named h room = all_new (set M' (at + d.value) a.value) (length-set M' (at + d.value) a.value ∙ copied.same_length ∙ length-set m parameter_place d.value)
             (λ x l. cell x l (ℕ_discrete x d.value))
             (λ i l q. stored_else M' (at + d.value) i a.value (λ e. let z : ⊥ = omega arith in z) ∙ below i l q)
             (λ i l. stored_else M' (at + d.value) i a.value (λ e. let z : ⊥ = omega arith in z) ∙ above i l)
@@ -266,5 +266,5 @@ module _ {t : List ℕ} {f left : ℕ} (T : Turn t f left) (m : List ℕ) (enter
             cell : (x : ℕ) → x < k → Dec (x ≡ d.value) → stored (set M' (at + d.value) a.value) (at + x) ≡ new_word x
             cell x l (yes e) =
                 ap (λ y. stored (set M' (at + d.value) a.value) (at + y)) e
-                ∙ stored_there M' (at + d.value) a.value (omega (arith, copied.same_length, length-set m 0 d.value)) ∙ one_word x l e
+                ∙ stored_there M' (at + d.value) a.value (omega (arith, copied.same_length, length-set m parameter_place d.value)) ∙ one_word x l e
             cell x l (no n) = stored_else M' (at + d.value) (at + x) a.value (λ e. n (omega arith)) ∙ copied_new x l n

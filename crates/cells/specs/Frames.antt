@@ -5,7 +5,7 @@ use Rattle.std.specs.Prelude.{◌≡◌, Bool, true, List, ◌↔◌, ℕ, suc, 
 use Rattle.eb3.specs.Expressions.{Data, Variable, If, Now, Before, Nil, Cons, Equal}
 use Rattle.eb3.specs.Scopes.{Scope}
 use Rattle.scan.specs.Checking.{last_of}
-use Rattle.expressions.specs.Stores.{stored, row_place, now_place}
+use Rattle.expressions.specs.Stores.{stored, row_place, now_place, begin_place}
 use Rattle.expressions.specs.Answering.{DataAt}
 use Rattle.cells.specs.Turns.{FunctionFilled}
 
@@ -55,7 +55,7 @@ pub record CopiedApart (m m' : List ℕ) (from at k : ℕ) : Type 0 where
 pub record Placed (t : List ℕ) (f left : ℕ) (s m : List ℕ) (at k : ℕ) : Type 0 where
   pub expression_at : s ≡ last_of left t
   pub size : k ≡ stored m (row_place f)
-  pub begin : at ≡ now_place + stored m (row_place f + 1)
+  pub begin : at ≡ now_place + stored m (begin_place f)
 
 -- Its cells are new, whatever stream the words are the last of.
 abbrev pub NewCells : ℕ → List ℕ → ℕ → ℕ → List ℕ → List ℕ → Type 0

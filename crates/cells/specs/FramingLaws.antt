@@ -1,12 +1,12 @@
 -- Laws of filling one function's cells in each way: by copies of old cells, by copies and one value, or element by element; and of the loops that do it.
 -- Document 01, "Memory and the history machine".
-use Rattle.std.specs.Prelude.{◌≡◌, refl, true, List, ℕ, ◌+◌, ◌*◌, ◌≤◌, ◌<◌, length, drop, get_or, set}
+use Rattle.std.specs.Prelude.{◌≡◌, refl, true, List, ℕ, ◌+◌, ◌≤◌, ◌<◌, length, drop, get_or, set}
 use Rattle.std.proofs.Common.{sym, ap, subst, ◌∙◌, arith, lit<, length-set}
 use Rattle.std.proofs.Math.Decide.{ℕ_discrete, dec_lt}
 use Rattle.std.proofs.Math.ListN.{get_or-eq_default}
 use Rattle.scan.specs.Checking.{last_of}
 use Rattle.expressions.specs.declared.valued.Valued.{Valued}
-use Rattle.expressions.specs.Stores.{stored, row_place, before_place}
+use Rattle.expressions.specs.Stores.{stored, row_place, before_place, parameter_place, argument_place, begin_place, now_place}
 use Rattle.expressions.specs.Answering.{Evaluated}
 use Rattle.expressions.specs.ValueLaws.{any_default}
 use Rattle.cells.specs.Turns.{Turn, Reached}
@@ -15,8 +15,8 @@ use Rattle.cells.specs.Frames.{kept_value, AsksOne, Tells, Copied, CopiedApart, 
 use Rattle.cells.specs.FrameLaws.{kept_cells, none_named, one_named}
 
 -- o is where the cells begin among all cells
-pub placed_by : (t : List ℕ) (f left : ℕ) (s m : List ℕ) (o k : ℕ) → s ≡ last_of left t → k ≡ stored m (4 + 2 * f) → o ≡ stored m (4 + 2 * f + 1) → Placed t f left s m (36 + o) k
-placed_by t f left s m o k e h l = record { expression_at = e; size = h; begin = ap (λ i. 36 + i) l }
+pub placed_by : (t : List ℕ) (f left : ℕ) (s m : List ℕ) (o k : ℕ) → s ≡ last_of left t → k ≡ stored m (row_place f) → o ≡ stored m (begin_place f) → Placed t f left s m (now_place + o) k
+placed_by t f left s m o k e h l = record { expression_at = e; size = h; begin = ap (λ i. now_place + i) l }
 
 -- ── copies ──
 
@@ -75,41 +75,41 @@ module _ (s m : List ℕ) (at k : ℕ) where
   pub each_start : Begins s at k m m 0
   each_start f t left placed T entered = entered
 
-  pub each_next : (M' : List ℕ) (x : ℕ) (r : Valued) → x < k → Evaluated s (set M' 0 x) r → Begins s at k m M' x → Begins s at k m (set (set M' 0 x) (at + x) r.value) (x + 1)
+  pub each_next : (M' : List ℕ) (x : ℕ) (r : Valued) → x < k → Evaluated s (set M' parameter_place x) r → Begins s at k m M' x → Begins s at k m (set (set M' parameter_place x) (at + x) r.value) (x + 1)
   each_next M' x r h evaluated begins f t left placed T entered =
-      subst (λ i. Reached T (set (set M' 0 x) (i + x) r.value) (x + 1)) (sym placed.begin)
-      (turn_next T m entered k (stored m (row_place f + 1)) placed.size refl M' x r s (begins f t left placed T entered) h placed.expression_at evaluated)
+      subst (λ i. Reached T (set (set M' parameter_place x) (i + x) r.value) (x + 1)) (sym placed.begin)
+      (turn_next T m entered k (stored m (begin_place f)) placed.size refl M' x r s (begins f t left placed T entered) h placed.expression_at evaluated)
 
   pub each_end : (M' : List ℕ) (x : ℕ) → x ≤ k → k ≤ x → Begins s at k m M' x → (f : ℕ) → NewCells f s at k m M'
-  each_end M' x h l begins f t left placed T entered = turn_end T m entered k (stored m (row_place f + 1)) placed.size refl M' x h l (begins f t left placed T entered)
+  each_end M' x h l begins f t left placed T entered = turn_end T m entered k (stored m (begin_place f)) placed.size refl M' x h l (begins f t left placed T entered)
 
 -- ── all at once ──
 
-pub first_set : (m M' : List ℕ) (w : ℕ) → length M' ≡ length (set m 0 w) → length M' ≡ length m
-first_set m M' w e = e ∙ length-set m 0 w
+pub first_set : (m M' : List ℕ) (w : ℕ) → length M' ≡ length (set m parameter_place w) → length M' ≡ length m
+first_set m M' w e = e ∙ length-set m parameter_place w
 
-pub two_set : (m M' : List ℕ) (w i v : ℕ) → length M' ≡ length (set m 0 w) → length (set M' i v) ≡ length m
+pub two_set : (m M' : List ℕ) (w i v : ℕ) → length M' ≡ length (set m parameter_place w) → length (set M' i v) ≡ length m
 two_set m M' w i v e = length-set M' i v ∙ first_set m M' w e
 
 -- What the first word holds does not matter.
-pub any_first : (f : ℕ) (s m M' : List ℕ) (at k w : ℕ) → NewCells f s at k (set m 0 w) M' → NewCells f s at k m M'
+pub any_first : (f : ℕ) (s m M' : List ℕ) (at k w : ℕ) → NewCells f s at k (set m parameter_place w) M' → NewCells f s at k m M'
 any_first f s m M' at k w new t left placed T entered =
     new t left
     (record {
       expression_at = placed.expression_at;
       size = placed.size ∙ sym (other (row_place f) (omega arith));
-      begin = placed.begin ∙ ap (λ i. 36 + i) (sym (other (row_place f + 1) (omega arith)));
+      begin = placed.begin ∙ ap (λ i. now_place + i) (sym (other (begin_place f) (omega arith)));
     })
     T
     (record {
-      same_length = length-set m 0 w ∙ entered.same_length;
-      begun = record { words = λ c l. other (36 + c) (omega arith) ∙ entered.begun.words c l; small = entered.begun.small };
+      same_length = length-set m parameter_place w ∙ entered.same_length;
+      begun = record { words = λ c l. other (now_place + c) (omega arith) ∙ entered.begun.words c l; small = entered.begun.small };
       kept_below = λ i h l. other i h ∙ entered.kept_below i h l;
       kept_above = λ i l. other i (omega arith) ∙ entered.kept_above i l;
     })
   where
-    other : (i : ℕ) → 1 ≤ i → stored (set m 0 w) i ≡ stored m i
-    other i h = stored_else m 0 i w (λ e. let z : ⊥ = omega arith in z)
+    other : (i : ℕ) → argument_place 0 ≤ i → stored (set m parameter_place w) i ≡ stored m i
+    other i h = stored_else m parameter_place i w (λ e. let z : ⊥ = omega arith in z)
 
 -- all that is in a store is a word
 store_words : (m : List ℕ) → ((i : ℕ) → get_or m i 0 < 65536) → (i : ℕ) → stored m i < 65536
@@ -120,13 +120,13 @@ store_words m words i = go (dec_lt i (length m))
     go (yes h) = subst (λ w. w < 65536) (any_default m i 0 65535 h) (words i)
     go (no n) = subst (λ w. w < 65536) (sym (get_or-eq_default m 65535 (omega arith))) (lit< tt)
 
-module _ (f : ℕ) (s m : List ℕ) (from at k : ℕ) (is_from : from ≡ before_place m + stored m (row_place f + 1)) (words : (i : ℕ) → get_or m i 0 < 65536) where
+module _ (f : ℕ) (s m : List ℕ) (from at k : ℕ) (is_from : from ≡ before_place m + stored m (begin_place f)) (words : (i : ℕ) → get_or m i 0 < 65536) where
   pub all_kept : (M' : List ℕ) → Tells true s (λ d. d ≡ kept_value f) → Copied m M' from at k → NewCells f s at k m M'
   all_kept M' tells copied t left placed T entered = kept_cells T m entered s at k placed from is_from (store_words m words) tells M' copied
 
   -- d is what the element's name answers, a what its value does, u and v the words after them
   module _ (asks : Tells true s AsksOne) (d : Valued) (named : Evaluated (drop 4 s) m d) (u : List ℕ) (is_u : u ≡ last_of d.left s)
-      (a : Valued) (valued : Evaluated u (set m 0 d.value) a) (v : List ℕ) (is_v : v ≡ last_of a.left u) (keeps : Tells true v (λ b. b ≡ kept_value f)) (M' : List ℕ) (copied : Copied (set m 0 d.value) M' from at k) where
+      (a : Valued) (valued : Evaluated u (set m parameter_place d.value) a) (v : List ℕ) (is_v : v ≡ last_of a.left u) (keeps : Tells true v (λ b. b ≡ kept_value f)) (M' : List ℕ) (copied : Copied (set m parameter_place d.value) M' from at k) where
     pub named_past : k ≤ d.value → NewCells f s at k m M'
     named_past h t left placed T entered = none_named T m entered s at k placed from is_from (store_words m words) asks d named u is_u a valued v is_v keeps M' copied h
 

@@ -4,12 +4,12 @@ use Rattle.std.specs.Prelude.{◌≡◌, List, [], ◌∷◌, ℕ, ◌+◌, ◌<
 use Rattle.eb3.specs.Values.{Value, undefined, encode}
 use Rattle.eb3.specs.Attributes.{Attributes, domain, number_of_functions}
 use Rattle.eb3.specs.Cells.{offset}
-use Rattle.expressions.specs.Stores.{stored, row_place}
+use Rattle.expressions.specs.Stores.{stored, row_place, begin_place}
 
 -- A function's row: its domain's size, and where its cells begin.
 pub record RowLaid (A : Attributes) (M : List ℕ) (f : ℕ) : Type 0 where
   pub one_parameter : domain A f ≡ stored M (row_place f) ∷ []
-  pub begins : stored M (row_place f + 1) ≡ offset A f
+  pub begins : stored M (begin_place f) ≡ offset A f
 
 abbrev pub Laid : Attributes → List ℕ → Type 0
 Laid A M = (f : ℕ) → f < number_of_functions A → RowLaid A M f

@@ -81,15 +81,15 @@ module _ (B M M' : List ℕ) (n : ℕ) where
 
 pub held_words : (M : List ℕ) (cells : List Value) (c : ℕ) → length cells ≡ c → now_place + c ≤ length M → Holds M now_place cells → take c (drop now_place M) ≡ memory_words cells
 unfolding memory_words
-held_words M cells c counted room holds = ext_get_or 0 (take c (drop 36 M)) (map (encode 65535) cells) (len ∙ sym (length-map cells (encode 65535) ∙ counted)) each
+held_words M cells c counted room holds = ext_get_or 0 (take c (drop now_place M)) (map (encode 65535) cells) (len ∙ sym (length-map cells (encode 65535) ∙ counted)) each
   where
-    len : length (take c (drop 36 M)) ≡ c
-    len = length-take-le c (drop 36 M) (omega (arith, length-drop 36 M))
+    len : length (take c (drop now_place M)) ≡ c
+    len = length-take-le c (drop now_place M) (omega (arith, length-drop now_place M))
 
-    each : (i : ℕ) → i < length (take c (drop 36 M)) → get_or (take c (drop 36 M)) i 0 ≡ get_or (map (encode 65535) cells) i 0
+    each : (i : ℕ) → i < length (take c (drop now_place M)) → get_or (take c (drop now_place M)) i 0 ≡ get_or (map (encode 65535) cells) i 0
     each i h =
         let l : i < c = omega (arith, len) in
-        get_or-take c (drop 36 M) i 0 l ∙ get_or-drop 36 M i 0 ∙ sym (stored_is M (36 + i) 0 (omega arith)) ∙ holds i (omega (arith, counted))
+        get_or-take c (drop now_place M) i 0 l ∙ get_or-drop now_place M i 0 ∙ sym (stored_is M (now_place + i) 0 (omega arith)) ∙ holds i (omega (arith, counted))
         ∙ sym (get_d_map (encode 65535) cells i undefined 0 (omega (arith, counted)))
 
 -- Words written at a buffer's front and loaded from there.

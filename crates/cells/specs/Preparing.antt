@@ -2,20 +2,21 @@
 -- history machine"; "Operations").
 use Rattle.std.specs.Prelude.{◌≡◌, cond, List, ℕ, ◌+◌, ◌-◌, ◌*◌, ◌/◌, ◌%◌, ◌≤◌, ◌<◌, ltb, length, get_or, take, drop}
 use Rattle.eb3.specs.Bytes.{words_in, written}
-use Rattle.expressions.specs.Stores.{stored, row_place, now_place, before_place}
+use Rattle.declarations.specs.Directory.{first_cell_in}
+use Rattle.expressions.specs.Stores.{stored, row_place, now_place, before_place, old_cells_place, row_words, begin_place}
 
 -- No variables, the old cells behind c new ones, and the rows of n functions by the directory's rows of w words; functions that are not there have no cell.
 pub record Prepared (D M M' : List ℕ) (w n c : ℕ) : Type 0 where
-  pub no_variables : (i : ℕ) → i < 3 → stored M' i ≡ 65535
+  pub no_variables : (i : ℕ) → i < old_cells_place → stored M' i ≡ 65535
   pub old_cells : before_place M' ≡ now_place + c
   pub sizes : (f : ℕ) → f < n → stored M' (row_place f) ≡ get_or D (w * f) 0 % 65536
-  pub begins : (f : ℕ) → f < n → stored M' (row_place f + 1) ≡ get_or D (w * f + 1) 0 % 65536
-  pub no_functions : (f : ℕ) → n ≤ f → f < 16 → (stored M' (row_place f) ≡ 0) × (stored M' (row_place f + 1) ≡ 0)
+  pub begins : (f : ℕ) → f < n → stored M' (begin_place f) ≡ get_or D (w * f + first_cell_in) 0 % 65536
+  pub no_functions : (f : ℕ) → n ≤ f → f < 16 → (stored M' (row_place f) ≡ 0) × (stored M' (begin_place f) ≡ 0)
   pub kept : (i : ℕ) → now_place ≤ i → stored M' i ≡ stored M i
 
 -- Word i of a store made ready, below the cells.
 unfoldable pub ready_word : List ℕ → ℕ → ℕ → ℕ → ℕ → ℕ
-ready_word D w n c i = cond (ltb i 3) 65535 (cond (ltb i 4) (36 + c) (cond (ltb ((i - 4) / 2) n) (get_or D (w * ((i - 4) / 2) + i % 2) 0 % 65536) 0))
+ready_word D w n c i = cond (ltb i old_cells_place) 65535 (cond (ltb i (row_place 0)) (now_place + c) (cond (ltb ((i - row_place 0) / row_words) n) (get_or D (w * ((i - row_place 0) / row_words) + i % row_words) 0 % 65536) 0))
 
 -- Of a memory B, the first c words put into the store from a place on, as far as there is room; 0 where the memory has no word.
 pub record Loaded (B M M' : List ℕ) (at c : ℕ) : Type 0 where

@@ -10,7 +10,8 @@ use Rattle.std.proofs.Math.ListN.{get_or-eq_default}
 use borrow.Author.Tests.{lt-ltb, le-ltb, le-leb}
 use Rattle.eb3.specs.Bytes.{words_in, written}
 use Rattle.eb3.proofs.Laws.Bytes.{words_counted}
-use Rattle.expressions.specs.Stores.{stored, now_place}
+use Rattle.declarations.specs.Directory.{first_cell_in}
+use Rattle.expressions.specs.Stores.{stored, now_place, old_cells_place, row_words, row_place, begin_place}
 use Rattle.writing.specs.Wrote.{Wrote}
 use Rattle.cells.specs.TurnLaws.{stored_there, stored_else}
 use Rattle.cells.specs.Preparing.{Prepared, ready_word, Loaded, Saved}
@@ -18,25 +19,25 @@ use Rattle.cells.specs.Preparing.{Prepared, ready_word, Loaded, Saved}
 -- ── the words below the cells ──
 
 module _ (D : List ℕ) (w n c : ℕ) where
-  pub ready_variable : (i : ℕ) → i < 3 → 65535 ≡ ready_word D w n c i
+  pub ready_variable : (i : ℕ) → i < old_cells_place → 65535 ≡ ready_word D w n c i
   unfolding ready_word
-  ready_variable i h = rw (lt-ltb i 3 h)
+  ready_variable i h = rw (lt-ltb i old_cells_place h)
 
-  pub ready_old : (i : ℕ) → 3 ≤ i → i < 4 → 36 + c ≡ ready_word D w n c i
+  pub ready_old : (i : ℕ) → old_cells_place ≤ i → i < row_place 0 → now_place + c ≡ ready_word D w n c i
   unfolding ready_word
-  ready_old i h k = rw (le-ltb i 3 h, lt-ltb i 4 k)
+  ready_old i h k = rw (le-ltb i old_cells_place h, lt-ltb i (row_place 0) k)
 
-  pub ready_row : (i v : ℕ) → 4 ≤ i → (i - 4) / 2 < n → v ≡ get_or D (w * ((i - 4) / 2) + i % 2) 0 % 65536 → v ≡ ready_word D w n c i
+  pub ready_row : (i v : ℕ) → row_place 0 ≤ i → (i - row_place 0) / row_words < n → v ≡ get_or D (w * ((i - row_place 0) / row_words) + i % row_words) 0 % 65536 → v ≡ ready_word D w n c i
   unfolding ready_word
   ready_row i v h k e =
-      let a : 3 ≤ i = omega arith in
-      rw (le-ltb i 3 a, le-ltb i 4 h, lt-ltb ((i - 4) / 2) n k) e
+      let a : old_cells_place ≤ i = omega arith in
+      rw (le-ltb i old_cells_place a, le-ltb i (row_place 0) h, lt-ltb ((i - row_place 0) / row_words) n k) e
 
-  pub ready_none : (i : ℕ) → 4 ≤ i → n ≤ (i - 4) / 2 → 0 ≡ ready_word D w n c i
+  pub ready_none : (i : ℕ) → row_place 0 ≤ i → n ≤ (i - row_place 0) / row_words → 0 ≡ ready_word D w n c i
   unfolding ready_word
   ready_none i h k =
-      let a : 3 ≤ i = omega arith in
-      rw (le-ltb i 3 a, le-ltb i 4 h, le-ltb ((i - 4) / 2) n k)
+      let a : old_cells_place ≤ i = omega arith in
+      rw (le-ltb i old_cells_place a, le-ltb i (row_place 0) h, le-ltb ((i - row_place 0) / row_words) n k)
 
 -- ── the loop over them ──
 
@@ -58,21 +59,21 @@ module _ (D M : List ℕ) (w n c : ℕ) where
       go k h (yes q) = ap (stored (set M' i v)) q ∙ stored_there M' i v l ∙ e ∙ ap (ready_word D w n c) (sym q)
       go k h (no q) = stored_else M' i k v q ∙ r.below k (omega arith)
 
-  pub readying_end : (M' : List ℕ) (i : ℕ) → n ≤ 16 → i ≤ 36 → 36 ≤ i → Readying D M M' w n c i → Prepared D M M' w n c
+  pub readying_end : (M' : List ℕ) (i : ℕ) → n ≤ 16 → i ≤ now_place → now_place ≤ i → Readying D M M' w n c i → Prepared D M M' w n c
   readying_end M' i few h l r = record {
     no_variables = λ k q. r.below k (omega arith) ∙ sym (ready_variable D w n c k q);
-    old_cells = r.below 3 (omega arith) ∙ sym (ready_old D w n c 3 (omega arith) (omega arith));
-    sizes = λ f q. r.below (4 + 2 * f) (omega arith) ∙ sym (ready_row D w n c (4 + 2 * f) _ (omega arith) (omega arith) (front f ∙ at f 0 (4 + 2 * f) (omega arith) (omega arith)));
-    begins = λ f q. r.below (4 + 2 * f + 1) (omega arith) ∙ sym (ready_row D w n c (4 + 2 * f + 1) _ (omega arith) (omega arith) (at f 1 (4 + 2 * f + 1) (omega arith) (omega arith)));
-    no_functions = λ f q s. (r.below (4 + 2 * f) (omega arith) ∙ sym (ready_none D w n c (4 + 2 * f) (omega arith) (omega arith)), r.below (4 + 2 * f + 1) (omega arith) ∙ sym (ready_none D w n c (4 + 2 * f + 1) (omega arith) (omega arith)));
+    old_cells = r.below old_cells_place (omega arith) ∙ sym (ready_old D w n c old_cells_place (omega arith) (omega arith));
+    sizes = λ f q. r.below (row_place f) (omega arith) ∙ sym (ready_row D w n c (row_place f) _ (omega arith) (omega arith) (front f ∙ at f 0 (row_place f) (omega arith) (omega arith)));
+    begins = λ f q. r.below (begin_place f) (omega arith) ∙ sym (ready_row D w n c (begin_place f) _ (omega arith) (omega arith) (at f first_cell_in (begin_place f) (omega arith) (omega arith)));
+    no_functions = λ f q s. (r.below (row_place f) (omega arith) ∙ sym (ready_none D w n c (row_place f) (omega arith) (omega arith)), r.below (begin_place f) (omega arith) ∙ sym (ready_none D w n c (begin_place f) (omega arith) (omega arith)));
     kept = λ k q. r.kept k (omega arith);
   }
     where
       front : (f : ℕ) → get_or D (w * f) 0 % 65536 ≡ get_or D (w * f + 0) 0 % 65536
       front f = let z : w * f ≡ w * f + 0 = omega arith in ap (λ k. get_or D k 0 % 65536) z
 
-      at : (f j k : ℕ) → (k - 4) / 2 ≡ f → k % 2 ≡ j → get_or D (w * f + j) 0 % 65536 ≡ get_or D (w * ((k - 4) / 2) + k % 2) 0 % 65536
-      at f j k a b = ap (λ g. get_or D (w * g + j) 0 % 65536) (sym a) ∙ ap (λ p. get_or D (w * ((k - 4) / 2) + p) 0 % 65536) (sym b)
+      at : (f j k : ℕ) → (k - row_place 0) / row_words ≡ f → k % row_words ≡ j → get_or D (w * f + j) 0 % 65536 ≡ get_or D (w * ((k - row_place 0) / row_words) + k % row_words) 0 % 65536
+      at f j k a b = ap (λ g. get_or D (w * g + j) 0 % 65536) (sym a) ∙ ap (λ p. get_or D (w * ((k - row_place 0) / row_words) + p) 0 % 65536) (sym b)
 
 -- ── zeros ──
 
@@ -177,12 +178,12 @@ module _ (B M : List ℕ) (at : ℕ) where
 pub saved_not : (M B : List ℕ) (c : ℕ) → length M < now_place + c → Saved M B B c
 saved_not M B c h = record { same_length = refl; right = λ l k. absurd (let z : ⊥ = omega arith in z) }
 
-pub saved_all : (M B B' : List ℕ) (c : ℕ) (ok : Bool) → 36 + c ≤ length M → Wrote (take ((36 + c) - 36) (drop 36 M)) B B' ok → Saved M B B' c
+pub saved_all : (M B B' : List ℕ) (c : ℕ) (ok : Bool) → now_place + c ≤ length M → Wrote (take ((now_place + c) - now_place) (drop now_place M)) B B' ok → Saved M B B' c
 saved_all M B B' c ok h w =
-    let e : (36 + c) - 36 ≡ c = omega arith in
-    let s : take ((36 + c) - 36) (drop 36 M) ≡ take c (drop 36 M) = ap (λ n. take n (drop 36 M)) e in
-    let l : length (take ((36 + c) - 36) (drop 36 M)) ≡ c = ap length s ∙ length-take-le c (drop 36 M) (omega (arith, length-drop 36 M)) in
+    let e : (now_place + c) - now_place ≡ c = omega arith in
+    let s : take ((now_place + c) - now_place) (drop now_place M) ≡ take c (drop now_place M) = ap (λ n. take n (drop now_place M)) e in
+    let l : length (take ((now_place + c) - now_place) (drop now_place M)) ≡ c = ap length s ∙ length-take-le c (drop now_place M) (omega (arith, length-drop now_place M)) in
     record {
       same_length = w.same_length;
-      right = λ p q. w.right (w.fits ∙ le-leb (2 * length (take ((36 + c) - 36) (drop 36 M))) (length B) (omega (arith, l))) ∙ ap (λ ws. written ws B) s;
+      right = λ p q. w.right (w.fits ∙ le-leb (2 * length (take ((now_place + c) - now_place) (drop now_place M))) (length B) (omega (arith, l))) ∙ ap (λ ws. written ws B) s;
     }

@@ -13,7 +13,7 @@ use Rattle.eb3.proofs.Laws.Attributes.{apply_cong, guard_evaluated}
 use Rattle.eb3.specs.Scopes.{CondInScope, guard_scope}
 use Rattle.eb3.specs.Cells.{cell_count, cell_index, offset, total_cells, cell_at}
 use Rattle.eb3.specs.Values.{ValuesAtMost}
-use Rattle.expressions.specs.Stores.{stored, row_place, now_place, cell_in, reading_in, environment_in}
+use Rattle.expressions.specs.Stores.{stored, row_place, now_place, cell_in, reading_in, environment_in, begin_place}
 use Rattle.expressions.specs.Answering.{Plain}
 use Rattle.cells.specs.Layout.{RowLaid, Laid, Holds}
 use Rattle.cells.specs.CellLaws.{cells_below, one_count, one_index}
@@ -29,10 +29,10 @@ module _ (A : Attributes) (M : List ℕ) (f : ℕ) (row : RowLaid A M f) where
   row_index x = ap (λ ns. cell_index ns (x ∷ [])) row.one_parameter ∙ one_index _ x
 
 -- A store that keeps the rows stays laid out.
-pub laid_kept : (A : Attributes) (M M' : List ℕ) → number_of_functions A ≤ 16 → ((i : ℕ) → 4 ≤ i → i < now_place → stored M' i ≡ stored M i) → Laid A M → Laid A M'
+pub laid_kept : (A : Attributes) (M M' : List ℕ) → number_of_functions A ≤ 16 → ((i : ℕ) → row_place 0 ≤ i → i < now_place → stored M' i ≡ stored M i) → Laid A M → Laid A M'
 laid_kept A M M' few kept laid f h = record {
   one_parameter = (laid f h).one_parameter ∙ ap (λ n. n ∷ []) (sym (kept (row_place f) (omega arith) (omega arith)));
-  begins = kept (row_place f + 1) (omega arith) (omega arith) ∙ (laid f h).begins;
+  begins = kept (begin_place f) (omega arith) (omega arith) ∙ (laid f h).begins;
 }
 
 -- ── reading ──

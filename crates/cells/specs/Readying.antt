@@ -14,9 +14,9 @@ use Rattle.eb3.proofs.Laws.RuleSets.{functions_counted, domain_is}
 use Rattle.eb3.specs.Spelling.{data_words}
 use Rattle.eb3.specs.WellFormedness.{DomainsDefined, Form}
 use Rattle.eb3.proofs.Laws.Editions.{width_is_1, top_is_65534}
-use Rattle.declarations.specs.Directory.{Stands, Standing, FunctionRow, FunctionRows, row_width, Directory}
+use Rattle.declarations.specs.Directory.{Stands, Standing, FunctionRow, FunctionRows, row_width, Directory, first_cell_in}
 use Rattle.declarations.specs.Entering.{cells_of, all_cells}
-use Rattle.expressions.specs.Stores.{stored, row_place}
+use Rattle.expressions.specs.Stores.{stored, row_place, begin_place}
 use Rattle.expressions.specs.Answering.{Plain}
 use Rattle.cells.specs.Layout.{Laid}
 use Rattle.cells.specs.Preparing.{Prepared}
@@ -126,14 +126,14 @@ module _ (R : RuleSet) (form : Form R) where
     pub directory_size : (f : ℕ) → f < length R.functions → get_or D (w * f) 0 ≡ cell_count (domain A f)
     directory_size f h = (directory_row f h).cells ∙ cells_are f h
 
-    pub directory_begin : (f : ℕ) → f < length R.functions → get_or D (w * f + 1) 0 ≡ offset A f
+    pub directory_begin : (f : ℕ) → f < length R.functions → get_or D (w * f + first_cell_in) 0 ≡ offset A f
     directory_begin f h = (directory_row f h).begins ∙ (let z : offset A f % 4294967296 ≡ offset A f = omega (arith, offset_few f h) in z)
 
     module _ (M M' : List ℕ) (p : Prepared D M M' w (length R.functions) (total_cells A)) where
       size_laid : (f : ℕ) → f < length R.functions → stored M' (row_place f) ≡ cell_count (domain A f)
       size_laid f h = omega (arith, p.sizes f h, directory_size f h, (domain_of f h).few_cells)
 
-      begin_laid : (f : ℕ) → f < length R.functions → stored M' (row_place f + 1) ≡ offset A f
+      begin_laid : (f : ℕ) → f < length R.functions → stored M' (begin_place f) ≡ offset A f
       begin_laid f h = omega (arith, p.begins f h, directory_begin f h, offset_few f h)
 
       pub rows_laid : Laid A M'
@@ -141,5 +141,5 @@ module _ (R : RuleSet) (form : Form R) where
           let l : f < length R.functions = omega (arith, functions_counted R) in
           record { one_parameter = (domain_of f l).one_parameter ∙ ap (λ n. n ∷ []) (sym (size_laid f l)); begins = begin_laid f l }
 
-      pub rows_small : (f : ℕ) → f < length R.functions → stored M' (4 + 2 * f) ≤ 64
+      pub rows_small : (f : ℕ) → f < length R.functions → stored M' (row_place f) ≤ 64
       rows_small f h = subst (λ n. n ≤ 64) (sym (size_laid f h)) (domain_of f h).few_cells

@@ -21,8 +21,8 @@ use Rattle.eb3.proofs.Laws.Elements.{within_small, arguments_counted, arguments_
 use Rattle.eb3.specs.Spelling.{data_words}
 use Rattle.eb3.specs.WellFormedness.{WellFormedAction, Form}
 use Rattle.eb3.proofs.Laws.Editions.{top_is_65534}
-use Rattle.declarations.specs.Directory.{Stands, row_width, Directory}
-use Rattle.expressions.specs.Stores.{stored, now_place, before_place, variable_in}
+use Rattle.declarations.specs.Directory.{Stands, row_width, Directory, at_start_in, at_label_in}
+use Rattle.expressions.specs.Stores.{stored, now_place, before_place, variable_in, row_place}
 use Rattle.cells.specs.Layout.{Laid, Holds}
 use Rattle.cells.specs.Filling.{Ready, Filling}
 use Rattle.cells.specs.Preparing.{Prepared}
@@ -50,7 +50,7 @@ module _ (R : RuleSet) (form : Form R) where
 
     -- ── at the start ──
 
-    start_ready : (M : List ℕ) (f : ℕ) → f < length R.functions → Ready A none no_reading t D M w 2 f
+    start_ready : (M : List ℕ) (f : ℕ) → f < length R.functions → Ready A none no_reading t D M w at_start_in f
     start_ready M f h = record {
       scope = start_scope A f;
       plain = plain_start R form f;
@@ -58,12 +58,12 @@ module _ (R : RuleSet) (form : Form R) where
       names_known = omega arith;
       variables_few = omega (arith, one_arity R form f);
       in_scope = subst (λ (F : AttributeFunction). DataInScope F.at_start (start_scope A f)) (sym (function_is R f h)) (form.function_forms f h).at_start;
-      stands = subst (λ (F : AttributeFunction). Stands t (get_or D (w * f + 2) 0) (data_words R.edition.width F.at_start)) (sym (function_is R f h)) (directory_row R form t T D d f h).expressions.0;
+      stands = subst (λ (F : AttributeFunction). Stands t (get_or D (w * f + at_start_in) 0) (data_words R.edition.width F.at_start)) (sym (function_is R f h)) (directory_row R form t T D d f h).expressions.0;
       before_reads = λ g l vs. absurd (let z : ⊥ = omega arith in z);
     }
 
     pub start_filling : (M M' : List ℕ) → Prepared D M M' w (length R.functions) (total_cells A) → now_place + total_cells A ≤ length M'
-        → Filling A none no_reading t D M' w 2 (length R.functions)
+        → Filling A none no_reading t D M' w at_start_in (length R.functions)
     start_filling M M' p room = record {
       functions = sym (functions_counted R);
       largest = top_is_65534 form;
@@ -79,14 +79,14 @@ module _ (R : RuleSet) (form : Form R) where
     -- ── after a visible action ──
 
     module _ (a : VisibleAction) (good : WellFormedAction R (visible a)) (M : List ℕ) (laid : Laid A M) (cells : List Value) (all : length cells ≡ total_cells A) (at_most : ValuesAtMost 65534 cells) (old : Holds M (before_place M) cells) where
-      label_stands : (f : ℕ) → f < length R.functions → Stands t (get_or D (w * f + (3 + a.label)) 0) (data_words R.edition.width (get_or (function_rule R f).at_label a.label Undefined))
+      label_stands : (f : ℕ) → f < length R.functions → Stands t (get_or D (w * f + at_label_in a.label) 0) (data_words R.edition.width (get_or (function_rule R f).at_label a.label Undefined))
       label_stands f h =
-          let e : w * f + 2 + suc a.label ≡ w * f + (3 + a.label) = omega arith in
+          let e : w * f + at_start_in + suc a.label ≡ w * f + at_label_in a.label = omega arith in
           let l : suc a.label < length ((function_rule R f).at_start ∷ (function_rule R f).at_label) = omega (arith, good.0, (form.function_forms f h).label_count) in
           subst (λ n. Stands t (get_or D n 0) (data_words R.edition.width (get_or (function_rule R f).at_label a.label Undefined))) e
-          (standing_at R.edition.width t D (w * f + 2) ((function_rule R f).at_start ∷ (function_rule R f).at_label) (directory_row R form t T D d f h).expressions (suc a.label) l)
+          (standing_at R.edition.width t D (w * f + at_start_in) ((function_rule R f).at_start ∷ (function_rule R f).at_label) (directory_row R form t T D d f h).expressions (suc a.label) l)
 
-      renew_ready : (f : ℕ) → f < length R.functions → Ready A (some a) (cell_at A cells) t D M w (3 + a.label) f
+      renew_ready : (f : ℕ) → f < length R.functions → Ready A (some a) (cell_at A cells) t D M w (at_label_in a.label) f
       renew_ready f h = record {
         scope = label_scope A f (length (label R a.label));
         plain = plain_label R form f (length (label R a.label));
@@ -94,13 +94,13 @@ module _ (R : RuleSet) (form : Form R) where
         names_known = omega arith;
         variables_few = omega (arith, one_arity R form f, arguments_counted R form a good);
         in_scope = subst (λ (F : AttributeFunction). DataInScope (get_or F.at_label a.label Undefined) (label_scope A f (length (label R a.label)))) (sym (function_is R f h)) ((form.function_forms f h).at_label a.label good.0);
-        stands = subst (λ (F : AttributeFunction). Stands t (get_or D (w * f + (3 + a.label)) 0) (data_words R.edition.width (get_or F.at_label a.label Undefined))) (sym (function_is R f h)) (label_stands f h);
+        stands = subst (λ (F : AttributeFunction). Stands t (get_or D (w * f + at_label_in a.label) 0) (data_words R.edition.width (get_or F.at_label a.label Undefined))) (sym (function_is R f h)) (label_stands f h);
         before_reads = λ g l vs. reads_cells A M laid cells all at_most (before_place M) old g l vs;
       }
 
-      pub renew_filling : ((f : ℕ) → f < length R.functions → stored M (4 + 2 * f) ≤ 64) → now_place + total_cells A ≤ length M → now_place + total_cells A ≤ before_place M
+      pub renew_filling : ((f : ℕ) → f < length R.functions → stored M (row_place f) ≤ 64) → now_place + total_cells A ≤ length M → now_place + total_cells A ≤ before_place M
           → ((i : ℕ) → i < length a.arguments → stored M (suc i) ≡ get_or a.arguments i 0)
-          → Filling A (some a) (cell_at A cells) t D M w (3 + a.label) (length R.functions)
+          → Filling A (some a) (cell_at A cells) t D M w (at_label_in a.label) (length R.functions)
       renew_filling small room apart given = record {
         functions = sym (functions_counted R);
         largest = top_is_65534 form;

@@ -19,7 +19,7 @@ use Rattle.eb3.specs.Cells.{cell_count, offset, total_cells, cell_at, cells_up_t
 use Rattle.eb3.proofs.Laws.Cells.{renewed}
 use Rattle.scan.specs.Checking.{last_of}
 use Rattle.expressions.specs.declared.valued.Valued.{Valued}
-use Rattle.expressions.specs.Stores.{stored, row_place, now_place, before_place, cell_in, reading_in, variable_in, environment_in}
+use Rattle.expressions.specs.Stores.{stored, row_place, now_place, before_place, cell_in, reading_in, variable_in, environment_in, parameter_place, argument_place, old_cells_place, begin_place}
 use Rattle.expressions.specs.Answering.{DataAt, Evaluated}
 use Rattle.expressions.specs.Laws.{data_parted, data_at_most}
 use Rattle.cells.specs.Layout.{RowLaid}
@@ -41,13 +41,13 @@ stored_else M i j v n = get_or-set_other M i j v 65535 n
 
 -- ── reading from a store of which other words changed ──
 
-module _ (M M' : List ℕ) (at g : ℕ) (sizes : stored M' (row_place g) ≡ stored M (row_place g)) (begins : stored M' (row_place g + 1) ≡ stored M (row_place g + 1)) (cells : (i : ℕ) → at ≤ i → stored M' i ≡ stored M i) where
+module _ (M M' : List ℕ) (at g : ℕ) (sizes : stored M' (row_place g) ≡ stored M (row_place g)) (begins : stored M' (begin_place g) ≡ stored M (begin_place g)) (cells : (i : ℕ) → at ≤ i → stored M' i ≡ stored M i) where
   pub reading_kept : (vs : List Value) → reading_in M' at g vs ≡ reading_in M at g vs
   unfolding reading_in cell_in
   reading_kept vs =
-      ap (λ n. apply_in_domain (n ∷ []) (λ xs. decode 65534 (stored M' (at + (stored M' (row_place g + 1) + get_or xs 0 0)))) vs) sizes
+      ap (λ n. apply_in_domain (n ∷ []) (λ xs. decode 65534 (stored M' (at + (stored M' (begin_place g) + get_or xs 0 0)))) vs) sizes
       ∙ apply_cong (stored M (row_place g) ∷ []) _ _
-      (λ xs w. ap (decode 65534) (ap (λ i. stored M' (at + (i + get_or xs 0 0))) begins ∙ cells (at + (stored M (row_place g + 1) + get_or xs 0 0)) (omega arith))) vs
+      (λ xs w. ap (decode 65534) (ap (λ i. stored M' (at + (i + get_or xs 0 0))) begins ∙ cells (at + (stored M (begin_place g) + get_or xs 0 0)) (omega arith))) vs
 
 pub decode_small : (x : ℕ) → x ≤ 65534 → decode 65534 x ≡ number x
 unfolding encode
@@ -65,7 +65,7 @@ module _ {t : List ℕ} {f left : ℕ} (T : Turn t f left) (M' : List ℕ) (x y 
   here = T.filling.ready f T.known
 
   abbrev M'' : List ℕ
-  M'' = set M' 0 x
+  M'' = set M' parameter_place x
 
   abbrev all : List Value
   all = cells_up_to T.A T.o T.b (number_of_functions T.A)
@@ -80,11 +80,11 @@ module _ {t : List ℕ} {f left : ℕ} (T : Turn t f left) (M' : List ℕ) (x y 
   small_element = let h = T.filling.small f T.known in omega arith
 
   -- words of the store that filling keeps
-  kept : (i : ℕ) → 1 ≤ i → i < now_place → stored M'' i ≡ stored T.M i
-  kept i h l = stored_else M' 0 i x (λ e. let z : ⊥ = omega arith in z) ∙ reached.kept_below i h l
+  kept : (i : ℕ) → argument_place 0 ≤ i → i < now_place → stored M'' i ≡ stored T.M i
+  kept i h l = stored_else M' parameter_place i x (λ e. let z : ⊥ = omega arith in z) ∙ reached.kept_below i h l
 
   old_place : before_place M'' ≡ before_place T.M
-  old_place = kept 3 (omega arith) (lit< tt)
+  old_place = kept old_cells_place (omega arith) (lit< tt)
 
   row_laid : (g : ℕ) → g < f → RowLaid T.A M'' g
   row_laid g h =
@@ -92,14 +92,14 @@ module _ {t : List ℕ} {f left : ℕ} (T : Turn t f left) (M' : List ℕ) (x y 
       let r16 : f < 16 = let k = T.known in let l = T.few in omega arith in
       record {
         one_parameter = row.one_parameter ∙ ap (λ n. n ∷ []) (sym (kept (row_place g) (omega arith) (omega arith)));
-        begins = kept (row_place g + 1) (omega arith) (omega arith) ∙ row.begins;
+        begins = kept (begin_place g) (omega arith) (omega arith) ∙ row.begins;
       }
 
   begun_below : Begun M'' now_place new (offset T.A f)
   begun_below =
       let first : (c : ℕ) → c < offset T.A f → get_or all c undefined ≡ get_or new c undefined = cells_first T.A T.o T.b f (number_of_functions T.A) (let d = defined in omega arith) in
       record {
-        words = λ c l. stored_else M' 0 (now_place + c) x (λ e. let z : ⊥ = omega arith in z) ∙ reached.begun.words c (omega arith) ∙ ap (encode 65535) (first c l);
+        words = λ c l. stored_else M' parameter_place (now_place + c) x (λ e. let z : ⊥ = omega arith in z) ∙ reached.begun.words c (omega arith) ∙ ap (encode 65535) (first c l);
         small = λ c l. subst (AtMost 65534) (first c l) (reached.begun.small c (omega arith));
       }
 
@@ -112,15 +112,15 @@ module _ {t : List ℕ} {f left : ℕ} (T : Turn t f left) (M' : List ℕ) (x y 
   before_reads g h vs =
       let k : g < 16 = let n = here.names_known in let l = T.few in let e = T.filling.functions in omega arith in
       ap (λ at. reading_in M'' at g vs) old_place
-      ∙ reading_kept T.M M'' (before_place T.M) g (kept (row_place g) (omega arith) (omega arith)) (kept (row_place g + 1) (omega arith) (omega arith))
-      (λ i l. let a = T.filling.apart in stored_else M' 0 i x (λ e. let z : ⊥ = omega arith in z) ∙ reached.kept_above i (omega arith)) vs
+      ∙ reading_kept T.M M'' (before_place T.M) g (kept (row_place g) (omega arith) (omega arith)) (kept (begin_place g) (omega arith) (omega arith))
+      (λ i l. let a = T.filling.apart in stored_else M' parameter_place i x (λ e. let z : ⊥ = omega arith in z) ∙ reached.kept_above i (omega arith)) vs
       ∙ here.before_reads g h vs
 
   variables_read : (i : ℕ) → i < here.scope.variables → variable_in M'' i ≡ variables (x ∷ arguments_of T.o) i
   unfolding variable_in variables
   variables_read zero h =
       let r = T.filling.room in
-      ap (decode 65534) (stored_there M' 0 x (omega (arith, reached.same_length)))
+      ap (decode 65534) (stored_there M' parameter_place x (omega (arith, reached.same_length)))
       ∙ decode_small x (let s = small_element in omega arith)
   variables_read (suc i) h =
       let l : i < length (arguments_of T.o) = let v = here.variables_few in omega arith in
@@ -147,18 +147,18 @@ module _ {t : List ℕ} {f left : ℕ} (T : Turn t f left) (M' : List ℕ) (x y 
 -- ── one cell more ──
 
 -- Of m, the store when the turn begins: function f has k cells, which begin at p.
-module _ {t : List ℕ} {f left : ℕ} (T : Turn t f left) (m : List ℕ) (entered : Reached T m 0) (k p : ℕ) (is_k : k ≡ stored m (4 + 2 * f)) (is_p : p ≡ stored m (4 + 2 * f + 1)) where
+module _ {t : List ℕ} {f left : ℕ} (T : Turn t f left) (m : List ℕ) (entered : Reached T m 0) (k p : ℕ) (is_k : k ≡ stored m (row_place f)) (is_p : p ≡ stored m (begin_place f)) where
   below_16 : f < 16
   below_16 = let k = T.known in let l = T.few in omega arith
 
   row_here : RowLaid T.A T.M f
   row_here = T.filling.laid f (subst (λ n. f < n) T.filling.functions T.known)
 
-  pub size_here : k ≡ stored T.M (4 + 2 * f)
-  size_here = let h = below_16 in is_k ∙ entered.kept_below (4 + 2 * f) (omega arith) (omega arith)
+  pub size_here : k ≡ stored T.M (row_place f)
+  size_here = let h = below_16 in is_k ∙ entered.kept_below (row_place f) (omega arith) (omega arith)
 
   pub begin_here : p ≡ offset T.A f
-  begin_here = let h = below_16 in is_p ∙ entered.kept_below (4 + 2 * f + 1) (omega arith) (omega arith) ∙ row_here.begins
+  begin_here = let h = below_16 in is_p ∙ entered.kept_below (begin_place f) (omega arith) (omega arith) ∙ row_here.begins
 
   pub count_here : cell_count (domain T.A f) ≡ k
   count_here = row_cells T.A T.M f row_here ∙ sym size_here
@@ -166,7 +166,7 @@ module _ {t : List ℕ} {f left : ℕ} (T : Turn t f left) (m : List ℕ) (enter
   pub cells_here : offset T.A f + k ≤ total_cells T.A
   cells_here = let h = cells_below T.A f (number_of_functions T.A) (subst (λ n. f < n) T.filling.functions T.known) in omega (arith, count_here)
 
-  pub turn_room : 36 + p + k ≤ length m
+  pub turn_room : now_place + p + k ≤ length m
   turn_room = let r = T.filling.room in let h = cells_here in omega (arith, begin_here, entered.same_length)
 
   pub turn_end : (M' : List ℕ) (x : ℕ) → x ≤ k → k ≤ x → Reached T M' x → Partly T.A T.o T.b T.M M' (offset T.A (suc f))
@@ -174,7 +174,7 @@ module _ {t : List ℕ} {f left : ℕ} (T : Turn t f left) (m : List ℕ) (enter
       let e : offset T.A f + x ≡ offset T.A (suc f) = omega (arith, next_offset T.A f, count_here) in
       subst (Partly T.A T.o T.b T.M M') e r
 
-  module _ (M' : List ℕ) (x : ℕ) (r : Valued) (s : List ℕ) (reached : Reached T M' x) (h : x < k) (is_s : s ≡ last_of left t) (evaluated : Evaluated s (set M' 0 x) r) where
+  module _ (M' : List ℕ) (x : ℕ) (r : Valued) (s : List ℕ) (reached : Reached T M' x) (h : x < k) (is_s : s ≡ last_of left t) (evaluated : Evaluated s (set M' parameter_place x) r) where
     element_here : x < stored T.M (row_place f)
     element_here = omega (arith, size_here)
 
@@ -185,36 +185,36 @@ module _ {t : List ℕ} {f left : ℕ} (T : Turn t f left) (m : List ℕ) (enter
     data_here = record { plain = ready.plain; in_scope = ready.in_scope; spelled = is_s ∙ ap (λ n. last_of n t) T.place ∙ ready.stands.1 }
 
     word_here : r.value ≡ encode 65535 (get_or (cells_up_to T.A T.o T.b (number_of_functions T.A)) (offset T.A f + x) undefined)
-    word_here = (data_parted s (set M' 0 x) r ready.scope ready.stands.0 evaluated (expression (function T.A f) T.o) data_here).word
+    word_here = (data_parted s (set M' parameter_place x) r ready.scope ready.stands.0 evaluated (expression (function T.A f) T.o) data_here).word
         ∙ ap (encode 65535) (turn_value T M' x x reached element_here)
 
     abbrev M''' : List ℕ
-    M''' = set (set M' 0 x) (36 + p + x) r.value
+    M''' = set (set M' parameter_place x) (now_place + p + x) r.value
 
-    two_else : (i : ℕ) → 1 ≤ i → i ≢ 36 + p + x → stored M''' i ≡ stored M' i
-    two_else i l n = stored_else (set M' 0 x) (36 + p + x) i r.value n ∙ stored_else M' 0 i x (λ e. let z : ⊥ = omega arith in z)
+    two_else : (i : ℕ) → argument_place 0 ≤ i → i ≢ now_place + p + x → stored M''' i ≡ stored M' i
+    two_else i l n = stored_else (set M' parameter_place x) (now_place + p + x) i r.value n ∙ stored_else M' parameter_place i x (λ e. let z : ⊥ = omega arith in z)
 
     Cell : ℕ → Type 0
-    Cell c = (stored M''' (36 + c) ≡ encode 65535 (get_or (cells_up_to T.A T.o T.b (number_of_functions T.A)) c undefined))
+    Cell c = (stored M''' (now_place + c) ≡ encode 65535 (get_or (cells_up_to T.A T.o T.b (number_of_functions T.A)) c undefined))
         × AtMost 65534 (get_or (cells_up_to T.A T.o T.b (number_of_functions T.A)) c undefined)
 
     cell_here : (c : ℕ) → c < offset T.A f + (x + 1) → Dec (c ≡ offset T.A f + x) → Cell c
     unfolding Cell
     cell_here c l (yes e) =
-        let q : 36 + c ≡ 36 + p + x = omega (arith, begin_here) in
-        let w : 36 + p + x < length (set M' 0 x) = omega (arith, turn_room, length-set M' 0 x, reached.same_length, entered.same_length) in (
-          ap (stored M''') q ∙ stored_there (set M' 0 x) (36 + p + x) r.value w ∙ word_here
+        let q : now_place + c ≡ now_place + p + x = omega (arith, begin_here) in
+        let w : now_place + p + x < length (set M' parameter_place x) = omega (arith, turn_room, length-set M' parameter_place x, reached.same_length, entered.same_length) in (
+          ap (stored M''') q ∙ stored_there (set M' parameter_place x) (now_place + p + x) r.value w ∙ word_here
               ∙ ap (λ i. encode 65535 (get_or (cells_up_to T.A T.o T.b (number_of_functions T.A)) i undefined)) (sym e),
           subst (λ i. AtMost 65534 (get_or (cells_up_to T.A T.o T.b (number_of_functions T.A)) i undefined)) (sym e) (value_small T M' x x reached element_here),
         )
     cell_here c l (no n) =
         let q : c < offset T.A f + x = omega arith in
-        (two_else (36 + c) (omega arith) (λ e. let z : ⊥ = omega (arith, begin_here) in z) ∙ reached.begun.words c q, reached.begun.small c q)
+        (two_else (now_place + c) (omega arith) (λ e. let z : ⊥ = omega (arith, begin_here) in z) ∙ reached.begun.words c q, reached.begun.small c q)
 
     pub turn_next : Reached T M''' (x + 1)
     unfolding Cell
     turn_next = record {
-      same_length = length-set (set M' 0 x) (36 + p + x) r.value ∙ length-set M' 0 x ∙ reached.same_length;
+      same_length = length-set (set M' parameter_place x) (now_place + p + x) r.value ∙ length-set M' parameter_place x ∙ reached.same_length;
       begun = record {
         words = λ c l. (cell_here c l (ℕ_discrete c (offset T.A f + x))).0;
         small = λ c l. (cell_here c l (ℕ_discrete c (offset T.A f + x))).1;

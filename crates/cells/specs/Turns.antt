@@ -6,7 +6,7 @@ use Rattle.eb3.specs.Expressions.{Reading}
 use Rattle.eb3.specs.Terms.{VisibleAction}
 use Rattle.eb3.specs.Attributes.{Attributes, number_of_functions}
 use Rattle.eb3.specs.Cells.{offset, total_cells, cells_up_to}
-use Rattle.expressions.specs.Stores.{stored, now_place}
+use Rattle.expressions.specs.Stores.{stored, now_place, argument_place}
 use Rattle.cells.specs.Filling.{Filling}
 use Rattle.cells.specs.Reads.{Begun}
 
@@ -14,7 +14,7 @@ use Rattle.cells.specs.Reads.{Begun}
 pub record Partly (A : Attributes) (o : Option VisibleAction) (b : Reading) (M M' : List ℕ) (k : ℕ) : Type 0 where
   pub same_length : length M' ≡ length M
   pub begun : Begun M' now_place (cells_up_to A o b (number_of_functions A)) k
-  pub kept_below : (i : ℕ) → 1 ≤ i → i < now_place → stored M' i ≡ stored M i
+  pub kept_below : (i : ℕ) → argument_place 0 ≤ i → i < now_place → stored M' i ≡ stored M i
   pub kept_above : (i : ℕ) → now_place + total_cells A ≤ i → stored M' i ≡ stored M i
 
 -- It is function f's turn, whose expression stands where so many words of t are left.

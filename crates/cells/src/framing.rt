@@ -3,7 +3,7 @@
 // cells are copied and not computed one by one; any other expression is evaluated for every element.
 // Stays: that words are at most 65,535 is a clause of each function here, for the reason in successors (docs/DESIGN-PASS.md, "A struct for words").
 ghost use Rattle.std.specs.Prelude.{◌≡◌, true, ℕ, ◌+◌, ◌≤◌, ◌<◌, length};
-ghost use Rattle.expressions.specs.Stores.{stored, row_place, before_place};
+ghost use Rattle.expressions.specs.Stores.{stored, before_place, begin_place, now_place};
 ghost use Rattle.cells.specs.Frames.{kept_value, AsksOne, Tells, NewCells};
 ghost use Rattle.cells.specs.Turns.{FunctionFilled};
 
@@ -50,7 +50,7 @@ fn names_one(s: &[u16]) -> bool
 // Stays: k is a usize with its bound as a clause, as all places and numbers of cells are.
 // Stays: that the store keeps its length is a fact of what it was and what it is then, which no field of a struct holds.
 fn fill_each(s: &[u16], m: &mut [u16], at: usize, k: usize)
-    requires { (length s.now ≤ 65535) × (36 ≤ at) × (at + k ≤ length m.old) × (k < 65536) }
+    requires { (length s.now ≤ 65535) × (now_place ≤ at) × (at + k ≤ length m.old) × (k < 65536) }
     ensures { (length m.new ≡ length m.old) × ((f : ℕ) → NewCells f s.now at k m.old m.new) }
 {
     for x in 0..k {
@@ -63,7 +63,7 @@ fn fill_each(s: &[u16], m: &mut [u16], at: usize, k: usize)
 // The one element named by what it is compared with, if the others keep their values.
 #[tactic(auto, using(scan::specs::Laws::last_len))]
 fn fill_named(s: &[u16], m: &mut [u16], f: usize, from: usize, at: usize, k: usize)
-    requires { (8 ≤ length s.now) × (length s.now ≤ 65535) × (36 ≤ at) × (at + k ≤ length m.old) × (from + k ≤ length m.old) × (k < 65536) × (from ≡ before_place m.old + stored m.old (row_place f + 1)) × Tells true s.now AsksOne }
+    requires { (8 ≤ length s.now) × (length s.now ≤ 65535) × (now_place ≤ at) × (at + k ≤ length m.old) × (from + k ≤ length m.old) × (k < 65536) × (from ≡ before_place m.old + stored m.old (begin_place f)) × Tells true s.now AsksOne }
     ensures { (length m.new ≡ length m.old) × NewCells f s.now at k m.old m.new }
 {
     let named = eval_data(&s[4..], m);

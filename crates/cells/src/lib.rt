@@ -7,6 +7,9 @@ ghost use Rattle.std.proofs.Math.Option.{Option};
 ghost use Rattle.eb3.specs.Expressions.{Reading};
 ghost use Rattle.eb3.specs.Terms.{VisibleAction};
 ghost use Rattle.eb3.specs.Attributes.{Attributes};
+ghost use Rattle.arguments.specs.Layout.{label_count, function_count};
+ghost use Rattle.declarations.specs.Directory.{row_width};
+ghost use Rattle.expressions.specs.Stores.{now_place};
 ghost use Rattle.cells.specs.Filling.{Filling, Filled};
 ghost use Rattle.cells.specs.Frames.{CopiedApart};
 ghost use Rattle.cells.specs.Preparing.{Prepared, ready_word, Loaded, Saved};
@@ -28,7 +31,7 @@ pub struct Functions<'a> {
     pub words: &'a [u16],
     /// The directory, with a row of `width` words for each function: how many cells it has, where they begin among all cells, and
     /// where each of its expressions is.
-    // Stays: columns 0 and 1 are read at i % 2 in `ready_word`: in a store's row the same two numbers stand in the same order.
+    // Stays: columns 0 and 1 are read at i % row_words in `ready_word`: in a store's row the same two numbers stand in the same order.
     pub directory: &'a [u32],
     /// How many words a row of the directory has.
     pub width: usize,
@@ -46,8 +49,8 @@ impl<'a> Functions<'a> {
     /// The functions that a rule set's tables and directory are of: a row has three words, and one more for each label.
     // Stays: what is asked are the facts of the fields that are made here; after that only public functions of the words alone ask for one of them.
     pub fn of(words: &'a [u16], tables: &[u32], directory: &'a [u32], cells: usize) -> Functions<'a>
-        requires { (length words.now ≤ 65535) × (cells ≤ 1024) × (get_or tables.now 17 0 ≤ 64) × (get_or tables.now 210 0 ≤ 16) }
-        ensures { (result.words.now ≡ words.now) × (result.directory.now ≡ directory.now) × (result.width ≡ 3 + get_or tables.now 17 0) × (result.count ≡ get_or tables.now 210 0) × (result.cells ≡ cells) }
+        requires { (length words.now ≤ 65535) × (cells ≤ 1024) × (label_count tables.now ≤ 64) × (function_count tables.now ≤ 16) }
+        ensures { (result.words.now ≡ words.now) × (result.directory.now ≡ directory.now) × (result.width ≡ row_width (label_count tables.now)) × (result.count ≡ function_count tables.now) × (result.cells ≡ cells) }
     {
         Functions {
             words,
@@ -112,7 +115,7 @@ fn ready_word(functions: &Functions, i: usize) -> u16
 // A store for the functions' cells. Nothing is done where there is no room for the words below the cells.
 // Stays by place: the words below the cells are a part of the store, and of a part that was lent the contract would have to make the whole again.
 pub fn lay(functions: &Functions, m: &mut [u16])
-    ensures { (length m.new ≡ length m.old) × (36 ≤ length m.old → Prepared functions.now.directory.now m.old m.new functions.now.width functions.now.count functions.now.cells) }
+    ensures { (length m.new ≡ length m.old) × (now_place ≤ length m.old → Prepared functions.now.directory.now m.old m.new functions.now.width functions.now.count functions.now.cells) }
 {
     if m.len() < store::CELLS {
         return;

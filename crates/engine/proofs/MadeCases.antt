@@ -2,10 +2,11 @@
 use mathlib.Core.Path.{◌≡◌, sym, ◌∙◌, subst}
 use mathlib.Core.List.{List}
 use Prim.Native.Nat.{ℕ, ◌/◌, ◌≤◌}
-use lib.ListN.{length, take, drop, get_or}
+use lib.ListN.{length, take, drop}
 use Rattle.std.specs.Prelude.{Result}
 use Rattle.eb3.specs.Blocks.{stream}
 use Rattle.weights.specs.declared.Limits.{Limits}
+use Rattle.arguments.specs.Layout.{label_count, function_count}
 use Rattle.admission.specs.Knowing.{Known}
 use Rattle.runs.specs.declared.admitted.Admitted.{Admitted}
 use Rattle.given.specs.declared.giving.Given.{Given}
@@ -25,7 +26,7 @@ module _ {rules term words₀ : List ℕ} {n : ℕ} {a : Result Given Refusal} {
     described : Described found.rule_set found.running_term (drop 2 (stream rules)) T D s
     described = subst (λ u. Described found.rule_set found.running_term (drop 2 (stream rules)) T D u) (sym es) (d.described found.rule_set found.running_term found.given_so)
 
-    pub given_few : (length s ≤ 65535) × (c ≤ 1024) × (get_or T 17 0 ≤ 64) × (get_or T 210 0 ≤ 16)
+    pub given_few : (length s ≤ 65535) × (c ≤ 1024) × (label_count T ≤ 64) × (function_count T ≤ 16)
     given_few = described_few found.rule_set found.running_term _ T D s described c found.cells_are
 
     pub given_made : {made : Admitted} → made.functions.words.now ≡ drop 2 (stream rules) → made.tables.now ≡ T → made.functions.directory.now ≡ D → made.functions.cells ≡ c

@@ -3,7 +3,7 @@ use mathlib.Core.Path.{◌≡◌, ap, sym, ◌∙◌, subst}
 use mathlib.Core.List.{List}
 use Prim.Native.Nat.{ℕ, ◌≤◌, ◌<◌}
 use native.Mathlib.Omega.{arith}
-use lib.ListN.{length, drop, get_or}
+use lib.ListN.{length, drop}
 use Rattle.eb3.specs.RuleReading.{read_rules}
 use Rattle.eb3.specs.Blocks.{stream, open_blocks}
 use Rattle.eb3.specs.Bytes.{word_count}
@@ -20,6 +20,7 @@ use Rattle.eb3.proofs.Laws.MainRunning.{main_running}
 use Rattle.eb3.specs.Operations.{main_reach, cells_needed}
 use Rattle.eb3.proofs.Laws.Editions.{width_is_1}
 use Rattle.weights.specs.declared.Limits.{Limits}
+use Rattle.arguments.specs.Layout.{label_count, function_count}
 use Rattle.declarations.specs.Directory.{Directory}
 use Rattle.cells.specs.Readying.{few}
 use Rattle.steps.specs.RuledLaws.{tables_few}
@@ -43,7 +44,7 @@ module _ (rules T D : List ℕ) (l : Limits) (k : Known rules T D l) where
   cells_is : l.cells ≡ cells_needed k.rule_set
   cells_is = ap (λ (x : Limits). x.cells) k.sizes
 
-  pub known_tables : (c : ℕ) → c ≡ l.cells → (c ≤ 1024) × (get_or T 17 0 ≤ 64) × (get_or T 210 0 ≤ 16)
+  pub known_tables : (c : ℕ) → c ≡ l.cells → (c ≤ 1024) × (label_count T ≤ 64) × (function_count T ≤ 16)
   known_tables c e =
       let b = tables_few k.rule_set k.well.form (drop 2 (stream rules)) T D k.directory in
       (omega (arith, e, cells_is, few k.rule_set k.well.form), b.0, b.1)

@@ -24,6 +24,7 @@ use Rattle.eb3.specs.Answers.{answered, Moved as Answer_moved, Written}
 use Rattle.eb3.specs.Operations.{cells_needed, cells_given, listed, numbered, writing, moved}
 use Rattle.eb3.specs.Answers.{or_refused}
 use Rattle.eb3.proofs.Laws.Editions.{width_is_1}
+use Rattle.expressions.specs.Stores.{now_place}
 use Rattle.actions.specs.Codes.{action_code, Small}
 use Rattle.actions.specs.CodesLaws.{visible_positive}
 use Rattle.actions.specs.ActionLaws.{action_small}
@@ -161,7 +162,7 @@ module _ (R : RuleSet) (E : Term) (cells : List Value) (t T D s M : List ℕ) (d
       let after : List Value = state_after (Sem_M (attributes R)) cells x.action in
       let st : Stored R after M' = renewed R T ruled x.action good ea cells stored in
       let ec : c ≡ cells_needed R = ruled.cells_are in
-      let room : 36 + c ≤ length M' = omega (arith, l, ec, stored.room) in
+      let room : now_place + c ≤ length M' = omega (arith, l, ec, stored.room) in
       let ey : y ≡ told x.action (size 1 x.successor) =
       tells x.action (action_small R d.form x.action good) ea ∙ ap (told x.action) (ap (λ u. u % 4294967296) ez ∙ size_low R E cells t T D s M d stored k x e) in
       record {

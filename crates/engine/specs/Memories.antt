@@ -1,6 +1,6 @@
 -- The memory at the start, made of a store (document 01, "Memory and the history machine":
 -- at start the empty-trace expressions fill the cells, function by function).
-use Rattle.std.specs.Prelude.{◌≡◌, List, ℕ, ◌+◌, ◌≤◌, get_or}
+use Rattle.std.specs.Prelude.{◌≡◌, List, ℕ, ◌+◌, ◌≤◌}
 use Rattle.std.proofs.Common.{ap, sym, ◌∙◌, subst, arith}
 use Rattle.std.proofs.Math.Option.{none}
 use Rattle.std.proofs.Math.ListN.{length}
@@ -14,7 +14,9 @@ use Rattle.eb3.specs.Spelling.{words}
 use Rattle.eb3.specs.Bytes.{word_count, written}
 use Rattle.eb3.specs.Memory.{cell_room, memory_words}
 use Rattle.eb3.specs.Operations.{cells_needed}
+use Rattle.arguments.specs.Layout.{label_count, function_count}
 use Rattle.declarations.specs.Directory.{Directory, row_width}
+use Rattle.expressions.specs.Stores.{now_place}
 use Rattle.cells.specs.CellLaws.{cells_counted}
 use Rattle.steps.specs.RuledLaws.{labels_there, functions_there}
 use Rattle.cells.specs.Filling.{Filling, Filled}
@@ -26,11 +28,11 @@ use Rattle.cells.specs.ReadyingFills.{start_filling}
 
 -- A lent memory of enough cells holds those of the start, for a rule set of c cells whose stream, tables and directory these are.
 abbrev pub MemoryStarted : List ℕ → List ℕ → List ℕ → ℕ → ℕ → List ℕ → List ℕ → Type 0
-MemoryStarted t T D room c B B' = (R : RuleSet) → Form R → Directory t T D R → c ≡ cells_needed R → 36 + c ≤ room → c ≤ cell_room B → B' ≡ written (memory_words (initial_cells (attributes R))) B
+MemoryStarted t T D room c B B' = (R : RuleSet) → Form R → Directory t T D R → c ≡ cells_needed R → now_place + c ≤ room → c ≤ cell_room B → B' ≡ written (memory_words (initial_cells (attributes R))) B
 
 -- From a store made ready, filled and saved.
-pub memory_started : (t T D M M₁ M₂ B B' : List ℕ) (w n c : ℕ) → w ≡ 3 + get_or T 17 0 → n ≡ get_or T 210 0 → length M₁ ≡ length M → length M₂ ≡ length M₁
-    → (36 ≤ length M → Prepared D M M₁ w n c)
+pub memory_started : (t T D M M₁ M₂ B B' : List ℕ) (w n c : ℕ) → w ≡ row_width (label_count T) → n ≡ function_count T → length M₁ ≡ length M → length M₂ ≡ length M₁
+    → (now_place ≤ length M → Prepared D M M₁ w n c)
     → ((R : RuleSet) → Filling (attributes R) none no_reading t D M₁ w 2 n → Filled (attributes R) none no_reading M₁ M₂)
     → Saved M₂ B B' c → MemoryStarted t T D (length M) c B B'
 unfolding initial_cells
@@ -38,7 +40,7 @@ memory_started t T D M M₁ M₂ B B' w n c ew en l₁ l₂ prepared filled save
     let A = attributes R in
     let cells = initial_cells A in
     let k : length cells ≡ total_cells A = cells_counted A none no_reading (number_of_functions A) in
-    let ew' : w ≡ row_width (length R.labels) = ew ∙ ap (λ x. 3 + x) (labels_there R form t T D d) in
+    let ew' : w ≡ row_width (length R.labels) = ew ∙ ap (λ x. row_width x) (labels_there R form t T D d) in
     let en' : n ≡ length R.functions = en ∙ functions_there R form t T D d in
     let p : Prepared D M M₁ (row_width (length R.labels)) (length R.functions) (total_cells A) = subst (λ x. Prepared D M M₁ (row_width (length R.labels)) (length R.functions) x) ec (subst (λ x. Prepared D M M₁ (row_width (length R.labels)) x c) en' (subst (λ x. Prepared D M M₁ x n c) ew' (prepared (omega arith)))) in
     let f : Filling A none no_reading t D M₁ (row_width (length R.labels)) 2 (length R.functions) = start_filling R form t T D d M M₁ p (omega (arith, l₁, ec)) in

@@ -1,6 +1,7 @@
 // Start: writes main's unfolding and the memory at the start into lent buffers (document 01, "Operations"; "Memory and the history
 // machine").
 ghost use Rattle.std.specs.Prelude.{◌≡◌, ◌*◌, ◌≤◌, length};
+ghost use Rattle.expressions.specs.Stores.{new_store_length};
 ghost use Rattle.engine.specs.Memories.{MemoryStarted, Begun};
 ghost use Rattle.engine.specs.Starting.{StartDone};
 
@@ -34,7 +35,7 @@ const FEW_WORDS: usize = 100;
 // A store for at most 64 cells, or for the most that there may be: a small rule set does not pay for clearing a large array.
 // Stays two branches: a function with the size as a const parameter would repeat the contract of `start_store` for two lines.
 fn start_memory(rules: &Admitted, memory: &mut [u8])
-    ensures { MemoryStarted rules.now.functions.words.now rules.now.tables.now rules.now.functions.directory.now 1060 rules.now.functions.cells memory.old memory.new }
+    ensures { MemoryStarted rules.now.functions.words.now rules.now.tables.now rules.now.functions.directory.now new_store_length rules.now.functions.cells memory.old memory.new }
 {
     if rules.functions.cells <= 64 {
         let mut m = [0u16; FEW_WORDS];

@@ -13,7 +13,7 @@ use Rattle.eb3.specs.Expressions.{Data, Undefined, Constant, Variable, Add, Subt
 use Rattle.eb3.specs.Scopes.{Scope, ArgsInScope}
 use Rattle.eb3.specs.Spelling.{number_words, data_words, args_words, cond_words}
 use Rattle.expressions.specs.declared.valued.Valued.{Valued}
-use Rattle.expressions.specs.Stores.{stored, reading_in, variable_in, environment_in, before_place}
+use Rattle.expressions.specs.Stores.{stored, reading_in, variable_in, environment_in, before_place, now_place}
 use Rattle.expressions.specs.Answering.{value_word, truth, IsValued, answer, Plain, DataAt, CondAt, Evaluated, Judged}
 use Rattle.expressions.specs.Operands.{sum_word, difference_word, equal_word, less_word, Fetched, Paired, Selected, Named, Compared, Joined, Negated}
 use Rattle.expressions.specs.ValueLaws.{word_of_value}
@@ -70,7 +70,7 @@ DataArm variable t M r = Fetched t M r
 DataArm sum t M r = Paired sum_word t M r
 DataArm difference t M r = Paired difference_word t M r
 DataArm selection t M r = Selected t M r
-DataArm present t M r = Named 36 t M r
+DataArm present t M r = Named now_place t M r
 DataArm past t M r = Named (before_place M) t M r
 
 -- A function has one argument.
@@ -112,7 +112,7 @@ module _ (s t M : List ℕ) (r : Valued) (q : t ≡ drop 1 s) where
       })
       at.in_scope.1
       at.in_scope.2
-  by_data (Now f rs) P rest at h = one_argument M 36 f P at.plain t rest r h rs (P.arity f) (ap (λ g. g f) at.plain.one_parameter) at.in_scope.1 (q ∙ ap (drop 1) at.spelled)
+  by_data (Now f rs) P rest at h = one_argument M now_place f P at.plain t rest r h rs (P.arity f) (ap (λ g. g f) at.plain.one_parameter) at.in_scope.1 (q ∙ ap (drop 1) at.spelled)
   by_data (Before f rs) P rest at h = one_argument M (before_place M) f P at.plain t rest r h rs (P.arity f) (ap (λ g. g f) at.plain.one_parameter) at.in_scope.1 (q ∙ ap (drop 1) at.spelled)
 
   module _ (w : ℕ) (first : w ≡ get_or s 0 0) where
@@ -135,7 +135,7 @@ module _ (s t M : List ℕ) (r : Valued) (q : t ≡ drop 1 s) where
     pub data_selection : w ≡ 5 → Selected t M r → Evaluated s M r
     data_selection e h = data_arm selection (ap data_front e) h
 
-    pub data_present : w ≡ 6 → Named 36 t M r → Evaluated s M r
+    pub data_present : w ≡ 6 → Named now_place t M r → Evaluated s M r
     data_present e h = data_arm present (ap data_front e) h
 
     pub data_past : (at : ℕ) → w ≡ 7 → at ≡ before_place M → Named at t M r → Evaluated s M r

@@ -13,7 +13,7 @@ use lib.Dec.{lit<, eqb, ltb}
 use borrow.Author.Tests.{lt-ltb, le-ltb, le-leb, lt-leb, eq-eqb, ne_eqb}
 use Rattle.eb3.specs.Values.{Value, undefined, number, bounded, add, subtract, equal, less, encode, decode}
 use Rattle.eb3.specs.Attributes.{apply_in_domain}
-use Rattle.expressions.specs.Stores.{stored, cell_in, reading_in}
+use Rattle.expressions.specs.Stores.{stored, cell_in, reading_in, row_place, begin_place}
 use Rattle.expressions.specs.Answering.{truth, answer}
 use Rattle.expressions.specs.ValueLaws.{word_of_value}
 use Rattle.expressions.specs.Operands.{sum_word, difference_word, equal_word, less_word}
@@ -202,13 +202,13 @@ module _ (a b r : ℕ) (small_a : a < 65536) where
 
 -- ── the store ──
 
-module _ (M : List ℕ) (at f x n : ℕ) (is_n : n ≡ stored M (4 + 2 * f)) where
-  pub cell_there : (k r : ℕ) → n < 65536 → x < n → k ≡ stored M (4 + 2 * f + 1) → r ≡ stored M (at + (k + x)) → r < 65536
+module _ (M : List ℕ) (at f x n : ℕ) (is_n : n ≡ stored M (row_place f)) where
+  pub cell_there : (k r : ℕ) → n < 65536 → x < n → k ≡ stored M (begin_place f) → r ≡ stored M (at + (k + x)) → r < 65536
       → (r ≡ encode 65535 (reading_in M at f (decode 65534 x ∷ []))) × (r < 65536)
   unfolding reading_in apply_in_domain cell_in
   cell_there k r s h is_k e l =
       let m : x < 65535 = omega arith in
-      let i : stored M (at + (stored M (4 + 2 * f + 1) + x)) ≡ r = ap (λ j. stored M (at + (j + x))) (sym is_k) ∙ sym e in
+      let i : stored M (at + (stored M (begin_place f) + x)) ≡ r = ap (λ j. stored M (at + (j + x))) (sym is_k) ∙ sym e in
       (rw (decode_number x m, ← is_n, lt-ltb x n h, i) (sym (word_of_value r l)), l)
 
   pub cell_outside : x < 65536 → n ≤ x → (65535 ≡ encode 65535 (reading_in M at f (decode 65534 x ∷ []))) × (65535 < 65536)

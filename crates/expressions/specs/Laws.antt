@@ -12,7 +12,7 @@ use Rattle.eb3.specs.Spelling.{data_words, cond_words}
 use Rattle.scan.specs.Checking.{last_of}
 use Rattle.scan.specs.Laws.{last_behind}
 use Rattle.expressions.specs.declared.valued.Valued.{Valued}
-use Rattle.expressions.specs.Stores.{cell_in, reading_in, variable_in, environment_in, before_place}
+use Rattle.expressions.specs.Stores.{cell_in, reading_in, variable_in, environment_in, before_place, now_place}
 use Rattle.expressions.specs.Answering.{value_word, truth, answer, Plain, DataAt, CondAt, Evaluated, Judged}
 
 -- ── words and answers ──
@@ -54,7 +54,7 @@ module _ (M : List ℕ) (P : Scope) (plain : Plain P) where
   data_at_most (Add a b) w = add_at_most 65534 _ _
   data_at_most (Subtract a b) w = subtract_at_most 65534 _ _ (data_at_most a w.0)
   data_at_most (If c a b) w = cond_at_most 65534 (evaluate_cond c (environment_in M)) _ _ (data_at_most a w.1) (data_at_most b w.2)
-  data_at_most (Now f rs) w = reading_at_most M 36 f _
+  data_at_most (Now f rs) w = reading_at_most M now_place f _
   data_at_most (Before f rs) w = reading_at_most M (before_place M) f _
 
 -- ── an answer taken apart ──

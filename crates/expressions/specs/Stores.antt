@@ -1,6 +1,6 @@
 -- The store: all that an expression is evaluated in, in one array of words (document 01, "Values and conditions"; "Memory and the history machine").
--- Words 0 to 2: the variables, 65,535 where there is none. Word 3: where the old cells begin. From word 4 two words for each function: how many cells
--- it has, and where they begin among the cells. From word 36 the cells that now reads; from the place in word 3 those that before reads.
+-- Its places, by their names, are: the variables, 65,535 where there is none; where the old cells begin; a row for each function, how many cells it has,
+-- and where they begin among the cells; the cells that now reads; and from the place where the old cells begin those that before reads.
 -- One array, since each slice that a recursive function is handed costs time and stack at every level.
 use Rattle.std.specs.Prelude.{List, [], ◌∷◌, ℕ, ◌+◌, ◌*◌, get_or}
 use Rattle.eb3.specs.Values.{Value, decode}
@@ -11,18 +11,52 @@ use Rattle.eb3.specs.Attributes.{apply_in_domain}
 unfoldable pub stored : List ℕ → ℕ → ℕ
 stored M i = get_or M i 65535
 
-abbrev pub row_place : ℕ → ℕ
-row_place f = 4 + 2 * f
+-- ── its places, which src/store.rt names for the code ──
 
+-- Variable 0: the parameter of the function whose cells are computed.
+abbrev pub parameter_place : ℕ
+parameter_place = 0
+
+-- Variables 1 and 2: argument i of the action.
+abbrev pub argument_place : ℕ → ℕ
+argument_place i = 1 + i
+
+-- Where the old cells begin.
+abbrev pub old_cells_place : ℕ
+old_cells_place = 3
+
+-- How many words a function's row has.
+abbrev pub row_words : ℕ
+row_words = 2
+
+-- The row of function f: how many cells it has.
+abbrev pub row_place : ℕ → ℕ
+row_place f = 4 + row_words * f
+
+-- In it, where they begin among the cells.
+abbrev pub begin_place : ℕ → ℕ
+begin_place f = row_place f + 1
+
+-- The cells that now reads.
 abbrev pub now_place : ℕ
 now_place = 36
 
+-- The cells that before reads.
 abbrev pub before_place : List ℕ → ℕ
-before_place M = stored M 3
+before_place M = stored M old_cells_place
+
+-- How many words a store has that holds up to 1,024 cells once, those that now reads, or twice.
+abbrev pub new_store_length : ℕ
+new_store_length = 1060
+
+abbrev pub store_length : ℕ
+store_length = 2084
+
+-- ── what is read of it ──
 
 -- Function f's cell of element x, the cells beginning at a place.
 unfoldable pub cell_in : List ℕ → ℕ → ℕ → ℕ → Value
-cell_in M at f x = decode 65534 (stored M (at + (stored M (row_place f + 1) + x)))
+cell_in M at f x = decode 65534 (stored M (at + (stored M (begin_place f) + x)))
 
 -- What a function's name with one argument reads.
 unfoldable pub reading_in : List ℕ → ℕ → Reading

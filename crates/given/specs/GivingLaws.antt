@@ -1,5 +1,5 @@
 -- What was admitted and read of a rule set and a term, put together (document 01, "Operations").
-use Rattle.std.specs.Prelude.{◌≡◌, List, ◌++◌, ℕ, ◌+◌, ◌*◌, ◌≤◌, length, take, drop, get_or, Err, Result}
+use Rattle.std.specs.Prelude.{◌≡◌, List, ◌++◌, ℕ, ◌*◌, ◌≤◌, length, take, drop, Err, Result}
 use Rattle.std.proofs.Math.Path.{refl, ap, sym}
 use Rattle.std.proofs.Common.{◌∙◌, subst, arith}
 use Rattle.eb3.specs.Refusal as Why
@@ -21,6 +21,8 @@ use Rattle.eb3.specs.Operations.{cells_needed, even, term_in}
 use Rattle.eb3.proofs.Laws.Refusals.{Within, picked, and_then_within, or_refused_within, admission_within, refused_within}
 use Rattle.eb3.proofs.Laws.Editions.{width_is_1}
 use Rattle.weights.specs.declared.Limits.{Limits}
+use Rattle.arguments.specs.Layout.{label_count, function_count}
+use Rattle.declarations.specs.Directory.{row_width}
 use Rattle.declarations.specs.Declaring.{Declares}
 use Rattle.cells.specs.Readying.{few}
 use Rattle.steps.specs.Storing.{Ruled}
@@ -126,10 +128,10 @@ module _ (R : RuleSet) (E : Term) (t T D s : List ℕ) (d : Described R E t T D 
       let f : length s ≡ length (words R.edition.width E) = ap length d.term.words_are ∙ ap (λ v. length (words v E)) (sym w) in
       omega (arith, e, f, size_below_reach R.edition.width E, d.term.running.reach_limit)
 
-  pub described_few : (c : ℕ) → c ≡ cells_needed R → (length s ≤ 65535) × (c ≤ 1024) × (get_or T 17 0 ≤ 64) × (get_or T 210 0 ≤ 16)
+  pub described_few : (c : ℕ) → c ≡ cells_needed R → (length s ≤ 65535) × (c ≤ 1024) × (label_count T ≤ 64) × (function_count T ≤ 16)
   described_few c e =
       let b = tables_few R d.form t T D d.directory in
       (omega (arith, described_short), omega (arith, e, few R d.form), b.0, b.1)
 
-  pub described_ruled : (w n c : ℕ) → w ≡ 3 + get_or T 17 0 → n ≡ get_or T 210 0 → c ≡ cells_needed R → Ruled R t T D w n c
+  pub described_ruled : (w n c : ℕ) → w ≡ row_width (label_count T) → n ≡ function_count T → c ≡ cells_needed R → Ruled R t T D w n c
   described_ruled w n c ew en ec = ruled_there R d.form t T D d.directory w n c ew en ec

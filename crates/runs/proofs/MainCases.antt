@@ -5,7 +5,7 @@ use mathlib.Core.Bool.{Bool, true}
 use mathlib.Core.List.{List, [], ◌++◌}
 use Prim.Native.Nat.{ℕ, ◌+◌, ◌-◌, ◌*◌, ◌%◌, ◌≤◌}
 use native.Mathlib.Omega.{arith}
-use lib.ListN.{length, take, drop, get_or, replicate}
+use lib.ListN.{length, take, drop, replicate}
 use Rattle.eb3.specs.Terms.{Term}
 use Rattle.eb3.specs.Cells.{initial_cells, all_values}
 use Rattle.eb3.specs.RuleSets.{RuleSet, attributes}
@@ -27,10 +27,11 @@ use Rattle.eb3.specs.WellFormedness.{WellFormed, Running}
 use Rattle.eb3.specs.Answers.{answered, Ran}
 use Rattle.eb3.specs.Operations.{cells_needed, main_reach}
 use Rattle.eb3.proofs.Laws.Editions.{width_is_1}
-use Rattle.expressions.specs.Stores.{now_place}
+use Rattle.arguments.specs.Layout.{label_count, function_count}
+use Rattle.expressions.specs.Stores.{now_place, store_length}
 use Rattle.cells.specs.Preparing.{Loaded}
 use Rattle.cells.specs.MemoryLaws.{held_words, written_loaded}
-use Rattle.declarations.specs.Directory.{Directory}
+use Rattle.declarations.specs.Directory.{Directory, row_width}
 use Rattle.unfold.specs.Unfolded.{Ready}
 use Rattle.steps.specs.Storing.{Stored, Ruled}
 use Rattle.steps.specs.RuledLaws.{ruled_there}
@@ -171,12 +172,12 @@ MainUnfolded t T spare spare' n = (R : RuleSet) → Ready t T R → length (word
 
 -- What making the cells of the start says, of a store with room for the most cells that there may be, twice.
 abbrev pub CellsStarted : (t D M' : List ℕ) (w functions c : ℕ) → Type 0
-CellsStarted t D M' w functions c = (R : RuleSet) (T : List ℕ) → Ruled R t T D w functions c → now_place + 2 * c ≤ 2084 → Stored R (initial_cells (attributes R)) M'
+CellsStarted t D M' w functions c = (R : RuleSet) (T : List ℕ) → Ruled R t T D w functions c → now_place + 2 * c ≤ store_length → Stored R (initial_cells (attributes R)) M'
 
 -- What was done before the run.
 pub record Begun (t T D : List ℕ) (w functions c n : ℕ) (ws ws₁ M spare spare₁ : List ℕ) : Type 0 where
-  pub width_is : w ≡ 3 + get_or T 17 0
-  pub functions_are : functions ≡ get_or T 210 0
+  pub width_is : w ≡ row_width (label_count T)
+  pub functions_are : functions ≡ function_count T
   pub few : c ≤ 1024
   pub unfolded : MainUnfolded t T spare spare₁ n
   pub loaded : Loaded spare₁ ws ws₁ 0 n

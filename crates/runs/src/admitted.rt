@@ -1,6 +1,8 @@
 // The rule set that was admitted, in the form that the later steps use, and what a run of it is given (document 01, "Operations": each begins with Admit; Run;
 // document 02, K1).
 ghost use Rattle.std.specs.Prelude.{◌≡◌, ◌+◌, ◌≤◌, length, get_or};
+ghost use Rattle.arguments.specs.Layout.{label_count, function_count};
+ghost use Rattle.declarations.specs.Directory.{row_width};
 
 use arguments::layout::TABLES;
 use cells::Functions;
@@ -12,8 +14,8 @@ pub struct Admitted<'a> {
     pub functions: Functions<'a>,
     /// The tables that declare it: an array and no slice, so that the compiler knows their number, and no recursion keeps it in its frames.
     pub tables: &'a [u32; TABLES],
-    pub ghost labels_counted: { functions.width ≡ 3 + get_or tables.now 17 0 },
-    pub ghost functions_counted: { functions.count ≡ get_or tables.now 210 0 },
+    pub ghost labels_counted: { functions.width ≡ row_width (label_count tables.now) },
+    pub ghost functions_counted: { functions.count ≡ function_count tables.now },
     pub ghost few_cells: { functions.cells ≤ 1024 },
 }
 
@@ -36,7 +38,7 @@ impl<'a> Admitted<'a> {
         directory: &'a [u32],
         cells: usize,
     ) -> Admitted<'a>
-        requires { (length words.now ≤ 65535) × (cells ≤ 1024) × (get_or tables.now 17 0 ≤ 64) × (get_or tables.now 210 0 ≤ 16) }
+        requires { (length words.now ≤ 65535) × (cells ≤ 1024) × (label_count tables.now ≤ 64) × (function_count tables.now ≤ 16) }
         ensures stream { result.functions.words.now ≡ words.now }
         ensures declared { result.tables.now ≡ tables.now }
         ensures places { result.functions.directory.now ≡ directory.now }

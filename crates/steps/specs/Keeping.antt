@@ -2,7 +2,7 @@
 -- machine"; "Values and conditions": variables).
 use Rattle.std.specs.Prelude.{◌≡◌, List, ℕ, ◌+◌, ◌≤◌, ◌<◌, length, get_or}
 use Rattle.eb3.specs.Terms.{VisibleAction, visible}
-use Rattle.expressions.specs.Stores.{stored, now_place}
+use Rattle.expressions.specs.Stores.{stored, now_place, argument_place, old_cells_place}
 use Rattle.actions.specs.Codes.{action_code, Small}
 
 -- c cells, copied behind themselves.
@@ -12,5 +12,5 @@ pub record Kept (M M' : List ℕ) (c : ℕ) : Type 0 where
 
 -- Variables 1 and 2 are the arguments of the action with this number.
 pub record Given (M M' : List ℕ) (code : ℕ) : Type 0 where
-  pub arguments_there : (a : VisibleAction) → Small (visible a) → code ≡ action_code (visible a) → (i : ℕ) → i < length a.arguments → stored M' (1 + i) ≡ get_or a.arguments i 0
-  pub kept_above : (i : ℕ) → 3 ≤ i → stored M' i ≡ stored M i
+  pub arguments_there : (a : VisibleAction) → Small (visible a) → code ≡ action_code (visible a) → (i : ℕ) → i < length a.arguments → stored M' (argument_place i) ≡ get_or a.arguments i 0
+  pub kept_above : (i : ℕ) → old_cells_place ≤ i → stored M' i ≡ stored M i

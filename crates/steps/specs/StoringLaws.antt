@@ -1,5 +1,5 @@
 -- What a rule set's form says of the cells in a store (document 01, "Memory and the history machine").
-use Rattle.std.specs.Prelude.{◌≡◌, List, [], ℕ, ◌+◌, ◌*◌, ◌≤◌, ◌<◌, length}
+use Rattle.std.specs.Prelude.{◌≡◌, List, [], ℕ, ◌≤◌, ◌<◌, length}
 use Rattle.std.proofs.Common.{sym, subst, arith}
 use Rattle.std.proofs.Math.Option.{none, some}
 use Rattle.eb3.specs.Values.{Value}
@@ -14,7 +14,7 @@ use Rattle.eb3.proofs.Laws.RuleSets.{functions_counted}
 use Rattle.eb3.proofs.Laws.Running.{expressions_in_scope, elements_small, parameters_small}
 use Rattle.eb3.specs.WellFormedness.{WellFormedAction, Form}
 use Rattle.eb3.proofs.Laws.Editions.{top_is_65534}
-use Rattle.expressions.specs.Stores.{stored}
+use Rattle.expressions.specs.Stores.{stored, row_place}
 use Rattle.cells.specs.Layout.{Laid}
 use Rattle.cells.specs.CellLaws.{cells_counted}
 use Rattle.cells.specs.Reads.{row_cells}
@@ -25,7 +25,7 @@ module _ (R : RuleSet) (form : Form R) where
   A = attributes R
 
   -- A function's row in a store says at most 64 cells.
-  pub rows_few : (M : List ℕ) → Laid A M → (f : ℕ) → f < length R.functions → stored M (4 + 2 * f) ≤ 64
+  pub rows_few : (M : List ℕ) → Laid A M → (f : ℕ) → f < length R.functions → stored M (row_place f) ≤ 64
   rows_few M laid f h =
       let l : f < number_of_functions A = omega (arith, functions_counted R) in
       subst (λ n. n ≤ 64) (row_cells A M f (laid f l)) (domain_of R form f h).few_cells

@@ -2,6 +2,7 @@
 // cells are computed anew by the expressions for its label (document 01, "Memory and the history machine": now reads new cells, before
 // reads old ones).
 ghost use Rattle.std.specs.Prelude.{◌≡◌, ◌+◌, ◌*◌, ◌≤◌, length};
+ghost use Rattle.expressions.specs.Stores.{now_place};
 ghost use Rattle.steps.specs.Storing.{StoreRenewed};
 ghost use Rattle.steps.specs.Keeping.{Kept, Given};
 
@@ -14,7 +15,7 @@ use expressions::store;
 // Stays, here and below: that a lent array keeps its length is said by each function that writes into one. It is a fact of what the array was and what it is
 // then, and a field of a struct holds facts of one moment.
 fn keep(m: &mut [u16], c: usize)
-    requires { 36 + 2 * c ≤ length m.old }
+    requires { now_place + 2 * c ≤ length m.old }
     ensures { (length m.new ≡ length m.old) × Kept m.old m.new c }
 {
     copy_cells(m, store::CELLS, store::CELLS + c, c);
@@ -22,7 +23,7 @@ fn keep(m: &mut [u16], c: usize)
 
 // The arguments of an action as variables 1 and 2; variable 0 is a function's parameter.
 fn give(m: &mut [u16], code: u32)
-    requires { 36 ≤ length m.old }
+    requires { now_place ≤ length m.old }
     ensures { (length m.new ≡ length m.old) × Given m.old m.new code }
 {
     m[store::FIRST_ARGUMENT] = (argument_at(code, 0) % 65536) as u16;
