@@ -13,7 +13,7 @@ use Rattle.eb3.specs.WellFormedness.{Form, Running as RunningTerm}
 use Rattle.eb3.specs.TermReading.{given_term, leaf_of, given_event}
 use Rattle.eb3.proofs.Laws.TermReading.{given_term_exact}
 use Rattle.eb3.proofs.Laws.Editions.{width_is_1}
-use Rattle.arguments.specs.Tables.{declared}
+use Rattle.arguments.specs.Tables.{edition_in, declared}
 use Rattle.declarations.specs.Declaring.{Declares}
 use Rattle.declarations.specs.DeclaringLaws.{declared_alike}
 use Rattle.terms.specs.declared.Given.{Given}
@@ -31,54 +31,54 @@ Runs None = ⊥
 
 module _ (T s : List ℕ) (R : RuleSet) (form : Form R) (d : Declares T R) where
   -- The tables read a given term as the rule set does.
-  at_rules : (g : Option Given) → g ≡ given (given_term (declared T) s) → g ≡ given (given_term R s)
-  at_rules g e = e ∙ ap given (given_term_alike (declared T) R (declared_alike T R d) s)
+  at_rules : (g : Option Given) → g ≡ given (edition_in T).width (given_term (declared T) s) → g ≡ given R.edition.width (given_term R s)
+  at_rules g e = e ∙ (λ i. given (sym d.same_edition i).width (given_term_alike (declared T) R (declared_alike T R d) s i))
 
   -- No term is no event.
-  none_given : None ≡ given (given_term R s) → given_event R s ≡ none
+  none_given : None ≡ given R.edition.width (given_term R s) → given_event R s ≡ none
   unfolding given event_of
   none_given e = event_is_leaf R form s ∙ go (given_term R s) e
     where
-      go : (o : Optional Term) → None ≡ given o → event_of o ≡ none
+      go : (o : Optional Term) → None ≡ given R.edition.width o → event_of o ≡ none
       go none f = refl
       go (some E) f = absurd (subst Runs (sym f) tt)
 
   -- A term that the words spell, and the event that it is.
   record Spelt (E : Term) : Type 0 where
-    pub spelled : s ≡ words 1 E
+    pub spelled : s ≡ words R.edition.width E
     pub running : RunningTerm R E
     pub event : given_event R s ≡ leaf_of E
 
-  some_given : (x : Given) → Some x ≡ given (given_term R s) → (E : Term) × Spelt E
+  some_given : (x : Given) → Some x ≡ given R.edition.width (given_term R s) → (E : Term) × Spelt E
   unfolding given event_of
   some_given x e = go (given_term R s) refl
     where
       go : (o : Optional Term) → given_term R s ≡ o → (E : Term) × Spelt E
-      go none f = absurd (subst Runs (e ∙ ap given f) tt)
+      go none f = absurd (subst Runs (e ∙ ap (given R.edition.width) f) tt)
       go (some E) f =
           let z : (s ≡ words R.edition.width E) × RunningTerm R E = (given_term_exact R (positive R form s) s E).0 f in
-          (E, record { spelled = z.0 ∙ ap (λ w. words w E) (width_is_1 form); running = z.1; event = event_is_leaf R form s ∙ ap event_of f })
+          (E, record { spelled = z.0; running = z.1; event = event_is_leaf R form s ∙ ap event_of f })
 
   module _ (E : Term) (t : Spelt E) where
     internal_event : get_or s 0 0 ≡ 20 → Some 0 ≡ event_as (given_event R s)
     unfolding event_as action_code
-    internal_event w = sym (ap event_as (t.event ∙ internal_first E (sym (ap (λ u. get_or u 0 0) t.spelled) ∙ w)))
+    internal_event w = sym (ap event_as (t.event ∙ internal_first R.edition.width E (sym (ap (λ u. get_or u 0 0) t.spelled) ∙ w)))
 
     other_event : (get_or s 0 0 ≡ 20 → ⊥) → (get_or s 0 0 ≡ 21 → ⊥) → None ≡ event_as (given_event R s)
     unfolding event_as
-    other_event h k = sym (ap event_as (t.event ∙ other_first E (λ w. h (ap (λ u. get_or u 0 0) t.spelled ∙ w)) (λ w. k (ap (λ u. get_or u 0 0) t.spelled ∙ w))))
+    other_event h k = sym (ap event_as (t.event ∙ other_first R.edition.width E (λ w. h (ap (λ u. get_or u 0 0) t.spelled ∙ w)) (λ w. k (ap (λ u. get_or u 0 0) t.spelled ∙ w))))
 
   action_there : (a : VisibleAction) → Spelt (Perform a) → ActionAt (drop 1 s) a []
   unfolding words
   action_there a t = record {
     small = action_small R form (visible a) t.running.form;
-    spelled = ap (drop 1) t.spelled ∙ ap (λ u. a.label ∷ u) (sym (append-nil (arguments_words 1 a.arguments)));
+    spelled = ap (drop 1) t.spelled ∙ ap (λ u. a.label ∷ u) (ap (λ w. arguments_words w a.arguments) (width_is_1 form) ∙ sym (append-nil (arguments_words 1 a.arguments)));
     closed = λ z. let w : ⊥ = omega arith in w;
   }
 
   action_event : (E : Term) → Spelt E → get_or s 0 0 ≡ 21 → (code : ℕ) → ((a : VisibleAction) (rest : List ℕ) → ActionAt (drop 1 s) a rest → code ≡ action_code (visible a)) → Some code ≡ event_as (given_event R s)
   unfolding event_as
-  action_event E t w code h = go (action_first E (sym (ap (λ u. get_or u 0 0) t.spelled) ∙ w))
+  action_event E t w code h = go (action_first R.edition.width E (sym (ap (λ u. get_or u 0 0) t.spelled) ∙ w))
     where
       go : (a : VisibleAction) × (E ≡ Perform a) → Some code ≡ event_as (given_event R s)
       go x =
@@ -87,7 +87,7 @@ module _ (T s : List ℕ) (R : RuleSet) (form : Form R) (d : Declares T R) where
 
 -- ── the ways of returning ──
 
-module _ (T s : List ℕ) (g : Option Given) (e : g ≡ given (given_term (declared T) s)) where
+module _ (T s : List ℕ) (g : Option Given) (e : g ≡ given (edition_in T).width (given_term (declared T) s)) where
   pub given_none : g ≡ None → (R : RuleSet) → Form R → Declares T R → None ≡ event_as (given_event R s)
   unfolding event_as
   given_none f R form d = sym (ap event_as (none_given T s R form d (sym f ∙ at_rules T s R form d g e)))

@@ -54,35 +54,35 @@ module _ (R : RuleSet) (form : Form R) (s : List ℕ) where
 
 -- ── the first word ──
 
-pub internal_first : (E : Term) → get_or (words 1 E) 0 0 ≡ 20 → leaf_of E ≡ some internal
+pub internal_first : (w : ℕ) (E : Term) → get_or (words w E) 0 0 ≡ 20 → leaf_of E ≡ some internal
 unfolding words
-internal_first Done e = absurd (let z : ⊥ = omega arith in z)
-internal_first Internal e = refl
-internal_first (Perform a) e = absurd (let z : ⊥ = omega arith in z)
-internal_first (Sequence E F) e = absurd (let z : ⊥ = omega arith in z)
-internal_first (Choice E F) e = absurd (let z : ⊥ = omega arith in z)
-internal_first (Star E) e = absurd (let z : ⊥ = omega arith in z)
-internal_first (Parallel Δ E F) e = absurd (let z : ⊥ = omega arith in z)
-internal_first (Guard C E) e = absurd (let z : ⊥ = omega arith in z)
+internal_first w Done e = absurd (let z : ⊥ = omega arith in z)
+internal_first w Internal e = refl
+internal_first w (Perform a) e = absurd (let z : ⊥ = omega arith in z)
+internal_first w (Sequence E F) e = absurd (let z : ⊥ = omega arith in z)
+internal_first w (Choice E F) e = absurd (let z : ⊥ = omega arith in z)
+internal_first w (Star E) e = absurd (let z : ⊥ = omega arith in z)
+internal_first w (Parallel Δ E F) e = absurd (let z : ⊥ = omega arith in z)
+internal_first w (Guard C E) e = absurd (let z : ⊥ = omega arith in z)
 
-pub action_first : (E : Term) → get_or (words 1 E) 0 0 ≡ 21 → (a : VisibleAction) × (E ≡ Perform a)
+pub action_first : (w : ℕ) (E : Term) → get_or (words w E) 0 0 ≡ 21 → (a : VisibleAction) × (E ≡ Perform a)
 unfolding words
-action_first Done e = absurd (let z : ⊥ = omega arith in z)
-action_first Internal e = absurd (let z : ⊥ = omega arith in z)
-action_first (Perform a) e = (a, refl)
-action_first (Sequence E F) e = absurd (let z : ⊥ = omega arith in z)
-action_first (Choice E F) e = absurd (let z : ⊥ = omega arith in z)
-action_first (Star E) e = absurd (let z : ⊥ = omega arith in z)
-action_first (Parallel Δ E F) e = absurd (let z : ⊥ = omega arith in z)
-action_first (Guard C E) e = absurd (let z : ⊥ = omega arith in z)
+action_first w Done e = absurd (let z : ⊥ = omega arith in z)
+action_first w Internal e = absurd (let z : ⊥ = omega arith in z)
+action_first w (Perform a) e = (a, refl)
+action_first w (Sequence E F) e = absurd (let z : ⊥ = omega arith in z)
+action_first w (Choice E F) e = absurd (let z : ⊥ = omega arith in z)
+action_first w (Star E) e = absurd (let z : ⊥ = omega arith in z)
+action_first w (Parallel Δ E F) e = absurd (let z : ⊥ = omega arith in z)
+action_first w (Guard C E) e = absurd (let z : ⊥ = omega arith in z)
 
-pub other_first : (E : Term) → (get_or (words 1 E) 0 0 ≡ 20 → ⊥) → (get_or (words 1 E) 0 0 ≡ 21 → ⊥) → leaf_of E ≡ none
+pub other_first : (w : ℕ) (E : Term) → (get_or (words w E) 0 0 ≡ 20 → ⊥) → (get_or (words w E) 0 0 ≡ 21 → ⊥) → leaf_of E ≡ none
 unfolding words
-other_first Done h k = refl
-other_first Internal h k = absurd (h refl)
-other_first (Perform a) h k = absurd (k refl)
-other_first (Sequence E F) h k = refl
-other_first (Choice E F) h k = refl
-other_first (Star E) h k = refl
-other_first (Parallel Δ E F) h k = refl
-other_first (Guard C E) h k = refl
+other_first w Done h k = refl
+other_first w Internal h k = absurd (h refl)
+other_first w (Perform a) h k = absurd (k refl)
+other_first w (Sequence E F) h k = refl
+other_first w (Choice E F) h k = refl
+other_first w (Star E) h k = refl
+other_first w (Parallel Δ E F) h k = refl
+other_first w (Guard C E) h k = refl

@@ -27,7 +27,7 @@ use Rattle.eb3.proofs.Laws.Answers.{not_both, answered_injective}
 use Rattle.eb3.specs.Operations.{term_in}
 use Rattle.eb3.specs.Answers.{or_refused}
 use Rattle.eb3.proofs.Laws.Editions.{width_is_1}
-use Rattle.arguments.specs.Tables.{declared}
+use Rattle.arguments.specs.Tables.{edition_in, declared}
 use Rattle.declarations.specs.Declaring.{Declares}
 use Rattle.declarations.specs.DeclaringLaws.{declared_alike}
 use Rattle.cells.specs.Preparing.{Loaded}
@@ -54,21 +54,21 @@ over_limit n m f h = go (dec_lt 8192 n)
 
 -- ── what the reading says ──
 
-given_wrong : (o : Optional Term) → None ≡ given o → o ≡ none
+given_wrong : (w : ℕ) (o : Optional Term) → None ≡ given w o → o ≡ none
 unfolding given
-given_wrong none e = refl
-given_wrong (some E) e = absurd (let z : ◌≡◌ {A = ℕ} 0 1 = cc in omega arith)
+given_wrong w none e = refl
+given_wrong w (some E) e = absurd (let z : ◌≡◌ {A = ℕ} 0 1 = cc in omega arith)
 
-given_running : (o : Optional Term) (x : Weighed) → Some x ≡ given o → (E : Term) × (o ≡ some E) × (x.reach ≡ reach 1 E)
+given_running : (w : ℕ) (o : Optional Term) (x : Weighed) → Some x ≡ given w o → (E : Term) × (o ≡ some E) × (x.reach ≡ reach w E)
 unfolding given
-given_running none x e = absurd (let z : ◌≡◌ {A = ℕ} 0 1 = cc in omega arith)
-given_running (some E) x e =
-    let q : ◌≡◌ {A = Weighed} x (record { reach = reach 1 E; breadth = breadth E }) = cc in
+given_running w none x e = absurd (let z : ◌≡◌ {A = ℕ} 0 1 = cc in omega arith)
+given_running w (some E) x e =
+    let q : ◌≡◌ {A = Weighed} x (record { reach = reach w E; breadth = breadth E }) = cc in
     (E, refl, ap (λ y. y.reach) q)
 
 module _ (R : RuleSet) (form : Form R) (c : ℕ) (term ws : List ℕ) where
-  by_answer : (a : Answer Term) (r : Result Given Refusal) → term_in R term ≡ a → r ≡ checked_as c a → ((E : Term) → a ≡ answered E → Spelled R E (take (word_count term) ws)) → TermChecked R c term ws r
-  by_answer a r e h s = record { answer = h ∙ ap (checked_as c) (sym e); spelled = λ E f. s E (sym e ∙ f) }
+  by_answer : (a : Answer Term) (r : Result Given Refusal) → term_in R term ≡ a → r ≡ checked_as R.edition.width c a → ((E : Term) → a ≡ answered E → Spelled R E (take (word_count term) ws)) → TermChecked R c term ws r
+  by_answer a r e h s = record { answer = h ∙ ap (checked_as R.edition.width c) (sym e); spelled = λ E f. s E (sym e ∙ f) }
 
   refused_so : term_in R term ≡ refused Refusal.term → TermChecked R c term ws (Err Why.Term)
   unfolding checked_as refusal
@@ -83,10 +83,10 @@ module _ (R : RuleSet) (form : Form R) (c : ℕ) (term ws : List ℕ) where
         ap (λ b. pick b (or_refused Refusal.term (given_term R (words_in term))) (refused Refusal.term)) (eq-eqb (length term % 2) 0 ev)
         ∙ ap (or_refused Refusal.term) e
 
-    read_so : (E : Term) → given_term R (words_in term) ≡ some E → (words_in term ≡ words 1 E) × Running R E
+    read_so : (E : Term) → given_term R (words_in term) ≡ some E → (words_in term ≡ words R.edition.width E) × Running R E
     read_so E e =
         let p = (given_term_exact R (omega (arith, width_is_1 form)) (words_in term) E).0 e in
-        (p.0 ∙ ap (λ w. words w E) (width_is_1 form), p.1)
+        (p.0, p.1)
 
     pub checked_long : 8192 < word_count term → TermChecked R c term ws (Err Why.Term)
     checked_long h = refused_so (by_term none (go (given_term R (words_in term)) refl))
@@ -97,17 +97,17 @@ module _ (R : RuleSet) (form : Form R) (c : ℕ) (term ws : List ℕ) where
             let p = (given_term_exact R (omega (arith, width_is_1 form)) (words_in term) E).0 e in
             absurd (let z : ⊥ = omega (arith, words_counted term, ap length p.0, words_length R E p.1.form, size_below_reach R.edition.width E, p.1.reach_limit) in z)
 
-    module _ (T : List ℕ) (d : Declares T R) (s : List ℕ) (same : s ≡ words_in term) (g : Option Weighed) (e : g ≡ given (given_term (declared T) s)) where
-      told : g ≡ given (given_term R (words_in term))
-      told = e ∙ ap given (given_term_alike (declared T) R (declared_alike T R d) s ∙ ap (given_term R) same)
+    module _ (T : List ℕ) (d : Declares T R) (s : List ℕ) (same : s ≡ words_in term) (g : Option Weighed) (e : g ≡ given (edition_in T).width (given_term (declared T) s)) where
+      told : g ≡ given R.edition.width (given_term R (words_in term))
+      told = e ∙ (λ i. given (sym d.same_edition i).width (given_term_alike (declared T) R (declared_alike T R d) s i)) ∙ ap (λ u. given R.edition.width (given_term R u)) same
 
       pub checked_wrong : g ≡ None → TermChecked R c term ws (Err Why.Term)
-      checked_wrong f = refused_so (by_term none (given_wrong (given_term R (words_in term)) (sym f ∙ told)))
+      checked_wrong f = refused_so (by_term none (given_wrong R.edition.width (given_term R (words_in term)) (sym f ∙ told)))
 
       pub checked_running : (x : Weighed) (z : ℕ) → g ≡ Some x → z ≡ x.reach → take (word_count term) ws ≡ s → TermChecked R c term ws (found_term c z)
       unfolding checked_as
       checked_running x z f ez l =
-          let p = given_running (given_term R (words_in term)) x (sym f ∙ told) in
+          let p = given_running R.edition.width (given_term R (words_in term)) x (sym f ∙ told) in
           let q = read_so p.0 p.1 in
           by_answer (answered p.0) (found_term c z) (by_term (some p.0) p.1) (ap (found_term c) (ez ∙ p.2))
           (λ E h. subst (λ F. Spelled R F (take (word_count term) ws)) (answered_injective p.0 E h) (record { words_are = l ∙ same ∙ q.0; running = q.1 }))

@@ -21,19 +21,19 @@ use Rattle.refusals.specs.Numbers.{refusal}
 abbrev pub found_term : ℕ → ℕ → Result Given Refusal
 found_term c g = Ok (record { cells = c; reach = g })
 
--- The cells of its rule set and the term's reach, or the refusal.
-unfoldable pub checked_as : ℕ → Answer Term → Result Given Refusal
-checked_as c (refused k) = Err (refusal k)
-checked_as c (answered E) = found_term c (reach 1 E)
+-- The cells of its rule set and the term's reach, or the refusal; a constant has `width` words.
+unfoldable pub checked_as : ℕ → ℕ → Answer Term → Result Given Refusal
+checked_as width c (refused k) = Err (refusal k)
+checked_as width c (answered E) = found_term c (reach width E)
 
 -- s is a running term of R.
 pub record Spelled (R : RuleSet) (E : Term) (s : List ℕ) : Type 0 where
-  pub words_are : s ≡ words 1 E
+  pub words_are : s ≡ words R.edition.width E
   pub running : Running R E
 
 -- Of a lent array of words that is ws afterwards.
 pub record TermChecked (R : RuleSet) (c : ℕ) (term ws : List ℕ) (r : Result Given Refusal) : Type 0 where
-  pub answer : r ≡ checked_as c (term_in R term)
+  pub answer : r ≡ checked_as R.edition.width c (term_in R term)
   pub spelled : (E : Term) → term_in R term ≡ answered E → Spelled R E (take (word_count term) ws)
 
 -- ── rule set and term ──
@@ -43,7 +43,7 @@ given_in rules term = and_then (admission rules) λ R. and_then (term_in R term)
 
 unfoldable pub given_as : Answer (RuleSet × Term) → Result Given Refusal
 given_as (refused k) = Err (refusal k)
-given_as (answered p) = found_term (cells_needed p.0) (reach 1 p.1)
+given_as (answered p) = found_term (cells_needed p.0) (reach p.0.edition.width p.1)
 
 -- What is known of both: the stream, the tables and the directory, and the term's words.
 pub record Described (R : RuleSet) (E : Term) (t T D s : List ℕ) : Type 0 where

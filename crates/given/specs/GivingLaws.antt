@@ -48,12 +48,12 @@ module _ (rules term words₀ : List ℕ) (n : ℕ) (words' T D ws : List ℕ) (
     unfolding and_then
     read_so = ap (λ a. and_then a λ Q. and_then (term_in Q term) λ E. answered (Q, E)) k.admitted_as
 
-    as_checked : (c : ℕ) → c ≡ cells_needed R → (a : Answer Term) → checked_as c a ≡ given_as (and_then a λ E. answered (R, E))
+    as_checked : (c : ℕ) → c ≡ cells_needed R → (a : Answer Term) → checked_as R.edition.width c a ≡ given_as (and_then a λ E. answered (R, E))
     unfolding checked_as given_as and_then
     as_checked c e (refused j) = refl
-    as_checked c e (answered E) = λ i. checked_as (e i) (answered E)
+    as_checked c e (answered E) = λ i. checked_as R.edition.width (e i) (answered E)
 
-    described_so : TermChecked R l.cells term ws (checked_as l.cells (term_in R term)) → (Q : RuleSet) (E : Term) → given_in rules term ≡ answered (Q, E) → Described Q E (drop 2 (stream rules)) T D (take (word_count term) ws)
+    described_so : TermChecked R l.cells term ws (checked_as R.edition.width l.cells (term_in R term)) → (Q : RuleSet) (E : Term) → given_in rules term ≡ answered (Q, E) → Described Q E (drop 2 (stream rules)) T D (take (word_count term) ws)
     described_so h Q E e =
         let p = and_then_answered (term_in R term) (λ F. answered (R, F)) (Q, E) (sym read_so ∙ e) in
         let q : ◌≡◌ {A = RuleSet × Term} (R, p.0) (Q, E) = answered_injective (R, p.0) (Q, E) p.2 in
@@ -64,7 +64,7 @@ module _ (rules term words₀ : List ℕ) (n : ℕ) (words' T D ws : List ℕ) (
     given_checked c r ec check =
         let h : TermChecked R c term ws r = check R k.well.form k.directory.declares in
         let cells_is : l.cells ≡ cells_needed R = ap (λ (x : Limits). x.cells) k.sizes in
-        let g : TermChecked R l.cells term ws (checked_as l.cells (term_in R term)) =
+        let g : TermChecked R l.cells term ws (checked_as R.edition.width l.cells (term_in R term)) =
         record { answer = refl; spelled = h.spelled } in
         record {
           answer = h.answer ∙ as_checked c (ec ∙ cells_is) (term_in R term) ∙ ap given_as (sym read_so);
@@ -100,13 +100,13 @@ pub record Found (a : Answer (RuleSet × Term)) (c g : ℕ) : Type 0 where
   pub running_term : Term
   pub given_so : a ≡ answered (rule_set, running_term)
   pub cells_are : c ≡ cells_needed rule_set
-  pub reach_is : g ≡ reach 1 running_term
+  pub reach_is : g ≡ reach rule_set.edition.width running_term
 
 found_from : (a : Answer (RuleSet × Term)) (c g : ℕ) → found_term c g ≡ given_as a → Found a c g
 unfolding given_as
 found_from (refused j) c g e = absurd (let z : ◌≡◌ {A = ℕ} 0 1 = cc in omega arith)
 found_from (answered p) c g e =
-    let q : ◌≡◌ {A = Given} (record { cells = c; reach = g }) (record { cells = cells_needed p.0; reach = reach 1 p.1 }) = cc in
+    let q : ◌≡◌ {A = Given} (record { cells = c; reach = g }) (record { cells = cells_needed p.0; reach = reach p.0.edition.width p.1 }) = cc in
     record { rule_set = p.0; running_term = p.1; given_so = refl; cells_are = ap (λ x. x.cells) q; reach_is = ap (λ x. x.reach) q }
 
 module _ (rules term words₀ : List ℕ) (n : ℕ) (r : Result Given Refusal) (words' T D ws : List ℕ) (d : GivenDone rules term words₀ n r words' T D ws) where
@@ -123,9 +123,8 @@ module _ (rules term words₀ : List ℕ) (n : ℕ) (r : Result Given Refusal) (
 module _ (R : RuleSet) (E : Term) (t T D s : List ℕ) (d : Described R E t T D s) where
   pub described_short : length s ≤ 8192
   described_short =
-      let w : R.edition.width ≡ 1 = width_is_1 d.form in
       let e : length (words R.edition.width E) ≡ size R.edition.width E = words_length R E d.term.running.form in
-      let f : length s ≡ length (words R.edition.width E) = ap length d.term.words_are ∙ ap (λ v. length (words v E)) (sym w) in
+      let f : length s ≡ length (words R.edition.width E) = ap length d.term.words_are in
       omega (arith, e, f, size_below_reach R.edition.width E, d.term.running.reach_limit)
 
   pub described_few : (c : ℕ) → c ≡ cells_needed R → (length s ≤ 65535) × (c ≤ 1024) × (label_count T ≤ 64) × (function_count T ≤ 16)

@@ -18,7 +18,7 @@ unfoldable pub weighed_running : Read Term → ℕ
 weighed_running (refused k) = wrong
 weighed_running (taken E t) = length t + 65536 * ((measure_running (sat cap) 1 E).reach + 131072 * (measure_running (sat cap) 1 E).breadth)
 
--- A given term's reach and breadth, or that it is none.
-unfoldable pub given : Optional Term → Option Given
-given none = None
-given (some E) = Some (record { reach = reach 1 E; breadth = breadth E })
+-- A given term's reach and breadth, or that it is none; a constant has `width` words.
+unfoldable pub given : ℕ → Optional Term → Option Given
+given width none = None
+given width (some E) = Some (record { reach = reach width E; breadth = breadth E })

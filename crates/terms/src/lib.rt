@@ -10,7 +10,7 @@ ghost use Rattle.eb3.specs.RuleSets.{sizes_of};
 ghost use Rattle.eb3.specs.Reading.{giving, both};
 ghost use Rattle.eb3.specs.TermReading.{elements_of, TermKind, action_of, term_by, read_term, given_term};
 ghost use Rattle.weights.specs.Weighing.{measure};
-ghost use Rattle.arguments.specs.Tables.{declared};
+ghost use Rattle.arguments.specs.Tables.{edition_in, declared};
 ghost use Rattle.terms.specs.Given.{weighed_running, given};
 ghost use Rattle.terms.specs.Answers.{left_after, packed, Packs, weighed_pair};
 ghost use Rattle.terms.specs.Lending.{Kept, said};
@@ -195,7 +195,7 @@ impl Weigher<'_> {
 
 // Exactly one running term of the rule set that the tables declare, within the limits.
 pub fn given_term(s: &[u16], tb: &[u32]) -> Option<Given>
-    ensures { result ≡ given (given_term (declared tb.now) s.now) }
+    ensures { result ≡ given (edition_in tb.now).width (given_term (declared tb.now) s.now) }
 {
     // No term has more words than its reach.
     if s.len() > Limits::REACH as usize {
