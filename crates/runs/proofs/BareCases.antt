@@ -35,7 +35,7 @@ use Rattle.runs.specs.MainProcess.{Finished}
 use Rattle.runs.specs.Starts.{RunsBare}
 use Rattle.runs.specs.declared.main_process.Totals.{Totals}
 use Rattle.runs.specs.declared.Tally.{Tally}
-use Rattle.runs.proofs.MainCases.{start, main_there, main_reaches, main_size, spelled_length, run_fits, main_ended}
+use Rattle.runs.proofs.MainCases.{start, main_there, main_size, spelled_length, run_fits, main_ended}
 
 -- ── one part ──
 
@@ -51,7 +51,7 @@ module _ (u : List ℕ) (P : Scope) where
   by_word : (x : ℕ) → get_or u 0 0 ≡ x → whole_word u ≡ cond (eqb x 30) 30 (32 + length u)
   by_word x e = ap (λ y. cond (eqb y 30) 30 (32 + length u)) e
 
-  alone : (E : Term) → u ≡ words 1 E → PartAt u P (length u) E → Alone E
+  alone : (E : Term) → u ≡ words P.edition.width E → PartAt u P (length u) E → Alone E
   unfolding words term_of shared_words done?
   alone Done e p = (Done_there, tt, refl, ap (λ x. x ∷ []) (sym (by_word 30 (ap (λ v. get_or v 0 0) e))))
   alone Internal e p = (Part (length u) Internal, (refl, p), refl, ap (λ x. x ∷ []) (sym (by_word 20 (ap (λ v. get_or v 0 0) e))))
@@ -63,7 +63,7 @@ module _ (u : List ℕ) (P : Scope) where
   alone (Guard C E) e p = (Part (length u) (Guard C E), (refl, p), refl, ap (λ x. x ∷ []) (sym (by_word 26 (ap (λ v. get_or v 0 0) e))))
 
 -- Any running term without masks is held in one word over its own words.
-held_alone : (R : RuleSet) → Form R → (E : Term) → Running R E → Unmasked E → (u d : List ℕ) → u ≡ words 1 E → (word : ℕ) → word ≡ whole_word u → take 1 d ≡ word ∷ [] → SharedOver u R E 1 d
+held_alone : (R : RuleSet) → Form R → (E : Term) → Running R E → Unmasked E → (u d : List ℕ) → u ≡ words R.edition.width E → (word : ℕ) → word ≡ whole_word u → take 1 d ≡ word ∷ [] → SharedOver u R E 1 d
 held_alone R form E running unmasked u d e word is_word first =
     let P = guard_scope (attributes R) 0 in
     let all = last_all (length u) u (omega arith) in
@@ -78,13 +78,13 @@ held_alone R form E running unmasked u d e word is_word first =
 
 -- ── spelled out ──
 
-expanded_so : (u : List ℕ) (R : RuleSet) (E : Term) (n : ℕ) (d f mid mid' : List ℕ) (q : ℕ) → SharedOver u R E n d → f ≡ take n d → Expanded f u 0 mid mid' q → length (words 1 E) ≤ length mid
+expanded_so : (u : List ℕ) (R : RuleSet) (E : Term) (n : ℕ) (d f mid mid' : List ℕ) (q : ℕ) → SharedOver u R E n d → f ≡ take n d → Expanded f u 0 mid mid' q → length (words R.edition.width E) ≤ length mid
     → Spelled R E (q / 65536) mid'
 unfolding answer
 expanded_so u R E n d f mid mid' q h ef expanded room =
     let S = h.shared in
-    let o : List ℕ = words 1 E in
-    let eo : words 1 (term_of S) ≡ o = ap (words 1) h.is_term in
+    let o : List ℕ = words R.edition.width E in
+    let eo : words R.edition.width (term_of S) ≡ o = ap (words R.edition.width) h.is_term in
     let z = expanded.right (guard_scope (attributes R) 0) S [] (ef ∙ h.words_are ∙ sym (append-nil (shared_words S))) h.stands (omega (arith, ap length eo)) in
     let size_is : q / 65536 ≡ length o = omega (arith, z.0, ap length eo) in
     record {
@@ -108,7 +108,7 @@ module _ {list t D : List ℕ} {w functions c reach : ℕ} {u d M : List ℕ} {p
   -- Never without room for a word.
   pub bare_none : {r : Totals} → length d ≡ 0 → RunsBare list t D w functions c reach u d M paths acts middle term memory by r term' memory' by'
   bare_none h R T at room eu unmasked spare =
-      absurd (let z : ⊥ = omega (arith, room.words_room, at.reach_is, main_size R at.well, spelled_length R at.well (unfold_main R) (main_there R at.well), size_pos 1 (unfold_main R)) in z)
+      absurd (let z : ⊥ = omega (arith, room.words_room, at.reach_is, main_size R at.well, spelled_length R at.well (unfold_main R) (main_there R at.well), size_pos R.edition.width (unfold_main R)) in z)
 
   pub bare_run : (x : Option Extent) {d₁ d₂ M₂ f mid₁ mid₂ : List ℕ} {word size low : ℕ} {tally : Tally} → word ≡ whole_word u → take 1 d₁ ≡ word ∷ [] → length d₁ ≡ length d
       → RunsShared list t D w functions c u 1 d₁ M by paths acts middle d₂ M₂ by' tally → f ≡ take tally.size d₂ → Expanded f u 0 mid₁ mid₂ (told x) → size ≡ end_of x → length mid₁ ≡ middle
@@ -122,7 +122,7 @@ module _ {list t D : List ℕ} {w functions c reach : ℕ} {u d M : List ℕ} {p
       let e : Ended (SharedOver u) R (memory_run (attributes R) (unfold_main R) (numbers_in list)) d₂ M₂ tally × CountedBy by (readers_in list) (outcomes (system (Sem_M (attributes R))) (start R well) (numbers_in list)) by' × Unit =
       runs reach (record { words_room = omega (arith, room.words_room); middle_room = room.middle_room; path_room = room.path_room; numbers_room = room.numbers_room }) R T at.ruled (start R well)
       (record { running = main_there R well; held = held_alone R well.form (unfold_main R) (main_there R well) unmasked u d₁ eu word is_word first; stored = at.stored })
-      (omega (arith, er, main_reaches R well)) in
+      (omega (arith, er)) in
       let last_term : Term = (memory_run (attributes R) (unfold_main R) (numbers_in list)).state.term in
       let spelled : Spelled R last_term size mid₂ =
       subst (λ n. Spelled R last_term n mid₂) (told_end x ∙ sym is_size) (expanded_so u R last_term tally.size d₂ f mid₁ mid₂ (told x) e.0.after.held ef expanded (omega (arith, run_fits R well (numbers_in list) e.0.after.running, er, room.middle_room))) in

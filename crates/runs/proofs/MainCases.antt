@@ -58,38 +58,32 @@ module _ (R : RuleSet) (well : WellFormed R) where
   abbrev pub start : Situation (Sem_M (attributes R))
   start = situation main (initial_cells (attributes R))
 
-  one : R.edition.width ≡ 1
-  one = width_is_1 well.form
-
-  pub spelled_length : (E : Term) → Running R E → length (words 1 E) ≡ size 1 E
-  spelled_length E h = subst (λ v. length (words v E) ≡ size v E) one (words_length R E h.form)
+  pub spelled_length : (E : Term) → Running R E → length (words R.edition.width E) ≡ size R.edition.width E
+  spelled_length E h = words_length R E h.form
 
   pub main_there : Running R main
   main_there = main_running R well
 
-  main_small : Small (words 1 main)
-  main_small = subst (λ v. Small (words v main)) one (spelling_small R well.form main main_there.form)
+  main_small : Small (words R.edition.width main)
+  main_small = spelling_small R well.form main main_there.form
 
-  pub main_reaches : main_reach R ≡ reach 1 main
-  main_reaches = ap (λ v. reach v main) one
-
-  pub main_size : length (words 1 main) ≤ main_reach R
-  main_size = omega (arith, spelled_length main main_there, size_below_reach 1 main, main_reaches)
+  pub main_size : length (words R.edition.width main) ≤ main_reach R
+  main_size = omega (arith, spelled_length main main_there, size_below_reach R.edition.width main)
 
   -- Its words loaded.
-  pub main_spelled : (n : ℕ) (spare spare₁ ws ws₁ : List ℕ) → n ≡ length (words 1 main) → spare₁ ≡ written (words 1 main) spare → main_reach R ≤ length ws → Loaded spare₁ ws ws₁ 0 n
+  pub main_spelled : (n : ℕ) (spare spare₁ ws ws₁ : List ℕ) → n ≡ length (words R.edition.width main) → spare₁ ≡ written (words R.edition.width main) spare → main_reach R ≤ length ws → Loaded spare₁ ws ws₁ 0 n
       → Spelled R main n ws₁
   main_spelled n spare spare₁ ws ws₁ e buffer room loaded = record {
     size_is = e;
-    spelled = written_loaded (words 1 main) spare ws ws₁ n e main_small (omega (arith, main_size)) (subst (λ B. Loaded B ws ws₁ 0 n) buffer loaded);
+    spelled = written_loaded (words R.edition.width main) spare ws ws₁ n e main_small (omega (arith, main_size)) (subst (λ B. Loaded B ws ws₁ 0 n) buffer loaded);
   }
 
   -- No term of the run has more words than main reaches.
-  pub run_fits : (ks : List ℕ) → Running R (memory_run (attributes R) main ks).state.term → length (words 1 (memory_run (attributes R) main ks).state.term) ≤ main_reach R
+  pub run_fits : (ks : List ℕ) → Running R (memory_run (attributes R) main ks).state.term → length (words R.edition.width (memory_run (attributes R) main ks).state.term) ≤ main_reach R
   unfolding memory_run
   run_fits ks h =
       let E : Term = (memory_run (attributes R) main ks).state.term in
-      omega (arith, spelled_length E h, size_below_reach 1 E, run_reach 1 (Sem_M (attributes R)) (initial L start) ks, main_reaches)
+      omega (arith, spelled_length E h, size_below_reach R.edition.width E, run_reach R.edition.width (Sem_M (attributes R)) (initial L start) ks)
 
   -- What the memory machine ends with is what the history machine does; the first n words of xs are its last term, spelled out.
   module _ {H : Holding} (ks ws M : List ℕ) (tally : Tally) (ended : Ended H R (memory_run (attributes R) main ks) ws M tally) (n : ℕ) (xs : List ℕ)
@@ -104,10 +98,10 @@ module _ (R : RuleSet) (well : WellFormed R) where
     last_running = subst (Running R) agree.same_term ended.after.running
 
     last_size : n ≡ size R.edition.width last.state.term
-    last_size = spelled.size_is ∙ ap (λ E. length (words 1 E)) agree.same_term ∙ spelled_length last.state.term last_running ∙ ap (λ v. size v last.state.term) (sym one)
+    last_size = spelled.size_is ∙ ap (λ E. length (words R.edition.width E)) agree.same_term ∙ spelled_length last.state.term last_running
 
     last_words : take n xs ≡ words R.edition.width last.state.term
-    last_words = spelled.spelled ∙ ap (words 1) agree.same_term ∙ ap (λ v. words v last.state.term) (sym one)
+    last_words = spelled.spelled ∙ ap (words R.edition.width) agree.same_term
 
     last_fits : n ≤ main_reach R
     last_fits = omega (arith, spelled.size_is, run_fits ks ended.after.running)
@@ -160,15 +154,15 @@ module _ {list t D : List ℕ} {w functions c reach n : ℕ} {ws ws₂ M M₂ pa
       let er = at.reach_is in
       let ec = at.ruled.cells_are in
       let e : Ended Spelled R (memory_run (attributes R) (unfold_main R) (numbers_in list)) ws₂ M₂ tally × CountedBy by (readers_in list) (outcomes (system (Sem_M (attributes R))) (start R well) (numbers_in list)) by' × WordsOnly spare spare' =
-      runs reach room R T at.ruled (start R well) (record { running = main_there R well; held = held; stored = at.stored }) (omega (arith, er, main_reaches R well)) in
+      runs reach room R T at.ruled (start R well) (record { running = main_there R well; held = held; stored = at.stored }) (omega (arith, er)) in
       main_ended R well list e.0 e.0.after.held ec er (omega (arith, room.words_room)) (omega (arith, ec, e.0.after.stored.room)) at.term_room at.memory_room done el e.2 e.1
 
 -- ── main's unfolding and the cells of the start ──
 
 -- What unfolding main says.
 abbrev pub MainUnfolded : (t T spare spare' : List ℕ) (n : ℕ) → Type 0
-MainUnfolded t T spare spare' n = (R : RuleSet) → Ready t T R → length (words 1 (unfold_main R)) ≤ 65535 → 2 * length (words 1 (unfold_main R)) ≤ length spare
-    → (n ≡ length (words 1 (unfold_main R))) × (spare' ≡ written (words 1 (unfold_main R)) spare)
+MainUnfolded t T spare spare' n = (R : RuleSet) → Ready t T R → length (words R.edition.width (unfold_main R)) ≤ 65535 → 2 * length (words R.edition.width (unfold_main R)) ≤ length spare
+    → (n ≡ length (words R.edition.width (unfold_main R))) × (spare' ≡ written (words R.edition.width (unfold_main R)) spare)
 
 -- What making the cells of the start says, of a store with room for the most cells that there may be, twice.
 abbrev pub CellsStarted : (t D M' : List ℕ) (w functions c : ℕ) → Type 0
@@ -185,11 +179,11 @@ pub record Begun (t T D : List ℕ) (w functions c n : ℕ) (ws ws₁ M spare sp
 
 module _ {t T D : List ℕ} {w functions c n : ℕ} {ws ws₁ M spare spare₁ : List ℕ} (begun : Begun t T D w functions c n ws ws₁ M spare spare₁) {reach : ℕ}
     (R : RuleSet) (well : WellFormed R) (d : Directory t T D R) (ec : c ≡ cells_needed R) (er : reach ≡ main_reach R) where
-  main_unfolded : reach ≤ word_count spare → (n ≡ length (words 1 (unfold_main R))) × (spare₁ ≡ written (words 1 (unfold_main R)) spare)
+  main_unfolded : reach ≤ word_count spare → (n ≡ length (words R.edition.width (unfold_main R))) × (spare₁ ≡ written (words R.edition.width (unfold_main R)) spare)
   main_unfolded room = begun.unfolded R (record { form = well.form; declares = d.declares; processes = d.processes }) (omega (arith, main_size R well, well.reach_limit)) (omega (arith, main_size R well, er))
 
   spare_words : reach ≤ word_count spare → WordsOnly spare spare₁
-  spare_words room = words_written (words 1 (unfold_main R)) spare spare₁ (omega (arith, main_size R well, er)) (main_unfolded room).1
+  spare_words room = words_written (words R.edition.width (unfold_main R)) spare spare₁ (omega (arith, main_size R well, er)) (main_unfolded room).1
 
   main_held : reach ≤ word_count spare → reach ≤ length ws → Spelled R (unfold_main R) n ws₁
   main_held spare_room room =

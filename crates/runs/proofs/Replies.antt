@@ -81,16 +81,16 @@ module _ {H : Holding} (t D : List ℕ) (w functions c n k : ℕ) (ws M : List �
   abbrev pub offered : Maybe Move
   offered = get_elem? (moves (holding M) s.term) k
 
-  pub spelled_length : (E : Term) → WellFormedTerm R E → length (words 1 E) ≡ size 1 E
-  spelled_length E h = subst (λ v. length (words v E) ≡ size v E) (width_is_1 ruled.form) (words_length R E h)
+  pub spelled_length : (E : Term) → WellFormedTerm R E → length (words R.edition.width E) ≡ size R.edition.width E
+  spelled_length E h = words_length R E h
 
   module _ (x : Move) (listed : offered ≡ some x) where
     pub next_running : Running R x.successor
     next_running = move_running R (holding M) s.term k x listed at.running
 
     -- A successor has no more words than the term reaches.
-    pub next_length : length (words 1 x.successor) ≤ reach 1 s.term
-    next_length = omega (arith, spelled_length x.successor next_running.form, move_size 1 (holding M) s.term k x listed)
+    pub next_length : length (words R.edition.width x.successor) ≤ reach R.edition.width s.term
+    next_length = omega (arith, spelled_length x.successor next_running.form, move_size R.edition.width (holding M) s.term k x listed)
 
   same_moves : moves ((Sem_M (attributes R)).satisfies s.state) s.term ≡ moves (holding M) s.term
   same_moves = sym (moves_judged R ruled.form s.term at.running.form s.state M at.stored)

@@ -132,7 +132,7 @@ module _ (H : Holding) where
         let rs = readers_in list in
         let h = run L (initial L s) (take i ks) in
         let e = go R T ruled s at room in
-        let reached = run_reach 1 (Sem_M (attributes R)) (initial L s) (take i ks) in
+        let reached = run_reach R.edition.width (Sem_M (attributes R)) (initial L s) (take i ks) in
         let o = once R T ruled h.state e.0.after (omega (arith, reached)) in
         let did : Outcome = (reply L h.state k).0 in
         let more : run L (initial L s) (take (i + 1) ks) ≡ step L h k = ap (run L (initial L s)) (numbers_next list i less k number) ∙ run_more L (initial L s) (take i ks) k in

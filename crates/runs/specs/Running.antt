@@ -25,8 +25,8 @@ abbrev pub Holding : Type 1
 Holding = RuleSet → Term → ℕ → List ℕ → Type 0
 
 pub record Spelled (R : RuleSet) (E : Term) (n : ℕ) (ws : List ℕ) : Type 0 where
-  pub size_is : n ≡ length (words 1 E)
-  pub spelled : take n ws ≡ words 1 E
+  pub size_is : n ≡ length (words R.edition.width E)
+  pub spelled : take n ws ≡ words R.edition.width E
 
 -- A situation of the memory machine: the first n words of ws hold its term, and the store M holds its cells.
 pub record Situated (H : Holding) (R : RuleSet) (s : Situation (Sem_M (attributes R))) (n : ℕ) (ws M : List ℕ) : Type 0 where
@@ -65,7 +65,7 @@ pub record Once (H : Holding) (R : RuleSet) (s : Situation (Sem_M (attributes R)
 -- Of the stream t, the directory D, n words of ws and the store M, which are ws' and M' afterwards, where no successor has more words than the bound; and Z besides.
 abbrev pub Steps : (H : Holding) (bound : ℕ) (Z : Type 0) (t D : List ℕ) (w functions c n k : ℕ) (ws M ws' M' : List ℕ) (r : Option Done) → Type 0
 Steps H bound Z t D w functions c n k ws M ws' M' r =
-    (R : RuleSet) (T : List ℕ) → Ruled R t T D w functions c → (s : Situation (Sem_M (attributes R))) → Situated H R s n ws M → reach 1 s.term ≤ bound → Once H R s n k ws' M' r × Z
+    (R : RuleSet) (T : List ℕ) → Ruled R t T D w functions c → (s : Situation (Sem_M (attributes R))) → Situated H R s n ws M → reach R.edition.width s.term ≤ bound → Once H R s n k ws' M' r × Z
 
 -- A term in its own words, with the lent bytes out, which are out' afterwards, and the lent array path.
 abbrev pub StepsOnce : (t D : List ℕ) (w functions c n k : ℕ) (ws M out path ws' M' out' : List ℕ) (r : Option Done) → Type 0
@@ -94,7 +94,7 @@ pub record CountedBy (by rs : List ℕ) (os : List Outcome) (by' : List ℕ) : T
 -- By the numbers ks with the readers rs.
 abbrev pub RunsBy : (H : Holding) (bound : ℕ) (Z : Type 0) (ks rs t D : List ℕ) (w functions c n : ℕ) (ws M by ws' M' by' : List ℕ) (r : Tally) → Type 0
 RunsBy H bound Z ks rs t D w functions c n ws M by ws' M' by' r =
-    (R : RuleSet) (T : List ℕ) → Ruled R t T D w functions c → (s : Situation (Sem_M (attributes R))) → Situated H R s n ws M → reach 1 s.term ≤ bound
+    (R : RuleSet) (T : List ℕ) → Ruled R t T D w functions c → (s : Situation (Sem_M (attributes R))) → Situated H R s n ws M → reach R.edition.width s.term ≤ bound
     → Ended H R (run (system (Sem_M (attributes R))) (initial (system (Sem_M (attributes R))) s) ks) ws' M' r × CountedBy by rs (outcomes (system (Sem_M (attributes R))) s ks) by' × Z
 
 abbrev pub Runs : (list t D : List ℕ) (w functions c n : ℕ) (ws M out path by ws' M' out' by' : List ℕ) (r : Tally) → Type 0

@@ -30,7 +30,7 @@ pub record AtStart (R : RuleSet) (t T D : List ℕ) (w functions c reach : ℕ) 
 -- From the words u of an unfolding that has no masks; no spare bytes are written.
 abbrev pub RunsBare : (list t D : List ℕ) (w functions c reach : ℕ) (u d M : List ℕ) (paths acts middle : ℕ) (term memory by : List ℕ) (r : Totals) (term' memory' by' : List ℕ) → Type 0
 RunsBare list t D w functions c reach u d M paths acts middle term memory by r term' memory' by' =
-    (R : RuleSet) (T : List ℕ) → AtStart R t T D w functions c reach M term memory → RoomyOver reach u d paths acts middle → u ≡ words 1 (unfold_main R) → Unmasked (unfold_main R)
+    (R : RuleSet) (T : List ℕ) → AtStart R t T D w functions c reach M term memory → RoomyOver reach u d paths acts middle → u ≡ words R.edition.width (unfold_main R) → Unmasked (unfold_main R)
     → (spare : List ℕ) → RanRight list term memory spare by R r term' memory' spare by'
 
 -- From its first n words, in which the run goes on.
