@@ -30,9 +30,15 @@ use Rattle.sharing.specs.declared.expansion.Extent.{Extent}
 use Rattle.std.specs.Prelude.{Option, None, Some}
 use Rattle.runs.specs.ScratchLaws.{words_kept}
 use Rattle.runs.specs.Running.{Spelled, Ended, CountedBy}
-use Rattle.runs.specs.Sharing.{SharedOver, RunsShared}
+use Rattle.runs.specs.Scratch.{WordsOnly}
+use Rattle.runs.specs.Sharing.{SharedOver}
+use Rattle.runs.specs.Held.{Runs}
+use Rattle.runs.specs.declared.held.Held.TheVariants.{Over}
+use Rattle.runs.specs.declared.admitted.Course.{Course}
+use Rattle.derivation.specs.declared.scratch.Scratch.{Scratch}
+use Rattle.std.specs.Borrow.{Bor}
 use Rattle.runs.specs.MainProcess.{Finished}
-use Rattle.runs.specs.Starts.{RunsBare}
+use Rattle.runs.specs.Starts.{RunsBare, CourseBare}
 use Rattle.runs.specs.declared.main_process.Totals.{Totals}
 use Rattle.runs.specs.declared.Tally.{Tally}
 use Rattle.runs.proofs.MainCases.{start, main_there, main_size, spelled_length, run_fits, main_ended}
@@ -110,21 +116,23 @@ module _ {list t D : List ℕ} {w functions c reach : ℕ} {u d M : List ℕ} {p
   bare_none h R T at room eu unmasked spare =
       absurd (let z : ⊥ = omega (arith, room.words_room, at.reach_is, main_size R at.well, spelled_length R at.well (unfold_main R) (main_there R at.well), size_pos R.edition.width (unfold_main R)) in z)
 
-  pub bare_run : (x : Option Extent) {d₁ d₂ M₂ f mid₁ mid₂ : List ℕ} {word size low : ℕ} {tally : Tally} → word ≡ whole_word u → take 1 d₁ ≡ word ∷ [] → length d₁ ≡ length d
-      → RunsShared list t D w functions c u 1 d₁ M by paths acts middle d₂ M₂ by' tally → f ≡ take tally.size d₂ → Expanded f u 0 mid₁ mid₂ (told x) → size ≡ end_of x → length mid₁ ≡ middle
-      → Finished mid₂ size reach M₂ c term memory term' memory' → low ≡ size % 4294967296
-      → RunsBare list t D w functions c reach u d M paths acts middle term memory by (record { size = low; visible = tally.visible; internal = tally.internal; refused = tally.refused }) term' memory' by'
+module _ (course : Course) (u : Bor (List ℕ)) (a : Scratch) {d M term memory by term' memory' by' : List ℕ} where
+  pub bare_run : (x : Option Extent) {d₁ d₂ M₂ out out' f mid₁ mid₂ : List ℕ} {word size low : ℕ} {tally : Tally} → word ≡ whole_word u.now → take 1 d₁ ≡ word ∷ [] → length d₁ ≡ length d
+      → Runs course (Over u) 1 d₁ M out a by d₂ M₂ out' by' tally → f ≡ take tally.size d₂ → Expanded f u.now 0 mid₁ mid₂ (told x) → size ≡ end_of x → length mid₁ ≡ length a.mid.now
+      → Finished mid₂ size course.reach M₂ course.rules.functions.cells term memory term' memory' → low ≡ size % 4294967296
+      → CourseBare course u.now d M (length a.path.now) (length a.acts.now) (length a.mid.now) term memory by (record { size = low; visible = tally.visible; internal = tally.internal; refused = tally.refused }) term' memory' by'
   unfolding memory_run
-  bare_run x {d₁} {d₂} {M₂} {f} {mid₁} {mid₂} {word} {size} {low} {tally} is_word first same runs ef expanded is_size same_middle done el R T at room eu unmasked spare =
+  bare_run x {d₁} {d₂} {M₂} {out} {out'} {f} {mid₁} {mid₂} {word} {size} {low} {tally} is_word first same runs ef expanded is_size same_middle done el R T at room eu unmasked spare =
+      let list = course.list.now in
       let well = at.well in
       let er = at.reach_is in
       let ec = at.ruled.cells_are in
-      let e : Ended (SharedOver u) R (memory_run (attributes R) (unfold_main R) (numbers_in list)) d₂ M₂ tally × CountedBy by (readers_in list) (outcomes (system (Sem_M (attributes R))) (start R well) (numbers_in list)) by' × Unit =
-      runs reach (record { words_room = omega (arith, room.words_room); middle_room = room.middle_room; path_room = room.path_room; numbers_room = room.numbers_room }) R T at.ruled (start R well)
-      (record { running = main_there R well; held = held_alone R well.form (unfold_main R) (main_there R well) unmasked u d₁ eu word is_word first; stored = at.stored })
+      let e : Ended (SharedOver u.now) R (memory_run (attributes R) (unfold_main R) (numbers_in list)) d₂ M₂ tally × CountedBy by (readers_in list) (outcomes (system (Sem_M (attributes R))) (start R well) (numbers_in list)) by' × WordsOnly out out' =
+      runs course.reach (record { words_room = omega (arith, room.words_room); middle_room = room.middle_room; path_room = room.path_room; numbers_room = room.numbers_room }) R T at.ruled (start R well)
+      (record { running = main_there R well; held = held_alone R well.form (unfold_main R) (main_there R well) unmasked u.now d₁ eu word is_word first; stored = at.stored })
       (omega (arith, er)) in
       let last_term : Term = (memory_run (attributes R) (unfold_main R) (numbers_in list)).state.term in
       let spelled : Spelled R last_term size mid₂ =
-      subst (λ n. Spelled R last_term n mid₂) (told_end x ∙ sym is_size) (expanded_so u R last_term tally.size d₂ f mid₁ mid₂ (told x) e.0.after.held ef expanded (omega (arith, run_fits R well (numbers_in list) e.0.after.running, er, room.middle_room))) in
+      subst (λ n. Spelled R last_term n mid₂) (told_end x ∙ sym is_size) (expanded_so u.now R last_term tally.size d₂ f mid₁ mid₂ (told x) e.0.after.held ef expanded (omega (arith, run_fits R well (numbers_in list) e.0.after.running, er, room.middle_room))) in
       main_ended R well list e.0 spelled ec er (omega (arith, room.middle_room, expanded.same_length)) (omega (arith, ec, e.0.after.stored.room)) at.term_room at.memory_room done el
       (words_kept spare spare refl) e.1

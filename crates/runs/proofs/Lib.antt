@@ -1,7 +1,8 @@
 -- What the proofs of several functions use (document 01, "Memory and the history machine"; "Operations": Run).
 mod Replies
+mod FullCases
+mod OverCases
 mod StepCases
 mod RunCases
-mod SharedCases
 mod MainCases
 mod BareCases

@@ -40,9 +40,13 @@ use Rattle.sharing.specs.Masks.{Shareable}
 use Rattle.readers.specs.Table.{counted_by}
 use Rattle.runs.specs.Scratch.{WordsOnly}
 use Rattle.runs.specs.ScratchLaws.{words_written, words_then}
-use Rattle.runs.specs.Running.{Holding, Spelled, Ended, Runs, CountedBy}
+use Rattle.derivation.specs.declared.scratch.Scratch.{Scratch}
+use Rattle.runs.specs.Running.{Holding, Spelled, Ended, CountedBy}
+use Rattle.runs.specs.Held.{Runs}
+use Rattle.runs.specs.declared.held.Held.TheVariants.{InFull}
+use Rattle.runs.specs.declared.admitted.Course.{Course}
 use Rattle.runs.specs.MainProcess.{RanRight, RunsMain, Finished}
-use Rattle.runs.specs.Starts.{AtStart, RunsBare, RunsMasked}
+use Rattle.runs.specs.Starts.{AtStart, RunsBare, RunsMasked, CourseMasked}
 use Rattle.runs.specs.declared.main_process.Totals.{Totals}
 use Rattle.runs.specs.declared.Tally.{Tally}
 
@@ -144,17 +148,19 @@ module _ (R : RuleSet) (well : WellFormed R) where
 
 -- ── from the start, in its own words ──
 
-module _ {list t D : List ℕ} {w functions c reach n : ℕ} {ws ws₂ M M₂ path term memory spare by term' memory' spare' by' : List ℕ} {tally : Tally} {low : ℕ} where
-  pub masked_run : length ws₂ ≡ length ws → Runs list t D w functions c n ws M spare path by ws₂ M₂ spare' by' tally → Finished ws₂ tally.size reach M₂ c term memory term' memory'
+module _ (course : Course) (a : Scratch) {n : ℕ} {ws ws₂ M M₂ term memory spare by term' memory' spare' by' : List ℕ} {tally : Tally} {low : ℕ} where
+  pub masked_run : length ws₂ ≡ length ws → Runs course InFull n ws M spare a by ws₂ M₂ spare' by' tally
+      → Finished ws₂ tally.size course.reach M₂ course.rules.functions.cells term memory term' memory'
       → low ≡ tally.size % 4294967296
-      → RunsMasked list t D w functions c reach n ws M path term memory spare by (record { size = low; visible = tally.visible; internal = tally.internal; refused = tally.refused }) term' memory' spare' by'
+      → CourseMasked course n ws M a.path.now term memory spare by (record { size = low; visible = tally.visible; internal = tally.internal; refused = tally.refused }) term' memory' spare' by'
   unfolding memory_run
   masked_run same runs done el R T at room held =
+      let list = course.list.now in
       let well = at.well in
       let er = at.reach_is in
       let ec = at.ruled.cells_are in
       let e : Ended Spelled R (memory_run (attributes R) (unfold_main R) (numbers_in list)) ws₂ M₂ tally × CountedBy by (readers_in list) (outcomes (system (Sem_M (attributes R))) (start R well) (numbers_in list)) by' × WordsOnly spare spare' =
-      runs reach room R T at.ruled (start R well) (record { running = main_there R well; held = held; stored = at.stored }) (omega (arith, er)) in
+      runs course.reach room R T at.ruled (start R well) (record { running = main_there R well; held = held; stored = at.stored }) (omega (arith, er)) in
       main_ended R well list e.0 e.0.after.held ec er (omega (arith, room.words_room)) (omega (arith, ec, e.0.after.stored.room)) at.term_room at.memory_room done el e.2 e.1
 
 -- ── main's unfolding and the cells of the start ──

@@ -22,7 +22,13 @@ use Rattle.readers.specs.declared.Outcome.{Outcome as Counted}
 use Rattle.readers.proofs.Laws.Counting.{counted_next}
 use Rattle.runs.specs.Scratch.{WordsOnly}
 use Rattle.runs.specs.ScratchLaws.{words_kept, words_then}
-use Rattle.runs.specs.Running.{Holding, Spelled, Situated, Roomy, done_as, outcome_of, Once, Steps, StepsOnce, counted, Ended, RunsBy, Runs}
+use Rattle.derivation.specs.Arrays.{SameArrays}
+use Rattle.derivation.specs.declared.scratch.Scratch.{Scratch}
+use Rattle.runs.specs.Running.{Holding, Situated, done_as, outcome_of, Once, Steps, counted, Ended, RunsBy}
+use Rattle.runs.specs.Held.{holding_of, RoomFor, StepsOnce, Runs}
+use Rattle.runs.specs.declared.admitted.Course.{Course}
+use Rattle.runs.specs.declared.held.Held.{Held}
+use Rattle.runs.specs.declared.held.Held.TheVariants.{InFull, Over}
 use Rattle.runs.specs.declared.Done.{Done}
 use Rattle.runs.specs.declared.Done.TheVariants.{Visible, Internal}
 use Rattle.runs.specs.declared.Tally.{Tally}
@@ -155,29 +161,41 @@ module _ (H : Holding) where
         subst (λ vs. RunsBy H bound Z (numbers_in list) vs t D w functions c n ws M by ws' M' by' r) all'
         (subst (λ us. RunsBy H bound Z us (take i (readers_in list)) t D w functions c n ws M by ws' M' by' r) all go)
 
--- ── a term in its own words, with the lent bytes that successors are built in ──
+-- ── held in one of the two ways ──
 
-abbrev pub RunningTo : (list t D : List ℕ) (w functions c n : ℕ) (ws M out path by : List ℕ) (i : ℕ) (ws' M' out' by' : List ℕ) (r : Tally) → Type 0
-RunningTo list t D w functions c n ws M out path by i ws' M' out' by' r =
-    (bound : ℕ) → Roomy bound ws out path → RunsBy Spelled bound (WordsOnly out out') (take i (numbers_in list)) (take i (readers_in list)) t D w functions c n ws M by ws' M' by' r
+abbrev pub RunningTo : (course : Course) (h : Held) (n : ℕ) (ws M out : List ℕ) (a : Scratch) (by : List ℕ) (i : ℕ) (ws' M' out' by' : List ℕ) (r : Tally) → Type 0
+RunningTo course h n ws M out a by i ws' M' out' by' r =
+    let F = course.rules.functions in
+    let list = course.list.now in
+    (bound : ℕ) → RoomFor h bound ws out a
+    → RunsBy (holding_of h) bound (WordsOnly out out') (take i (numbers_in list)) (take i (readers_in list)) F.words.now F.directory.now F.width F.count F.cells n ws M by ws' M' by' r
 
-module _ (list : List ℕ) {t D : List ℕ} {w functions c n : ℕ} {ws M out path by : List ℕ} where
-  run_start_of_zeros : RunningTo list t D w functions c n ws M out path by 0 ws M out by (record { size = n; visible = 0; internal = 0; refused = 0 })
-  run_start_of_zeros bound room = by_start Spelled bound list (words_kept out out refl)
+-- Arrays as long have as much room.
+room_stays : (h : Held) (bound : ℕ) (ws out ws' out' : List ℕ) (a a' : Scratch) → length ws' ≡ length ws → length out' ≡ length out → SameArrays a a' → RoomFor h bound ws out a → RoomFor h bound ws' out' a'
+room_stays InFull bound ws out ws' out' a a' same same_out arrays room =
+    record { words_room = omega (arith, room.words_room); bytes_room = omega (arith, room.bytes_room); path_room = omega (arith, room.path_room, arrays.path_length) }
+room_stays (Over u) bound ws out ws' out' a a' same same_out arrays room = record {
+  words_room = omega (arith, room.words_room);
+  middle_room = omega (arith, room.middle_room, arrays.mid_length);
+  path_room = omega (arith, room.path_room, arrays.path_length);
+  numbers_room = omega (arith, room.numbers_room, arrays.acts_length);
+}
+
+module _ (course : Course) (h : Held) (a : Scratch) {n : ℕ} {ws M out by : List ℕ} where
+  run_start_of_zeros : RunningTo course h n ws M out a by 0 ws M out by (record { size = n; visible = 0; internal = 0; refused = 0 })
+  run_start_of_zeros bound room = by_start (holding_of h) bound course.list.now (words_kept out out refl)
 
   -- A tally that begins with the default, whose fields are 0.
-  pub run_start : (z : Tally) → (z.size ≡ 0) × ((z.visible ≡ 0) × ((z.internal ≡ 0) × (z.refused ≡ 0))) → RunningTo list t D w functions c n ws M out path by 0 ws M out by (record { size = n; visible = z.visible; internal = z.internal; refused = z.refused })
-  run_start z h = subst (λ (r : Tally). RunningTo list t D w functions c n ws M out path by 0 ws M out by r) (λ i. record { size = n; visible = (sym (h.1.0)) i; internal = (sym (h.1.1.0)) i; refused = (sym (h.1.1.1)) i }) run_start_of_zeros
+  pub run_start : (z : Tally) → (z.size ≡ 0) × ((z.visible ≡ 0) × ((z.internal ≡ 0) × (z.refused ≡ 0))) → RunningTo course h n ws M out a by 0 ws M out by (record { size = n; visible = z.visible; internal = z.internal; refused = z.refused })
+  run_start z e = subst (λ (r : Tally). RunningTo course h n ws M out a by 0 ws M out by r) (λ i. record { size = n; visible = (sym (e.1.0)) i; internal = (sym (e.1.1.0)) i; refused = (sym (e.1.1.1)) i }) run_start_of_zeros
 
-  pub run_next : (i : ℕ) {k x q : ℕ} {ws₁ M₁ out₁ path₁ by₁ ws₂ M₂ out₂ by₂ : List ℕ} {r r' : Tally} {d : Option Done} {a : Counted} → i < length list / 4 → length ws₁ ≡ length ws → length out₁ ≡ length out → length path₁ ≡ length path
-      → RunningTo list t D w functions c n ws M out path by i ws₁ M₁ out₁ by₁ r → k ≡ get_or (words_in list) (2 * i) 0 → StepsOnce t D w functions c r.size k ws₁ M₁ out₁ path₁ ws₂ M₂ out₂ d
-      → r' ≡ counted r d → x ≡ get_or (words_in list) (2 * i + 1) 0 → q ≡ (x + 31) % 32 → a ≡ outcome_of d → by₂ ≡ one_more by₁ q (place_of a)
-      → RunningTo list t D w functions c n ws M out path by (i + 1) ws₂ M₂ out₂ by₂ r'
-  run_next i {out₁ = out₁} {out₂ = out₂} less same same_out same_path go number once counting reader place_is done_is one bound room =
-      by_next Spelled bound list i less (words_then out out₁ out₂) (go bound room) number
-      (once bound (record { words_room = omega (arith, room.words_room); bytes_room = omega (arith, room.bytes_room); path_room = omega (arith, room.path_room) }))
-      counting reader place_is done_is one
+  pub run_next : (i : ℕ) {k x q : ℕ} {ws₁ M₁ out₁ : List ℕ} {a₁ : Scratch} {by₁ ws₂ M₂ out₂ by₂ : List ℕ} {r r' : Tally} {d : Option Done} {o : Counted} → i < length course.list.now / 4 → length ws₁ ≡ length ws → length out₁ ≡ length out → SameArrays a a₁
+      → RunningTo course h n ws M out a by i ws₁ M₁ out₁ by₁ r → k ≡ get_or (words_in course.list.now) (2 * i) 0 → StepsOnce course.rules.functions h r.size k ws₁ M₁ out₁ a₁ ws₂ M₂ out₂ d
+      → r' ≡ counted r d → x ≡ get_or (words_in course.list.now) (2 * i + 1) 0 → q ≡ (x + 31) % 32 → o ≡ outcome_of d → by₂ ≡ one_more by₁ q (place_of o)
+      → RunningTo course h n ws M out a by (i + 1) ws₂ M₂ out₂ by₂ r'
+  run_next i {out₁ = out₁} {out₂ = out₂} less same same_out arrays go number once counting reader place_is done_is one bound room =
+      by_next (holding_of h) bound course.list.now i less (words_then out out₁ out₂) (go bound room) number (once bound (room_stays h bound _ _ _ _ a _ same same_out arrays room)) counting reader place_is done_is one
 
-  pub run_end : (i : ℕ) {ws' M' out' by' : List ℕ} {r : Tally} → length list / 4 ≤ i → RunningTo list t D w functions c n ws M out path by i ws' M' out' by' r
-      → Runs list t D w functions c n ws M out path by ws' M' out' by' r
-  run_end i h go bound room = by_end Spelled bound list i h (go bound room)
+  pub run_end : (i : ℕ) {ws' M' out' by' : List ℕ} {r : Tally} → length course.list.now / 4 ≤ i → RunningTo course h n ws M out a by i ws' M' out' by' r
+      → Runs course h n ws M out a by ws' M' out' by' r
+  run_end i e go bound room = by_end (holding_of h) bound course.list.now i e (go bound room)

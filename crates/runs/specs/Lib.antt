@@ -3,5 +3,6 @@ pub mod Scratch
 pub mod ScratchLaws
 pub mod Running
 pub mod Sharing
+pub mod Held
 pub mod MainProcess
 pub mod Starts

@@ -6,7 +6,6 @@ use Rattle.eb3.specs.Terms.{Term}
 use Rattle.eb3.specs.Sizes.{reach}
 use Rattle.eb3.specs.Spelling.{words}
 use Rattle.eb3.specs.Bytes.{word_count}
-use Rattle.eb3.specs.Readers.{numbers_in, readers_in}
 use Rattle.eb3.specs.Semantics.{Sem_M, Situation, system}
 use Rattle.eb3.specs.Machines.{Machine}
 use Rattle.eb3.specs.TransitionSystems.{Outcome, took_visible, took_internal, refused, initial, reply, run, outcomes}
@@ -15,7 +14,6 @@ use Rattle.steps.specs.Storing.{Stored, Ruled}
 use Rattle.readers.specs.Table.{counted_by}
 use Rattle.readers.specs.declared.Outcome.{Outcome as Counted}
 use Rattle.readers.specs.declared.Outcome.TheVariants.{Visible as CountedVisible, Internal as CountedInternal, Refused as CountedRefused}
-use Rattle.runs.specs.Scratch.{WordsOnly}
 use Rattle.runs.specs.declared.Done.{Done}
 use Rattle.runs.specs.declared.Done.TheVariants.{Visible, Internal}
 use Rattle.runs.specs.declared.Tally.{Tally}
@@ -67,11 +65,6 @@ abbrev pub Steps : (H : Holding) (bound : ℕ) (Z : Type 0) (t D : List ℕ) (w 
 Steps H bound Z t D w functions c n k ws M ws' M' r =
     (R : RuleSet) (T : List ℕ) → Ruled R t T D w functions c → (s : Situation (Sem_M (attributes R))) → Situated H R s n ws M → reach R.edition.width s.term ≤ bound → Once H R s n k ws' M' r × Z
 
--- A term in its own words, with the lent bytes out, which are out' afterwards, and the lent array path.
-abbrev pub StepsOnce : (t D : List ℕ) (w functions c n k : ℕ) (ws M out path ws' M' out' : List ℕ) (r : Option Done) → Type 0
-StepsOnce t D w functions c n k ws M out path ws' M' out' r =
-    (bound : ℕ) → Roomy bound ws out path → Steps Spelled bound (WordsOnly out out') t D w functions c n k ws M ws' M' r
-
 -- ── a list of numbers ──
 
 -- The tally after one number more, by what it did.
@@ -96,7 +89,3 @@ abbrev pub RunsBy : (H : Holding) (bound : ℕ) (Z : Type 0) (ks rs t D : List �
 RunsBy H bound Z ks rs t D w functions c n ws M by ws' M' by' r =
     (R : RuleSet) (T : List ℕ) → Ruled R t T D w functions c → (s : Situation (Sem_M (attributes R))) → Situated H R s n ws M → reach R.edition.width s.term ≤ bound
     → Ended H R (run (system (Sem_M (attributes R))) (initial (system (Sem_M (attributes R))) s) ks) ws' M' r × CountedBy by rs (outcomes (system (Sem_M (attributes R))) s ks) by' × Z
-
-abbrev pub Runs : (list t D : List ℕ) (w functions c n : ℕ) (ws M out path by ws' M' out' by' : List ℕ) (r : Tally) → Type 0
-Runs list t D w functions c n ws M out path by ws' M' out' by' r =
-    (bound : ℕ) → Roomy bound ws out path → RunsBy Spelled bound (WordsOnly out out') (numbers_in list) (readers_in list) t D w functions c n ws M by ws' M' by' r

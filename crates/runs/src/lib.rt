@@ -1,4 +1,4 @@
-// The memory machine run by a list of numbers, its term in words and its cells in a store (document 01, "Memory and the history
+// The memory machine run by a list of numbers, its term held in words in one of two ways and its cells in a store (document 01, "Memory and the history
 // machine"; "Operations": Run: numbers not offered are counted and passed over), each counted at its reader, too (document 02, K1). Nothing is
 // admitted or checked again between two numbers, so that each costs what its step costs. The run of the main process from the start is in main_process.
 // Stays: that words are at most 65,535 is a clause of each function here, for the reason in successors (docs/DESIGN-PASS.md, "A struct for words").
@@ -6,18 +6,20 @@
 
 ghost use Rattle.std.specs.Prelude.{◌≡◌, ◌+◌, ◌≤◌, ◌<◌, length};
 ghost use Rattle.derivation.specs.Arrays.{SameArrays};
-ghost use Rattle.runs.specs.Running.{StepsOnce, outcome_of, counted, Runs};
+ghost use Rattle.runs.specs.Held.{Short, StepsOnce, Runs};
+ghost use Rattle.runs.specs.Running.{outcome_of, counted};
 
 pub mod admitted;
+pub mod held;
 pub mod main_process;
-pub mod shared;
 
-use cells::{Functions, load};
+use admitted::Course;
+use cells::Functions;
 use derivation::Scratch;
+use held::{Held, take};
 use readers::list::place;
 use readers::{COUNTS, Outcome, count_one};
-use scan::{front, word_at};
-use steps::moving::take_move_in;
+use scan::word_at;
 use steps::renewing::renew;
 
 /// What a number did that a move was offered for: how many words the term has after a visible or an internal move.
@@ -47,11 +49,12 @@ fn outcome(done: Option<Done>) -> Outcome
     }
 }
 
-// Move k of the term in the first n words: its successor is built in lent bytes and put in the term's place, the cells are renewed.
-// Stays, here and in run_moves: the words, the store, the buffer and the arrays of the run are lent apart, as in main_process (its `finish` says why); and that each
-// keeps its length is a fact of what it was and what it is then, which no field of a struct holds.
+// Number k of a run: move k of the term in the first n words of ws is made, and the cells are renewed.
+// Stays, here and in run_moves: the words, the store, the buffer and the arrays of the run are lent apart, as in main_process (its `finish` says why); and that
+// each keeps its length is a fact of what it was and what it is then, which no field of a struct holds.
 fn step_once(
     functions: &Functions,
+    held: Held,
     n: usize,
     k: usize,
     ws: &mut [u16],
@@ -59,16 +62,15 @@ fn step_once(
     out: &mut [u8],
     scratch: &mut Scratch,
 ) -> Option<Done>
-    requires { length ws.old ≤ 65535 }
+    requires { Short held × (length ws.old ≤ 65535) × (k < 65536) }
     ensures words { length ws.new ≡ length ws.old }
     ensures store { length m.new ≡ length m.old }
     ensures bytes { length out.new ≡ length out.old }
     ensures arrays { SameArrays scratch.old scratch.new }
-    ensures stepped { StepsOnce functions.now.words.now functions.now.directory.now functions.now.width functions.now.count functions.now.cells n k ws.old m.old out.old scratch.old.path.now ws.new m.new out.new result }
+    ensures stepped { StepsOnce functions.now held.entry n k ws.old m.old out.old scratch.old ws.new m.new out.new result }
 {
-    let taken = take_move_in(front(ws, n), m, k, scratch, out)?;
+    let taken = take(held, n, k, ws, m, out, scratch)?;
     renew(functions, m, taken.action);
-    load(out, ws, 0, taken.size);
     if 0 < taken.action {
         return Some(Done::Visible(taken.size));
     }
@@ -99,15 +101,15 @@ fn counted(tally: Tally, done: Option<Done>) -> Tally
     }
 }
 
-// From the term in the first n words of ws and the cells in the store, by all numbers of the list, each counted at its reader in `by_reader`; bytes
+// From the term in the first n words of ws and the cells in the store, by all numbers of the course's list, each counted at its reader in `by_reader`; bytes
 // after the last whole pair of a number and its reader are ignored.
-// Stays by number, here and in shared.rt: the contract has the list as words (`words_in`), and groups of four bytes would have to be made into those.
-// Stays: the term is the first n words of ws, here and in shared.rt: it grows and shrinks within one array of a fixed size, since there is no heap. A struct
+// Stays by number: the contract has the list as words (`words_in`), and groups of four bytes would have to be made into those.
+// Stays: the term is the first n words of ws: it grows and shrinks within one array of a fixed size, since there is no heap. A struct
 // of both would be lent, and each contract would have to say too that its array stays the same (`ghost_name`), as `SameArrays` does of a `Scratch`.
-// Stays: eight parameters, of which five are lent to be written, each a different thing.
+// Stays: eight parameters, here and in step_once, of which five are lent to be written, each a different thing.
 pub fn run_moves(
-    list: &[u8],
-    functions: &Functions,
+    course: &Course,
+    held: Held,
     n: usize,
     ws: &mut [u16],
     m: &mut [u16],
@@ -115,20 +117,22 @@ pub fn run_moves(
     scratch: &mut Scratch,
     by_reader: &mut [u32; COUNTS],
 ) -> Tally
-    requires { length ws.old ≤ 65535 }
+    requires { Short held × (length ws.old ≤ 65535) }
     ensures words { length ws.new ≡ length ws.old }
     ensures store { length m.new ≡ length m.old }
     ensures bytes { length out.new ≡ length out.old }
     ensures arrays { SameArrays scratch.old scratch.new }
-    ensures run { Runs list.now functions.now.words.now functions.now.directory.now functions.now.width functions.now.count functions.now.cells n ws.old m.old out.old scratch.old.path.now by_reader.old ws.new m.new out.new by_reader.new result }
+    ensures run { Runs course.now held.entry n ws.old m.old out.old scratch.old by_reader.old ws.new m.new out.new by_reader.new result }
 {
     let mut tally = Tally {
         size: n,
         ..Tally::default()
     };
+    let functions = &course.rules.functions;
+    let list = course.list;
     for i in 0..list.len() / 4 {
         let k = usize::from(word_at(list, 2 * i));
-        let done = step_once(functions, tally.size, k, ws, m, out, scratch);
+        let done = step_once(functions, held, tally.size, k, ws, m, out, scratch);
         let index = place(word_at(list, 2 * i + 1));
         count_one(by_reader, index, outcome(done));
         tally = counted(tally, done);

@@ -8,7 +8,7 @@ ghost use Rattle.runs.specs.MainProcess.{Padded, Finished, totals};
 ghost use Rattle.runs.specs.Starts.{CourseBare, CourseMasked, CourseMain};
 
 use super::admitted::Course;
-use super::shared::run_shared;
+use super::held::Held;
 use super::{Tally, run_moves};
 use cells::{load, save};
 use derivation::Scratch;
@@ -102,8 +102,8 @@ fn run_bare(
         return Totals::default();
     }
     d[0] = part_word(u);
-    let functions = &course.rules.functions;
-    let r = run_shared(course.list, functions, u, 1, d, m, scratch, by_reader);
+    let held = Held::Over(u);
+    let r = run_moves(course, held, 1, d, m, &mut [], scratch, by_reader);
     // never None: there is room for main's reach
     let end = expand(u, front(d, r.size), scratch.mid, 0).map_or(0, |last| last.end);
     let last = Tally { size: end, ..r };
@@ -127,8 +127,8 @@ fn run_masked(
     requires { length ws.old ≤ 65535 }
     ensures { (length spare.new ≡ length spare.old) × CourseMasked course.now n ws.old m.old scratch.old.path.now term.old memory.old spare.old by_reader.old result term.new memory.new spare.new by_reader.new }
 {
-    let functions = &course.rules.functions;
-    let r = run_moves(course.list, functions, n, ws, m, spare, scratch, by_reader);
+    let held = Held::InFull;
+    let r = run_moves(course, held, n, ws, m, spare, scratch, by_reader);
     finish(course, ws, r, m, term, memory)
 }
 

@@ -10,4 +10,4 @@ pub returns-then-d-eq0 : goal.returns-then-d-eq0
 returns-then-d-eq0 c = bare_none c.if-d-eq0.true
 
 pub returns : goal.returns
-returns c = rw c.finish.ensures.told (bare_run c.expand.result c.part_word.ensures (set_first c.args.d.now c.part_word.result c.if-d-eq0.false) (length-set c.args.d.now 0 c.part_word.result) c.run_shared-r.ensures.run c.front.ensures c.expand.ensures (search rules) c.run_shared-r.ensures.arrays.mid_length c.finish.ensures.written refl)
+returns c = rw c.finish.ensures.told (bare_run c.args.course.now c.args.u c.args.scratch.now c.expand.result c.part_word.ensures (set_first c.args.d.now c.part_word.result c.if-d-eq0.false) (length-set c.args.d.now 0 c.part_word.result) c.run_moves-r.ensures.run c.front.ensures c.expand.ensures (search rules) c.run_moves-r.ensures.arrays.mid_length c.finish.ensures.written refl)
