@@ -39,62 +39,62 @@ use Rattle.runs.proofs.Replies.{next_running, next_length}
 -- ── a move sought in the term's words ──
 
 -- Only an offered move is made,
-some_made : (o : Maybe Move) (m : Taken) → Some m ≡ taken_as o → (x : Move) × (o ≡ some x) × (m.action ≡ action_code x.action) × (m.size ≡ length (words 1 x.successor))
+some_made : (w : ℕ) (o : Maybe Move) (m : Taken) → Some m ≡ taken_as w o → (x : Move) × (o ≡ some x) × (m.action ≡ action_code x.action) × (m.size ≡ length (words w x.successor))
 unfolding taken_as
-some_made none m e = absurd (none-some m (sym e))
-some_made (some x) m e = let q = same_Some m _ e in (x, refl, ap (λ (y : Taken). y.action) q, ap (λ (y : Taken). y.size) q)
+some_made w none m e = absurd (none-some m (sym e))
+some_made w (some x) m e = let q = same_Some m _ e in (x, refl, ap (λ (y : Taken). y.action) q, ap (λ (y : Taken). y.size) q)
 
 -- and only where there is none, none.
-none_made : (o : Maybe Move) → None ≡ taken_as o → o ≡ none
+none_made : (w : ℕ) (o : Maybe Move) → None ≡ taken_as w o → o ≡ none
 unfolding taken_as
-none_made none e = refl
-none_made (some x) e = absurd (none-some _ e)
+none_made w none e = refl
+none_made w (some x) e = absurd (none-some _ e)
 
 -- What taking a move says, of the words f and a lent array for its path.
 abbrev pub TakenFrom : (f M : List ℕ) (k : ℕ) (path out out' : List ℕ) (r : Option Taken) → Type 0
-TakenFrom f M k path out out' r = (P : Scope) (E : Term) → Whole f P E → size 1 E ≤ length path → SuccessorFits (get_elem? (moves (holding M) E) k) out
-    → Took (get_elem? (moves (holding M) E) k) out out' r
+TakenFrom f M k path out out' r = (P : Scope) (E : Term) → Whole f P E → size P.edition.width E ≤ length path → SuccessorFits P.edition.width (get_elem? (moves (holding M) E) k) out
+    → Took P.edition.width (get_elem? (moves (holding M) E) k) out out' r
 
 module _ (t D : List ℕ) (w functions c n k : ℕ) (ws M out path : List ℕ) (bound : ℕ) (room : Roomy bound ws out path) (R : RuleSet) (T : List ℕ) (ruled : Ruled R t T D w functions c)
-    (s : Situation (Sem_M (attributes R))) (at : Situated Spelled R s n ws M) (reaches : reach 1 s.term ≤ bound) where
+    (s : Situation (Sem_M (attributes R))) (at : Situated Spelled R s n ws M) (reaches : reach R.edition.width s.term ≤ bound) where
   abbrev offered : Maybe Move
   offered = get_elem? (moves (holding M) s.term) k
 
-  next_fits : (x : Move) → offered ≡ some x → length (words 1 x.successor) ≤ bound
+  next_fits : (x : Move) → offered ≡ some x → length (words R.edition.width x.successor) ≤ bound
   next_fits x e = omega (arith, next_length t D w functions c n k ws M R T ruled s at x e)
 
-  fits_in : (o : Maybe Move) → offered ≡ o → SuccessorFits o out
+  fits_in : (o : Maybe Move) → offered ≡ o → SuccessorFits R.edition.width o out
   fits_in none e = tt
   fits_in (some x) e = omega (arith, next_fits x e, room.bytes_room)
 
-  took : (f out' : List ℕ) (r : Option Taken) → f ≡ take n ws → TakenFrom f M k path out out' r → Took offered out out' r
+  took : (f out' : List ℕ) (r : Option Taken) → f ≡ take n ws → TakenFrom f M k path out out' r → Took R.edition.width offered out out' r
   took f out' r front sought = sought _ s.term (whole R ruled.form s.term at.running f (front ∙ at.held.spelled))
-      (omega (arith, size_below_reach 1 s.term, room.path_room)) (fits_in offered refl)
+      (omega (arith, size_below_reach R.edition.width s.term, room.path_room)) (fits_in offered refl)
 
   -- The successor's words are loaded.
-  next_spelled : (x : Move) → offered ≡ some x → (out' ws' : List ℕ) → out' ≡ written (words 1 x.successor) out → (size' : ℕ) → size' ≡ length (words 1 x.successor) → Loaded out' ws ws' 0 size'
+  next_spelled : (x : Move) → offered ≡ some x → (out' ws' : List ℕ) → out' ≡ written (words R.edition.width x.successor) out → (size' : ℕ) → size' ≡ length (words R.edition.width x.successor) → Loaded out' ws ws' 0 size'
       → Spelled R x.successor size' ws'
   next_spelled x e out' ws' buffer size' l loaded = record {
     size_is = l;
-    spelled = written_loaded (words 1 x.successor) out ws ws' size' l
-        (subst (λ v. Small (words v x.successor)) (width_is_1 ruled.form) (spelling_small R ruled.form x.successor (next_running t D w functions c n k ws M R T ruled s at x e).form))
+    spelled = written_loaded (words R.edition.width x.successor) out ws ws' size' l
+        (spelling_small R ruled.form x.successor (next_running t D w functions c n k ws M R T ruled s at x e).form)
         (omega (arith, next_fits x e, room.words_room)) (subst (λ B. Loaded B ws ws' 0 size') buffer loaded);
   }
 
-  full_none : (out' : List ℕ) → Took offered out out' None → MovedTo Spelled R s.term n ws offered None × WordsOnly out out'
+  full_none : (out' : List ℕ) → Took R.edition.width offered out out' None → MovedTo Spelled R s.term n ws offered None × WordsOnly out out'
   unfolding built_over
   full_none out' h =
-      let e : offered ≡ none = none_made offered h.answer in
-      (subst (λ o. MovedTo Spelled R s.term n ws o None) (sym e) (refl, at.held), words_kept out out' (h.buffer ∙ ap (λ o. built_over o out) e))
+      let e : offered ≡ none = none_made R.edition.width offered h.answer in
+      (subst (λ o. MovedTo Spelled R s.term n ws o None) (sym e) (refl, at.held), words_kept out out' (h.buffer ∙ ap (λ o. built_over R.edition.width o out) e))
 
-  full_some : (out' ws' : List ℕ) (m : Taken) → Took offered out out' (Some m) → Loaded out' ws ws' 0 m.size → MovedTo Spelled R s.term n ws' offered (Some m) × WordsOnly out out'
+  full_some : (out' ws' : List ℕ) (m : Taken) → Took R.edition.width offered out out' (Some m) → Loaded out' ws ws' 0 m.size → MovedTo Spelled R s.term n ws' offered (Some m) × WordsOnly out out'
   unfolding built_over
   full_some out' ws' m h loaded =
-      let p = some_made offered m h.answer in
+      let p = some_made R.edition.width offered m h.answer in
       let x : Move = p.0 in
-      let buffer : out' ≡ written (words 1 x.successor) out = h.buffer ∙ ap (λ o. built_over o out) p.1 in (
+      let buffer : out' ≡ written (words R.edition.width x.successor) out = h.buffer ∙ ap (λ o. built_over R.edition.width o out) p.1 in (
         subst (λ o. MovedTo Spelled R s.term n ws' o (Some m)) (sym p.1) (m, refl, p.2, next_spelled x p.1 out' ws' buffer m.size p.3 loaded),
-        words_written (words 1 x.successor) out out' (omega (arith, next_fits x p.1, room.bytes_room)) buffer,
+        words_written (words R.edition.width x.successor) out out' (omega (arith, next_fits x p.1, room.bytes_room)) buffer,
       )
 
 -- ── the two returns ──

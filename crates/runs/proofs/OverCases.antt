@@ -34,7 +34,7 @@ pub held_within : {u : List ℕ} {R : RuleSet} {n : ℕ} {d : List ℕ} {E : _} 
 held_within {n = n} {d} h = omega (arith, h.size_is, ap length h.words_are, length-take n d)
 
 module _ (t D : List ℕ) (w functions c : ℕ) (u : List ℕ) (n k : ℕ) (d M : List ℕ) (paths numbers middle : ℕ) (bound : ℕ) (room : RoomyOver bound u d paths numbers middle)
-    (R : RuleSet) (T : List ℕ) (ruled : Ruled R t T D w functions c) (s : Situation (Sem_M (attributes R))) (at : Situated (SharedOver u) R s n d M) (reaches : reach 1 s.term ≤ bound) where
+    (R : RuleSet) (T : List ℕ) (ruled : Ruled R t T D w functions c) (s : Situation (Sem_M (attributes R))) (at : Situated (SharedOver u) R s n d M) (reaches : reach R.edition.width s.term ≤ bound) where
   abbrev offered : Maybe Move
   offered = get_elem? (moves (holding M) s.term) k
 
@@ -47,7 +47,7 @@ module _ (t D : List ℕ) (w functions c : ℕ) (u : List ℕ) (n k : ℕ) (d M 
   module _ (d' : List ℕ) (r : Option Moved) (stepped : Stepped u d n M k paths numbers middle d' (told r)) where
     step_some : (x : Move) → offered ≡ some x → StepTaken u P x d' (told r)
     step_some x e =
-        let fits = move_size 1 (holding M) s.term k x e in
+        let fits = move_size R.edition.width (holding M) s.term k x e in
         stepped.taken P at.held.shared (held_within at.held) at.held.words_are at.held.stands room.path_room room.numbers_room x (meant ∙ e)
         (omega (arith, fits, room.words_room)) (omega (arith, fits, room.middle_room))
 
