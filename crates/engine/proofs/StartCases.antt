@@ -60,12 +60,11 @@ module _ (rules T D : List ℕ) (l : Limits) (k : Known rules T D l) where
         → StartDone rules term memory (Ok l.size) term' memory'
     known_done h g t term' memory' et b =
         let R = k.rule_set in
-        let w : R.edition.width ≡ 1 = width_is_1 k.well.form in
         let run = main_running R k.well in
         let n : length (words R.edition.width (unfold_main R)) ≡ size R.edition.width (unfold_main R) = words_length R (unfold_main R) run.form in
-        let s : length (words 1 (unfold_main R)) ≤ word_count term = subst (λ v. length (words v (unfold_main R)) ≤ word_count term) w (omega (arith, n, size_below_reach R.edition.width (unfold_main R), ex, reach_is)) in
-        let m : length (words 1 (unfold_main R)) ≤ 65535 = subst (λ v. length (words v (unfold_main R)) ≤ 65535) w (omega (arith, n, size_below_reach R.edition.width (unfold_main R), k.well.reach_limit)) in
+        let s : length (words R.edition.width (unfold_main R)) ≤ word_count term = omega (arith, n, size_below_reach R.edition.width (unfold_main R), ex, reach_is) in
+        let m : length (words R.edition.width (unfold_main R)) ≤ 65535 = omega (arith, n, size_below_reach R.edition.width (unfold_main R), k.well.reach_limit) in
         let d = subst (λ u. Directory u T D R) (sym et) k.directory in
         let p = b R k.well.form d (ec ∙ cells_is) (known_tables c ec).0 m s g in
         start_done rules term memory R k.admitted_as (omega (arith, ex, reach_is)) (omega (arith, ec, cells_is)) l.size term' memory' (ap (λ (y : Limits). y.size) k.sizes)
-        (p.0 ∙ ap (λ v. written (words v (unfold_main R)) term) (sym w)) p.1
+        p.0 p.1

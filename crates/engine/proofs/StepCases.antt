@@ -100,38 +100,38 @@ module _ (R : RuleSet) (E : Term) (cells : List Value) (t T D s M : List ℕ) (d
   entry_judged : (k : ℕ) → get_elem? (moves (holding M) E) k ≡ get_elem? (moves ((Sem_M (attributes R)).satisfies cells) E) k
   entry_judged k = ap (λ xs. get_elem? xs k) (moves_judged R d.form E d.term.running.form cells M stored)
 
-  short : size 1 E ≤ 8192
-  short = subst (λ w. size w E ≤ 8192) (width_is_1 d.form) (omega (arith, size_below_reach R.edition.width E, d.term.running.reach_limit))
+  short : size R.edition.width E ≤ 8192
+  short = omega (arith, size_below_reach R.edition.width E, d.term.running.reach_limit)
 
   -- The successor's words, and the room for them.
   module _ (k : ℕ) (x : Move) (e : get_elem? (moves (holding M) E) k ≡ some x) where
-    spelled_size : length (words 1 x.successor) ≡ size 1 x.successor
+    spelled_size : length (words R.edition.width x.successor) ≡ size R.edition.width x.successor
     spelled_size =
         fits_length (guard_scope (attributes R) 0) x.successor (fits R d.form x.successor (move_running R (holding M) E k x e d.term.running).form)
 
     acted : WellFormedAction R x.action
     acted = move_action R (holding M) E k x e d.term.running.form
 
-    within : reach 1 E ≤ 8192
-    within = subst (λ w. reach w E ≤ 8192) (width_is_1 d.form) d.term.running.reach_limit
+    within : reach R.edition.width E ≤ 8192
+    within = d.term.running.reach_limit
 
-    size_low : length (words 1 x.successor) % 4294967296 ≡ size 1 x.successor
-    size_low = omega (arith, spelled_size, within, move_size 1 (holding M) E k x e)
+    size_low : length (words R.edition.width x.successor) % 4294967296 ≡ size R.edition.width x.successor
+    size_low = omega (arith, spelled_size, within, move_size R.edition.width (holding M) E k x e)
 
-  successor_fits : (B : List ℕ) → reach 1 E ≤ word_count B → (k : ℕ) (o : Maybe Move) → get_elem? (moves (holding M) E) k ≡ o → SuccessorFits o B
+  successor_fits : (B : List ℕ) → reach R.edition.width E ≤ word_count B → (k : ℕ) (o : Maybe Move) → get_elem? (moves (holding M) E) k ≡ o → SuccessorFits R.edition.width o B
   successor_fits B h k none e = tt
-  successor_fits B h k (some x) e = omega (arith, spelled_size k x e, move_size 1 (holding M) E k x e)
+  successor_fits B h k (some x) e = omega (arith, spelled_size k x e, move_size R.edition.width (holding M) E k x e)
 
 -- Move k as take_move answers it: r, with the successor in the buffer B, which is B' afterwards.
 abbrev pub made : ℕ → ℕ → Option Taken
 made a z = Some (record { action = a; size = z })
 
 abbrev pub MoveTaken : List ℕ → List ℕ → ℕ → List ℕ → List ℕ → Option Taken → Type 0
-MoveTaken s M k B B' r = (P : Scope) (E : Term) → Whole s P E → size 1 E ≤ 8192 → SuccessorFits (get_elem? (moves (holding M) E) k) B → Took (get_elem? (moves (holding M) E) k) B B' r
+MoveTaken s M k B B' r = (P : Scope) (E : Term) → Whole s P E → size P.edition.width E ≤ 8192 → SuccessorFits P.edition.width (get_elem? (moves (holding M) E) k) B → Took P.edition.width (get_elem? (moves (holding M) E) k) B B' r
 
 module _ (R : RuleSet) (E : Term) (cells : List Value) (t T D s M : List ℕ) (d : Described R E t T D s) (stored : Stored R cells M) (k : ℕ) (B B' C : List ℕ) (r : Option Taken) where
   -- What was taken, at the move that there is or is not.
-  taken_so : MoveTaken s M k B B' r → reach 1 E ≤ word_count B → Took (get_elem? (moves (holding M) E) k) B B' r
+  taken_so : MoveTaken s M k B B' r → reach R.edition.width E ≤ word_count B → Took R.edition.width (get_elem? (moves (holding M) E) k) B B' r
   taken_so taken h =
       taken (guard_scope (attributes R) 0) E (whole R d.form E d.term.running s d.term.words_are) (short R E cells t T D s M d stored)
       (successor_fits R E cells t T D s M d stored B h k (get_elem? (moves (holding M) E) k) refl)
@@ -142,28 +142,28 @@ module _ (R : RuleSet) (E : Term) (cells : List Value) (t T D s M : List ℕ) (d
   by_store z C' = subst (λ o. Done (writing B C (or_refused Refusal.not_offered o) (moved_from R cells B C)) z B' C') (entry_judged R E cells t T D s M d stored k)
 
   -- no such move
-  refused_so : (o : Maybe Move) → Took o B B' r → r ≡ None → Done (writing B C (or_refused Refusal.not_offered o) (moved_from R cells B C)) (Err NotOffered) B' C
+  refused_so : (o : Maybe Move) → Took R.edition.width o B B' r → r ≡ None → Done (writing B C (or_refused Refusal.not_offered o) (moved_from R cells B C)) (Err NotOffered) B' C
   unfolding taken_as built_over moved_as refusal
   refused_so none took e = record { answer = refl; term_after = took.buffer; memory_after = refl }
-  refused_so (some x) took e = let f : None ≡ taken_as (some x) = sym e ∙ took.answer in absurd (let z : ◌≡◌ {A = ℕ} 0 1 = cc in omega arith)
+  refused_so (some x) took e = let f : None ≡ taken_as R.edition.width (some x) = sym e ∙ took.answer in absurd (let z : ◌≡◌ {A = ℕ} 0 1 = cc in omega arith)
 
   -- the successor written, and the renewed cells saved
   made_so : (M' C' : List ℕ) (w n c a z : ℕ) (y : Step) → Ruled R t T D w n c → c ≤ cell_room C → r ≡ made a z → length M' ≡ length M → StoreRenewed t D M M' w n c a → Saved M' C C' c
       → ((ρ : Action) → Small ρ → a ≡ action_code ρ → y ≡ told ρ (z % 4294967296))
-      → (o : Maybe Move) → get_elem? (moves (holding M) E) k ≡ o → Took o B B' r → Done (writing B C (or_refused Refusal.not_offered o) (moved_from R cells B C)) (Ok y) B' C'
+      → (o : Maybe Move) → get_elem? (moves (holding M) E) k ≡ o → Took R.edition.width o B B' r → Done (writing B C (or_refused Refusal.not_offered o) (moved_from R cells B C)) (Ok y) B' C'
   unfolding taken_as built_over moved_as
-  made_so M' C' w n c a z y ruled fits er l renewed saved tells none e took = let f : made a z ≡ taken_as none = sym er ∙ took.answer in absurd (let q : ◌≡◌ {A = ℕ} 0 1 = cc in omega arith)
+  made_so M' C' w n c a z y ruled fits er l renewed saved tells none e took = let f : made a z ≡ taken_as R.edition.width none = sym er ∙ took.answer in absurd (let q : ◌≡◌ {A = ℕ} 0 1 = cc in omega arith)
   made_so M' C' w n c a z y ruled fits er l renewed saved tells (some x) e took =
-      let f : made a z ≡ made (action_code x.action) (length (words 1 x.successor)) = sym er ∙ took.answer in
-      let fs : ◌≡◌ {A = Taken} (record { action = a; size = z }) (record { action = action_code x.action; size = length (words 1 x.successor) }) = cc in
+      let f : made a z ≡ made (action_code x.action) (length (words R.edition.width x.successor)) = sym er ∙ took.answer in
+      let fs : ◌≡◌ {A = Taken} (record { action = a; size = z }) (record { action = action_code x.action; size = length (words R.edition.width x.successor) }) = cc in
       let ea : a ≡ action_code x.action = ap (λ v. v.action) fs in
-      let ez : z ≡ length (words 1 x.successor) = ap (λ v. v.size) fs in
+      let ez : z ≡ length (words R.edition.width x.successor) = ap (λ v. v.size) fs in
       let good : WellFormedAction R x.action = acted R E cells t T D s M d stored k x e in
       let after : List Value = state_after (Sem_M (attributes R)) cells x.action in
       let st : Stored R after M' = renewed R T ruled x.action good ea cells stored in
       let ec : c ≡ cells_needed R = ruled.cells_are in
       let room : now_place + c ≤ length M' = omega (arith, l, ec, stored.room) in
-      let ey : y ≡ told x.action (size 1 x.successor) =
+      let ey : y ≡ told x.action (size R.edition.width x.successor) =
       tells x.action (action_small R d.form x.action good) ea ∙ ap (told x.action) (ap (λ u. u % 4294967296) ez ∙ size_low R E cells t T D s M d stored k x e) in
       record {
         answer = ap Ok ey;
@@ -188,15 +188,6 @@ step_made rules s M M' k B B' C C' r a z y taken e l renewed saved tells R E cel
 
 -- ── from a memory ──
 
-module _ (R : RuleSet) (memory B C : List ℕ) where
-  -- What a move writes, with constants of w words.
-  abbrev moved_wide : ℕ → Move → Written Answer_moved
-  moved_wide w x = record {
-    answer = answered (record { action = x.action; size = size w x.successor });
-    term = written (words w x.successor) B;
-    memory = written (memory_words (state_after (Sem_M (attributes R)) (cells_given R memory) x.action)) C;
-  }
-
 -- From the store that was loaded: by the move that was wanted there, or where none is.
 module _ (rules : Admitted) (s M memory : List ℕ) (x : Wanted) (q : Option ℕ)
     (loaded : (R : RuleSet) (t T : List ℕ) → Ruled R t T rules.functions.directory.now rules.functions.width rules.functions.count rules.functions.cells → rules.functions.cells ≤ cell_room memory → Stored R (cells_given R memory) M)
@@ -216,9 +207,7 @@ module _ (rules : Admitted) (s M memory : List ℕ) (x : Wanted) (q : Option ℕ
         let m = chosen_move R E choose by enough asks in
         let cells : List Value = cells_given R memory in
         let o : get_elem? (listed R E memory) k ≡ choose (listed R E memory) = ap (move_at (listed R E memory)) (sym eq) ∙ m.1 in
-        let v : 1 ≡ R.edition.width = sym (width_is_1 by.described.form) in
-        subst (λ u. Done (writing B C (or_refused Refusal.not_offered (choose (listed R E memory))) (moved_wide R memory B C u)) r B' C') v
-        (subst (λ p. Done (writing B C (or_refused Refusal.not_offered p) (moved_from R cells B C)) r B' C') o (stepped R E cells by m.0 h g))
+        subst (λ p. Done (writing B C (or_refused Refusal.not_offered p) (moved_from R cells B C)) r B' C') o (stepped R E cells by m.0 h g)
 
     pub step_unwanted : (B C : List ℕ) → q ≡ None → SteppedAt rules s memory x B C (Err NotOffered) B C
     unfolding moved_as refusal

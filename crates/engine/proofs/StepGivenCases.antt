@@ -20,7 +20,7 @@ use Rattle.given.specs.declared.asking.Request.{Request}
 use Rattle.given.specs.declared.asking.Wanted.{Wanted}
 use Rattle.given.specs.Asking.{asked_as}
 use Rattle.engine.specs.Describing.{DescribedBy}
-use Rattle.engine.specs.Stepping.{Done, reach_in_words, stepped, SteppedAt, Steps}
+use Rattle.engine.specs.Stepping.{Done, stepped, SteppedAt, Steps}
 use Rattle.engine.specs.StepLaws.{step_refused, step_given, asked_stranger, Choosing, asked_wanted, stranger_done, short_term, short_memory, short_next_memory, with_room}
 use Rattle.engine.proofs.MadeCases.{found}
 use Rattle.std.specs.Prelude.{Err, Result, Some, None, Option}
@@ -46,29 +46,26 @@ module _ {rules : Admitted} {s : List ℕ} (memory next_term next_memory : List 
       choosing : (R : RuleSet) (E : Term) (by : DescribedBy rules R E s) → Choosing R by.described.form request x
       choosing R E by = let d = by.described in asked_wanted R d.form request x (sym f ∙ asks R d.form d.directory.declares)
 
-      in_words : {g : ℕ} (R : RuleSet) (E : Term) → DescribedBy rules R E s → g ≡ reach_in_words E → g ≡ reach R.edition.width E
-      in_words R E by eg = eg ∙ ap (λ w. reach w E) (sym (width_is_1 by.described.form))
-
       pub steps_short_term : {g : ℕ} → word_count next_term < g → Steps rules s g memory request next_term next_memory (Err Space) next_term next_memory
       steps_short_term h R E by eg =
           let y = choosing R E by in
-          short_term R E memory next_term next_memory request y.choose y.asked_so (omega (arith, in_words R E by eg))
+          short_term R E memory next_term next_memory request y.choose y.asked_so (omega (arith, eg))
 
       pub steps_short_memory : {g : ℕ} → g ≤ word_count next_term → cell_room memory < rules.functions.cells → Steps rules s g memory request next_term next_memory (Err Space) next_term next_memory
       steps_short_memory h l R E by eg =
           let y = choosing R E by in
-          short_memory R E memory next_term next_memory request y.choose y.asked_so (omega (arith, in_words R E by eg)) (omega (arith, by.cells_are))
+          short_memory R E memory next_term next_memory request y.choose y.asked_so (omega (arith, eg)) (omega (arith, by.cells_are))
 
       pub steps_short_next : {g : ℕ} → g ≤ word_count next_term → rules.functions.cells ≤ cell_room memory → cell_room next_memory < rules.functions.cells → Steps rules s g memory request next_term next_memory (Err Space) next_term next_memory
       steps_short_next h l m R E by eg =
           let y = choosing R E by in
-          short_next_memory R E memory next_term next_memory request y.choose y.asked_so (omega (arith, in_words R E by eg)) (omega (arith, by.cells_are)) (omega (arith, by.cells_are))
+          short_next_memory R E memory next_term next_memory request y.choose y.asked_so (omega (arith, eg)) (omega (arith, by.cells_are)) (omega (arith, by.cells_are))
 
       pub steps_done : {g : ℕ} → g ≤ word_count next_term → rules.functions.cells ≤ cell_room memory → rules.functions.cells ≤ cell_room next_memory → (r : Result Step Refusal) (term' memory' : List ℕ)
           → SteppedAt rules s memory x next_term next_memory r term' memory' → Steps rules s g memory request next_term next_memory r term' memory'
       steps_done h l m r term' memory' step R E by eg =
           let y = choosing R E by in
-          with_room R E memory next_term next_memory request y.choose y.asked_so (omega (arith, in_words R E by eg)) (omega (arith, by.cells_are)) (omega (arith, by.cells_are)) r term' memory'
+          with_room R E memory next_term next_memory request y.choose y.asked_so (omega (arith, eg)) (omega (arith, by.cells_are)) (omega (arith, by.cells_are)) r term' memory'
           (step R E y.choose by l (omega (arith, eg)) m y.chooses)
 
 -- ── bytes given ──

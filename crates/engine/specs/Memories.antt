@@ -53,6 +53,6 @@ memory_started t T D M M₁ M₂ B B' w n c ew en l₁ l₂ prepared filled save
 
 -- Lent buffers with enough room hold main's unfolding and the cells of the start.
 abbrev pub Begun : List ℕ → List ℕ → List ℕ → ℕ → List ℕ → List ℕ → List ℕ → List ℕ → Type 0
-Begun t T D c term memory term' memory' = (R : RuleSet) → Form R → Directory t T D R → c ≡ cells_needed R → c ≤ 1024 → length (words 1 (unfold_main R)) ≤ 65535 → length (words 1 (unfold_main R)) ≤ word_count term
+Begun t T D c term memory term' memory' = (R : RuleSet) → Form R → Directory t T D R → c ≡ cells_needed R → c ≤ 1024 → length (words R.edition.width (unfold_main R)) ≤ 65535 → length (words R.edition.width (unfold_main R)) ≤ word_count term
     → c ≤ cell_room memory
-    → (term' ≡ written (words 1 (unfold_main R)) term) × (memory' ≡ written (memory_words (initial_cells (attributes R))) memory)
+    → (term' ≡ written (words R.edition.width (unfold_main R)) term) × (memory' ≡ written (memory_words (initial_cells (attributes R))) memory)

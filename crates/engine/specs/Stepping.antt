@@ -56,10 +56,6 @@ pub record Done (w : Written Answer_moved) (r : Result Step Refusal) (term' memo
 
 -- ── the operation ──
 
--- The words that a buffer for a successor of E must have room for, G of E.
-abbrev pub reach_in_words : Term → ℕ
-reach_in_words E = reach 1 E
-
 -- Asked of a rule set and a term.
 abbrev pub stepped_from : Request → List ℕ → List ℕ → List ℕ → RuleSet × Term → Written Answer_moved
 stepped_from request memory next_term next_memory p =
@@ -72,8 +68,8 @@ stepped rules term memory request next_term next_memory =
 -- What a move from given cells writes.
 abbrev pub moved_from : RuleSet → List Value → List ℕ → List ℕ → Move → Written Answer_moved
 moved_from R cells next_term next_memory x = record {
-  answer = answered (record { action = x.action; size = size 1 x.successor });
-  term = written (words 1 x.successor) next_term;
+  answer = answered (record { action = x.action; size = size R.edition.width x.successor });
+  term = written (words R.edition.width x.successor) next_term;
   memory = written (memory_words (state_after (Sem_M (attributes R)) cells x.action)) next_memory;
 }
 
@@ -87,15 +83,15 @@ move_at xs None = none
 -- What a step from the store M answers, and leaves in the buffers B and C: of the memory semantics' move k at the cells that the store holds.
 abbrev pub SteppedFrom : (rules : Admitted) (s M : List ℕ) (k : ℕ) (B C : List ℕ) (r : Result Step Refusal) (B' C' : List ℕ) → Type 0
 SteppedFrom rules s M k B C r B' C' =
-    (R : RuleSet) (E : Term) (cells : List Value) → DescribedBy rules R E s → Stored R cells M → reach 1 E ≤ word_count B → rules.functions.cells ≤ cell_room C
+    (R : RuleSet) (E : Term) (cells : List Value) → DescribedBy rules R E s → Stored R cells M → reach R.edition.width E ≤ word_count B → rules.functions.cells ≤ cell_room C
     → Done (writing B C (or_refused Refusal.not_offered (get_elem? (moves ((Sem_M (attributes R)).satisfies cells) E) k)) (moved_from R cells B C)) r B' C'
 
 -- From the cells of a memory: of the move that is wanted among those listed.
 abbrev pub SteppedAt : (rules : Admitted) (s memory : List ℕ) (wanted : Wanted) (B C : List ℕ) (r : Result Step Refusal) (B' C' : List ℕ) → Type 0
 SteppedAt rules s memory wanted B C r B' C' =
-    (R : RuleSet) (E : Term) (choose : List Move → Maybe Move) → DescribedBy rules R E s → rules.functions.cells ≤ cell_room memory → reach 1 E ≤ word_count B → rules.functions.cells ≤ cell_room C → Chooses wanted choose
+    (R : RuleSet) (E : Term) (choose : List Move → Maybe Move) → DescribedBy rules R E s → rules.functions.cells ≤ cell_room memory → reach R.edition.width E ≤ word_count B → rules.functions.cells ≤ cell_room C → Chooses wanted choose
     → Done (writing B C (or_refused Refusal.not_offered (choose (listed R E memory))) (moved R memory B C)) r B' C'
 
 -- From a term of reach g: of what is asked for.
 abbrev pub Steps : (rules : Admitted) (s : List ℕ) (g : ℕ) (memory : List ℕ) (request : Request) (B C : List ℕ) (r : Result Step Refusal) (B' C' : List ℕ) → Type 0
-Steps rules s g memory request B C r B' C' = (R : RuleSet) (E : Term) → DescribedBy rules R E s → g ≡ reach_in_words E → Done (stepped_from request memory B C (R, E)) r B' C'
+Steps rules s g memory request B C r B' C' = (R : RuleSet) (E : Term) → DescribedBy rules R E s → g ≡ reach R.edition.width E → Done (stepped_from request memory B C (R, E)) r B' C'
