@@ -3,4 +3,3 @@
 pub mod Layout
 pub mod Tables
 pub mod TableLaws
-pub mod VariableLaws

@@ -5,11 +5,9 @@
 -- Document 01, "Moves, in order".
 pub mod Listing
 pub mod Lending
-pub mod Counting
 pub mod Positions
 pub mod Rows
 pub mod Coded
-pub mod PartLaws
 pub mod Putting
 pub mod ByCode
 pub mod Operands

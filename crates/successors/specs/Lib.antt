@@ -2,7 +2,6 @@
 -- Document 01, "Moves, in order"; "Operations": the successor is built within a part of the lent buffer.
 pub mod Building
 pub mod Parts
-pub mod Passing
 pub mod Unchanged
 pub mod FollowLaws
 pub mod TermLaws
