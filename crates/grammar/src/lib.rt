@@ -11,10 +11,8 @@ ghost use Rattle.scan.specs.Checking.{checked};
 ghost use Rattle.grammar.specs.Scoping.{scope};
 ghost use Rattle.grammar.specs.Fronts.{Operand, DataFront, CondFront};
 
-use code_numbers::{
-    AND, BEFORE, CONSTANT, DIFFERENCE, EQUAL, IF, LESS, NOT, NOW, OR, SUM, UNDEFINED, VARIABLE,
-};
-use codes::{Due, code_due};
+use code_numbers::{BEFORE, CONSTANT, DIFFERENCE, EQUAL, IF, LESS, NOW, SUM, UNDEFINED, VARIABLE};
+use codes::{Due, code_due, operands_after};
 use refusals::Refusal;
 use scan::number;
 
@@ -62,7 +60,9 @@ fn data_front(s: &[u16], at: usize, rest: usize, c: Scope) -> Result<Front, Refu
         UNDEFINED => Ok(Front::On(b, rest)),
         CONSTANT => operand(s, b, Refusal::Form, 65535, rest),
         VARIABLE => operand(s, b, Refusal::Reference, c.variables, rest),
-        SUM..=DIFFERENCE => Ok(Front::On(b, rest + 2)),
+        // Stays an arm for each: as a range, which is tested after the others, a code of data took 3 instructions more.
+        SUM => Ok(Front::On(b, rest + 2)),
+        DIFFERENCE => Ok(Front::On(b, rest + 2)),
         IF => Ok(Front::Other(b)),
         NOW => operand(s, b, Refusal::Reference, c.now, rest + 1),
         BEFORE if 0 < c.before => operand(s, b, Refusal::Reference, c.before, rest + 1),
@@ -81,10 +81,8 @@ fn cond_front(s: &[u16], at: usize, rest: usize, c: Scope) -> Result<Front, Refu
     let b = at + 1;
     match w {
         EQUAL..=LESS => Ok(Front::Other(b)),
-        AND..=OR => Ok(Front::On(b, rest + 2)),
-        NOT => Ok(Front::On(b, rest + 1)),
-        // true
-        _ => Ok(Front::On(b, rest)),
+        // and, or, not, true
+        _ => Ok(Front::On(b, rest + operands_after(w))),
     }
 }
 
