@@ -32,7 +32,7 @@ use Rattle.runs.specs.Scratch.{WordsOnly}
 use Rattle.runs.specs.ScratchLaws.{words_kept, words_written}
 use Rattle.derivation.specs.declared.scratch.Scratch.{Scratch}
 use Rattle.runs.specs.Running.{Spelled, Situated, Roomy}
-use Rattle.runs.specs.Held.{MovedTo, Moves}
+use Rattle.runs.specs.Held.{MovedTo, TakesMove}
 use Rattle.runs.specs.declared.held.Held.TheVariants.{InFull}
 use Rattle.runs.proofs.Replies.{next_running, next_length}
 
@@ -100,13 +100,13 @@ module _ (t D : List ℕ) (w functions c n k : ℕ) (ws M out path : List ℕ) (
 -- ── the two returns ──
 
 module _ (k : ℕ) (a : Scratch) {n : ℕ} {ws M out out' f : List ℕ} (front : f ≡ take n ws) where
-  pub moved_full_none : {d : Option Taken} → TakenFrom f M k a.path.now out out' None → d ≡ None → Moves InFull n k ws M out a ws out' d
+  pub moved_full_none : {d : Option Taken} → TakenFrom f M k a.path.now out out' None → d ≡ None → TakesMove InFull n k ws M out a ws out' d
   moved_full_none {d} sought e bound room t D w functions c R T ruled s at reaches =
       subst (λ d. MovedTo Spelled R s.term n ws (get_elem? (moves (holding M) s.term) k) d × WordsOnly out out') (sym e)
       (full_none t D w functions c n k ws M out a.path.now bound room R T ruled s at reaches out'
       (took t D w functions c n k ws M out a.path.now bound room R T ruled s at reaches f out' _ front sought))
 
-  pub moved_full : {ws' : List ℕ} {m : Taken} → TakenFrom f M k a.path.now out out' (Some m) → Loaded out' ws ws' 0 m.size → Moves InFull n k ws M out a ws' out' (Some m)
+  pub moved_full : {ws' : List ℕ} {m : Taken} → TakenFrom f M k a.path.now out out' (Some m) → Loaded out' ws ws' 0 m.size → TakesMove InFull n k ws M out a ws' out' (Some m)
   moved_full {ws'} {m} sought loaded bound room t D w functions c R T ruled s at reaches =
       full_some t D w functions c n k ws M out a.path.now bound room R T ruled s at reaches out' ws' m
       (took t D w functions c n k ws M out a.path.now bound room R T ruled s at reaches f out' _ front sought) loaded

@@ -26,11 +26,11 @@ use Rattle.steps.specs.declared.moving.Taken.{Taken}
 use Rattle.runs.specs.ScratchLaws.{words_kept}
 use Rattle.runs.specs.Running.{Situated}
 use Rattle.runs.specs.Sharing.{SharedOver, RoomyOver}
-use Rattle.runs.specs.Held.{MovedTo, Moves}
+use Rattle.runs.specs.Held.{MovedTo, TakesMove}
 use Rattle.runs.specs.declared.held.Held.TheVariants.{Over}
 
 -- The words that hold a term are there.
-pub held_within : {u : List ℕ} {R : RuleSet} {n : ℕ} {d : List ℕ} {E : _} → SharedOver u R E n d → n ≤ length d
+held_within : {u : List ℕ} {R : RuleSet} {n : ℕ} {d : List ℕ} {E : _} → SharedOver u R E n d → n ≤ length d
 held_within {n = n} {d} h = omega (arith, h.size_is, ap length h.words_are, length-take n d)
 
 module _ (t D : List ℕ) (w functions c : ℕ) (u : List ℕ) (n k : ℕ) (d M : List ℕ) (paths numbers middle : ℕ) (bound : ℕ) (room : RoomyOver bound u d paths numbers middle)
@@ -73,7 +73,7 @@ module _ (t D : List ℕ) (w functions c : ℕ) (u : List ℕ) (n k : ℕ) (d M 
 -- ── the two returns ──
 
 module _ (u : Bor (List ℕ)) (a : Scratch) {n k : ℕ} {d M out d' : List ℕ} where
-  pub moved_over_none : {o : Option Taken} → Stepped u.now d n M k (length a.path.now) (length a.acts.now) (length a.mid.now) d' (told None) → o ≡ None → Moves (Over u) n k d M out a d' out o
+  pub moved_over_none : {o : Option Taken} → Stepped u.now d n M k (length a.path.now) (length a.acts.now) (length a.mid.now) d' (told None) → o ≡ None → TakesMove (Over u) n k d M out a d' out o
   moved_over_none stepped e bound room t D w functions c R T ruled s at reaches = (
     subst (MovedTo (SharedOver u.now) R s.term n d' (get_elem? (moves (holding M) s.term) k)) (sym e)
         (none_so t D w functions c u.now n k d M _ _ _ bound room R T ruled s at reaches d' None stepped _ refl refl),
@@ -81,6 +81,6 @@ module _ (u : Bor (List ℕ)) (a : Scratch) {n k : ℕ} {d M out d' : List ℕ} 
   )
 
   pub moved_over : (r : Moved) → Stepped u.now d n M k (length a.path.now) (length a.acts.now) (length a.mid.now) d' (told (Some r)) → length d ≤ 65535
-      → Moves (Over u) n k d M out a d' out (Some (record { action = r.action; size = r.words }))
+      → TakesMove (Over u) n k d M out a d' out (Some (record { action = r.action; size = r.words }))
   moved_over r stepped few bound room t D w functions c R T ruled s at reaches =
       (made_so t D w functions c u.now n k d M _ _ _ bound room R T ruled s at reaches d' r stepped _ refl few, words_kept out out refl)

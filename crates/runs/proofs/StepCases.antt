@@ -19,7 +19,7 @@ use Rattle.listing.specs.Listing.{holding}
 use Rattle.steps.specs.Storing.{Ruled, StoreRenewed}
 use Rattle.steps.specs.declared.moving.Taken.{Taken}
 use Rattle.runs.specs.Running.{Holding, Situated, done_as, Once}
-use Rattle.runs.specs.Held.{holding_of, MovedTo, Moves, StepsOnce}
+use Rattle.runs.specs.Held.{holding_of, MovedTo, TakesMove, StepsOnce}
 use Rattle.runs.specs.declared.Done.{Done}
 use Rattle.runs.specs.declared.Done.TheVariants.{Visible, Internal}
 use Rattle.runs.specs.declared.held.Held.{Held}
@@ -46,21 +46,21 @@ module _ {H : Holding} (t D : List ℕ) (w functions c n k : ℕ) (ws M : List �
 -- ── the three returns ──
 
 module _ (F : Functions) (h : Held) (a : Scratch) {n k : ℕ} {ws M out ws' out' : List ℕ} where
-  pub step_refused : {d : Option Done} → Moves h n k ws M out a ws' out' None → d ≡ None → StepsOnce F h n k ws M out a ws' M out' d
+  pub step_refused : {d : Option Done} → TakesMove h n k ws M out a ws' out' None → d ≡ None → StepsOnce F h n k ws M out a ws' M out' d
   step_refused moved e bound room R T ruled s at reaches =
       let q = moved bound room _ _ _ _ _ R T ruled s at reaches in
       (subst (λ d. Once (holding_of h) R s n k ws' M d) (sym e) (none_once _ _ _ _ _ n k ws M R T ruled s at ws' _ refl q.0), q.1)
 
-  step_made : (m : Taken) (d : Option Done) → ((ρ : Action) → m.action ≡ action_code ρ → d ≡ done_as (taken ρ) m.size) → Moves h n k ws M out a ws' out' (Some m) → (M' : List ℕ)
+  step_made : (m : Taken) (d : Option Done) → ((ρ : Action) → m.action ≡ action_code ρ → d ≡ done_as (taken ρ) m.size) → TakesMove h n k ws M out a ws' out' (Some m) → (M' : List ℕ)
       → StoreRenewed F.words.now F.directory.now M M' F.width F.count F.cells m.action → StepsOnce F h n k ws M out a ws' M' out' d
   step_made m d told moved M' renewed bound room R T ruled s at reaches =
       let q = moved bound room _ _ _ _ _ R T ruled s at reaches in
       (made_so _ _ _ _ _ n k ws M R T ruled s at ws' _ refl m q.0 M' renewed d told, q.1)
 
-  pub step_internal : {M' : List ℕ} {m : Taken} → Moves h n k ws M out a ws' out' (Some m) → StoreRenewed F.words.now F.directory.now M M' F.width F.count F.cells m.action
+  pub step_internal : {M' : List ℕ} {m : Taken} → TakesMove h n k ws M out a ws' out' (Some m) → StoreRenewed F.words.now F.directory.now M M' F.width F.count F.cells m.action
       → m.action ≤ 0 → StepsOnce F h n k ws M out a ws' M' out' (Some (Internal m.size))
   step_internal {M'} {m} moved renewed z = step_made m _ (λ ρ e. done_internal ρ m.action m.size e z) moved M' renewed
 
-  pub step_visible : {M' : List ℕ} {m : Taken} → Moves h n k ws M out a ws' out' (Some m) → StoreRenewed F.words.now F.directory.now M M' F.width F.count F.cells m.action
+  pub step_visible : {M' : List ℕ} {m : Taken} → TakesMove h n k ws M out a ws' out' (Some m) → StoreRenewed F.words.now F.directory.now M M' F.width F.count F.cells m.action
       → 0 < m.action → StepsOnce F h n k ws M out a ws' M' out' (Some (Visible m.size))
   step_visible {M'} {m} moved renewed z = step_made m _ (λ ρ e. done_visible ρ m.action m.size e z) moved M' renewed

@@ -44,8 +44,8 @@ MovedTo H R E n ws none r = (r ≡ None) × H R E n ws
 MovedTo H R E n ws (some x) r = (m : Taken) × (r ≡ Some m) × (m.action ≡ action_code x.action) × H R x.successor m.size ws
 
 -- Of the words ws and the bytes out, which are ws' and out' afterwards, and the store M.
-abbrev pub Moves : (h : Held) (n k : ℕ) (ws M out : List ℕ) (a : Scratch) (ws' out' : List ℕ) (r : Option Taken) → Type 0
-Moves h n k ws M out a ws' out' r =
+abbrev pub TakesMove : (h : Held) (n k : ℕ) (ws M out : List ℕ) (a : Scratch) (ws' out' : List ℕ) (r : Option Taken) → Type 0
+TakesMove h n k ws M out a ws' out' r =
     (bound : ℕ) → RoomFor h bound ws out a → (t D : List ℕ) (w functions c : ℕ) (R : RuleSet) (T : List ℕ) → Ruled R t T D w functions c
     → (s : Situation (Sem_M (attributes R))) → Situated (holding_of h) R s n ws M → reach R.edition.width s.term ≤ bound
     → MovedTo (holding_of h) R s.term n ws' (get_elem? (moves (holding M) s.term) k) r × WordsOnly out out'

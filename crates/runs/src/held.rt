@@ -2,7 +2,7 @@
 // Stays: that words are at most 65,535 is a clause of each function here, for the reason in successors (docs/DESIGN-PASS.md, "A struct for words").
 ghost use Rattle.std.specs.Prelude.{◌≡◌, ◌≤◌, ◌<◌, length};
 ghost use Rattle.derivation.specs.Arrays.{SameArrays};
-ghost use Rattle.runs.specs.Held.{Short, Moves};
+ghost use Rattle.runs.specs.Held.{Short, TakesMove};
 
 use cells::load;
 use derivation::Scratch;
@@ -34,7 +34,7 @@ pub fn take(
     ensures words { length ws.new ≡ length ws.old }
     ensures bytes { length out.new ≡ length out.old }
     ensures arrays { SameArrays scratch.old scratch.new }
-    ensures moved { Moves held.entry n k ws.old m.now out.old scratch.old ws.new out.new result }
+    ensures moved { TakesMove held.entry n k ws.old m.now out.old scratch.old ws.new out.new result }
 {
     match held {
         Held::InFull => {
