@@ -15,7 +15,7 @@ ghost use Rattle.admission.specs.Admitting.{WordsAdmitted, FileAdmitted};
 use arguments::layout::TABLES;
 use arguments::zeros;
 use blocks::opened::Blocks;
-use blocks::{CONTENT_WORDS, join, open};
+use blocks::{CONTENT_WORDS, WORDS_OF_8, WORDS_OF_64, join, open};
 use refusals::Refusal;
 use rules::read;
 use scan::last;
@@ -68,9 +68,11 @@ pub fn admit_in(
     admit_words(&words[2..end], tables, dir)
 }
 
-// Local words for one block, eight, or 64, the most that there may be: a small rule set does not pay for clearing a large array.
+// Local words for one block, for 8, or for 64, the most that there may be: a small rule set does not pay for clearing a large array. It is a function apart
+// from its caller, so that it does not pay for a frame with one either.
 // Stays: one function for all sizes of a local array, since memory is fixed and there is no heap. Its clause is of the const parameter, which each call
 // gives as a number: the check finds it there, and no struct is needed for it.
+#[inline(never)]
 fn admit_sized<const WORDS: usize>(file: &Blocks) -> Result<Limits, Refusal>
     requires { (254 * file.now.count ≤ WORDS) × (WORDS ≤ 16256) }
     ensures { result ≡ read_whole (drop 2 (stream file.now.bytes.now)) }
@@ -90,10 +92,10 @@ pub fn admit(rules: &[u8]) -> Result<Limits, Refusal>
 {
     let file = open(rules)?;
     if file.count <= 1 {
-        return admit_sized::<254>(&file);
+        return admit_sized::<CONTENT_WORDS>(&file);
     }
     if file.count <= 8 {
-        return admit_sized::<2032>(&file);
+        return admit_sized::<WORDS_OF_8>(&file);
     }
-    admit_sized::<16256>(&file)
+    admit_sized::<WORDS_OF_64>(&file)
 }

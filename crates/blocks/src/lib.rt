@@ -20,6 +20,12 @@ pub const BLOCK: usize = 512;
 /// How many words of a block come after its two sums.
 pub const CONTENT_WORDS: usize = 254;
 
+/// How many words 8 blocks have after their sums.
+pub const WORDS_OF_8: usize = 2032;
+
+/// How many words 64 blocks have after their sums, the most blocks that there may be.
+pub const WORDS_OF_64: usize = 16256;
+
 // Both sums of a block, before or after their remainders are taken.
 #[derive(Clone, Copy)]
 pub struct Pair {

@@ -8,10 +8,10 @@ ghost use Rattle.eb3.specs.Operations.{cells_needed, listed, count};
 ghost use Rattle.engine.specs.Describing.{DescribedBy};
 ghost use Rattle.engine.specs.Counting.{counted_as};
 
-use super::room;
+use super::{LONGEST_TERM, MIDDLE_TERM, SHORT_TERM, room};
 use arguments::layout::TABLES;
 use blocks::opened::Blocks;
-use blocks::{CONTENT_WORDS, open};
+use blocks::{CONTENT_WORDS, WORDS_OF_8, WORDS_OF_64, open};
 use declarations::DIRECTORY;
 use expressions::store;
 use given::giving::given_in;
@@ -53,9 +53,11 @@ fn count_in(
     Ok(count_at(&rules, s, memory))
 }
 
-// Local words for the blocks and for the term: a rule set of one block and a term of at most 256 words do not pay for clearing large arrays.
+// Local words for the blocks, for one, for 8, or for 64, the most that there may be, and for the term, for 256, for 1,024, or for 8,192: a small rule set
+// and a short term do not pay for clearing large arrays. It is a function apart from its caller, so that they do not pay for a frame with large arrays either.
 // Stays: one function for all sizes of the local arrays, since memory is fixed and there is no heap. Its clause is of const parameters, which each call
 // gives as numbers: the check finds it there, and no struct is needed for it.
+#[inline(never)]
 fn count_sized<const WORDS: usize, const TERM: usize>(
     file: &Blocks,
     term: &[u8],
@@ -76,8 +78,14 @@ pub fn count(rules: &[u8], term: &[u8], memory: &[u8]) -> Result<u32, Refusal>
     ensures { result ≡ counted_as (count rules.now term.now memory.now) }
 {
     let file = open(rules)?;
-    if file.count <= 1 && term.len() <= 512 {
-        return count_sized::<254, 256>(&file, term, memory);
+    if file.count <= 1 && term.len() <= 2 * SHORT_TERM {
+        return count_sized::<CONTENT_WORDS, SHORT_TERM>(&file, term, memory);
     }
-    count_sized::<16256, 8192>(&file, term, memory)
+    if file.count <= 8 && term.len() <= 2 * MIDDLE_TERM {
+        return count_sized::<WORDS_OF_8, MIDDLE_TERM>(&file, term, memory);
+    }
+    if file.count <= 8 {
+        return count_sized::<WORDS_OF_8, LONGEST_TERM>(&file, term, memory);
+    }
+    count_sized::<WORDS_OF_64, LONGEST_TERM>(&file, term, memory)
 }

@@ -10,6 +10,13 @@ ghost use Rattle.refusals.specs.declared.Refusal.TheVariants.{Space};
 
 use refusals::Refusal;
 
+// How many words there are in the local arrays for a given term: for a short one, for one of middle length, and for the longest that there may be.
+const SHORT_TERM: usize = 256;
+
+const MIDDLE_TERM: usize = 1024;
+
+const LONGEST_TERM: usize = 8192;
+
 pub mod counting;
 pub mod running;
 pub mod starting;

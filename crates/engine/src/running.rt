@@ -7,7 +7,7 @@ use super::room;
 use admission::admit_in;
 use arguments::layout::TABLES;
 use blocks::opened::Blocks;
-use blocks::{CONTENT_WORDS, open};
+use blocks::{CONTENT_WORDS, WORDS_OF_8, WORDS_OF_64, open};
 use declarations::DIRECTORY;
 use runs::admitted::{Admitted, Course};
 use runs::main_process::{Totals, run_main};
@@ -52,9 +52,11 @@ fn run_in(
     Ok(totals)
 }
 
-// Local words for one block, or for 64, the most that there may be.
+// Local words for one block, for 8, or for 64, the most that there may be. It is a function apart from its caller, so that a small rule set does not pay for
+// a frame with many words.
 // Stays: one function for all sizes of a local array, since memory is fixed and there is no heap. Its clause is of const parameters, which each call
 // gives as numbers: the check finds it there, and no struct is needed for it.
+#[inline(never)]
 fn run_sized<const WORDS: usize>(
     file: &Blocks,
     list: &[u8],
@@ -88,7 +90,10 @@ pub fn run(
 {
     let file = open(rules)?;
     if file.count <= 1 {
-        return run_sized::<254>(&file, list, table, term, memory, spare, cells);
+        return run_sized::<CONTENT_WORDS>(&file, list, table, term, memory, spare, cells);
     }
-    run_sized::<16256>(&file, list, table, term, memory, spare, cells)
+    if file.count <= 8 {
+        return run_sized::<WORDS_OF_8>(&file, list, table, term, memory, spare, cells);
+    }
+    run_sized::<WORDS_OF_64>(&file, list, table, term, memory, spare, cells)
 }

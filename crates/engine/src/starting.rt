@@ -9,7 +9,7 @@ use super::room;
 use admission::admit_in;
 use arguments::layout::{AT_START, TABLES};
 use blocks::opened::Blocks;
-use blocks::{CONTENT_WORDS, open};
+use blocks::{CONTENT_WORDS, WORDS_OF_8, WORDS_OF_64, open};
 use cells::{fill, lay, save};
 use declarations::DIRECTORY;
 use runs::admitted::Admitted;
@@ -83,9 +83,11 @@ fn start_in(
     Ok(sizes.size)
 }
 
-// Local words for one block, or for 64, the most that there may be.
+// Local words for one block, for 8, or for 64, the most that there may be. It is a function apart from its caller, so that a small rule set does not pay for
+// a frame with many words.
 // Stays: one function for all sizes of a local array, since memory is fixed and there is no heap. Its clause is of const parameters, which each call
 // gives as numbers: the check finds it there, and no struct is needed for it.
+#[inline(never)]
 fn start_sized<const WORDS: usize>(
     file: &Blocks,
     term: &mut [u8],
@@ -104,7 +106,10 @@ pub fn start(rules: &[u8], term: &mut [u8], memory: &mut [u8]) -> Result<u32, Re
 {
     let file = open(rules)?;
     if file.count <= 1 {
-        return start_sized::<254>(&file, term, memory);
+        return start_sized::<CONTENT_WORDS>(&file, term, memory);
     }
-    start_sized::<16256>(&file, term, memory)
+    if file.count <= 8 {
+        return start_sized::<WORDS_OF_8>(&file, term, memory);
+    }
+    start_sized::<WORDS_OF_64>(&file, term, memory)
 }

@@ -13,11 +13,11 @@ ghost use Rattle.steps.specs.Counting.{Whole};
 ghost use Rattle.given.specs.Asking.{Chooses};
 ghost use Rattle.engine.specs.Stepping.{told, SameBuffers, Done, move_at, stepped, SteppedFrom, SteppedAt, Steps};
 
-use super::room;
+use super::{LONGEST_TERM, MIDDLE_TERM, SHORT_TERM, room};
 use actions::{argument_at, argument_count, label_of};
 use arguments::layout::TABLES;
 use blocks::opened::Blocks;
-use blocks::{CONTENT_WORDS, open};
+use blocks::{CONTENT_WORDS, WORDS_OF_8, WORDS_OF_64, open};
 use cells::save;
 use declarations::DIRECTORY;
 use expressions::store;
@@ -182,9 +182,11 @@ fn step_in(
     step_given(&rules, s, given.reach, asked, next)
 }
 
-// Local words for the blocks and for the term: a rule set of one block and a term of at most 256 words do not pay for clearing large arrays.
+// Local words for the blocks, for one, for 8, or for 64, the most that there may be, and for the term, for 256, for 1,024, or for 8,192: a small rule set
+// and a short term do not pay for clearing large arrays. It is a function apart from its caller, so that they do not pay for a frame with large arrays either.
 // Stays: one function for all sizes of the local arrays, since memory is fixed and there is no heap. Its clause is of const parameters, which each call
 // gives as numbers: the check finds it there, and no struct is needed for it.
+#[inline(never)]
 fn step_sized<const WORDS: usize, const TERM: usize>(
     file: &Blocks,
     asked: &Asked,
@@ -205,10 +207,16 @@ fn step_by(rules: &[u8], asked: &Asked, next: &mut Next) -> Result<Step, Refusal
     ensures done { Done (stepped rules.now asked.now.term.now asked.now.memory.now asked.now.request next.old.term.now next.old.memory.now) result next.new.term.now next.new.memory.now }
 {
     let file = open(rules)?;
-    if file.count <= 1 && asked.term.len() <= 512 {
-        return step_sized::<254, 256>(&file, asked, next);
+    if file.count <= 1 && asked.term.len() <= 2 * SHORT_TERM {
+        return step_sized::<CONTENT_WORDS, SHORT_TERM>(&file, asked, next);
     }
-    step_sized::<16256, 8192>(&file, asked, next)
+    if file.count <= 8 && asked.term.len() <= 2 * MIDDLE_TERM {
+        return step_sized::<WORDS_OF_8, MIDDLE_TERM>(&file, asked, next);
+    }
+    if file.count <= 8 {
+        return step_sized::<WORDS_OF_8, LONGEST_TERM>(&file, asked, next);
+    }
+    step_sized::<WORDS_OF_64, LONGEST_TERM>(&file, asked, next)
 }
 
 // ── the operations ──

@@ -104,8 +104,10 @@ pub fn take_move_in(
     })
 }
 
-// The same with arrays of its own, for a path of N words; the third is empty.
+// The same with arrays of its own, for a path of N words; the third is empty. Not put into its caller, so that a short term does not pay for a frame with
+// a long path.
 // Stays: it only makes arrays, of a size that its caller picks, since there is no heap.
+#[inline(never)]
 fn take_sized<const N: usize>(s: &[u16], m: &[u16], k: usize, out: &mut [u8]) -> Option<Taken>
     requires { (length s.now ≤ 65535) × (N ≤ 65535) }
     ensures { (P : Scope) (E : Term) → Whole s.now P E → size P.edition.width E ≤ N → SuccessorFits P.edition.width (get_elem? (moves (holding m.now) E) k) out.old → Took P.edition.width (get_elem? (moves (holding m.now) E) k) out.old out.new result }
@@ -121,13 +123,16 @@ fn take_sized<const N: usize>(s: &[u16], m: &[u16], k: usize, out: &mut [u8]) ->
     r
 }
 
-// With small arrays for a short term, so that little is cleared for it.
+// With an array for a path of 256 words, of 1,024, or of 8,192, the most that there may be: little is cleared for a short term.
 pub fn take_move(s: &[u16], m: &[u16], k: usize, out: &mut [u8]) -> Option<Taken>
     requires { length s.now ≤ 65535 }
     ensures { (P : Scope) (E : Term) → Whole s.now P E → size P.edition.width E ≤ 8192 → SuccessorFits P.edition.width (get_elem? (moves (holding m.now) E) k) out.old → Took P.edition.width (get_elem? (moves (holding m.now) E) k) out.old out.new result }
 {
     if s.len() <= 256 {
         return take_sized::<256>(s, m, k, out);
+    }
+    if s.len() <= 1024 {
+        return take_sized::<1024>(s, m, k, out);
     }
     take_sized::<8192>(s, m, k, out)
 }
