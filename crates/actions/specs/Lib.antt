@@ -1,6 +1,5 @@
 -- Actions as numbers.
 -- Document 01, "Moves, in order": equal actions, label and arguments.
 pub mod Codes
-pub mod CodesLaws
-pub mod ActionLaws
 pub mod Sets
+pub mod Laws

@@ -20,7 +20,7 @@ use Rattle.scan.specs.Checking.{last_of}
 use Rattle.eb3.proofs.Laws.Editions.{edition_1_defined}
 use Rattle.rules.specs.declared.Rules.{Rules}
 use Rattle.rules.specs.Sections.{rules_weighed, found_rules}
-use Rattle.rules.specs.WholeLaws.{rules_found, rules_refused, whole_long, whole_behind, whole_judged}
+use Rattle.rules.specs.Laws.Whole.{rules_found, rules_refused, whole_long, whole_behind, whole_judged}
 use Rattle.admission.specs.Answering.{admitted, read_whole}
 use Rattle.admission.specs.Admitting.{Described, WordsAdmitted, FileAdmitted}
 use Rattle.std.specs.Prelude.{Ok, Err, Result}

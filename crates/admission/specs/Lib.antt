@@ -2,6 +2,5 @@
 -- (document 01, "Operations": Admit; refusals 1 to 8).
 pub mod Answering
 pub mod Admitting
-pub mod AdmissionLaws
-pub mod OpeningLaws
 pub mod Knowing
+pub mod Laws

@@ -10,14 +10,14 @@ use Rattle.std.specs.Prelude.{Bool, true, false}
 use Rattle.std.proofs.Math.Decide.{dec_le}
 use borrow.Author.Tests.{lt-ltb, le-ltb, le-leb, lt-leb, eq-eqb, ne_eqb}
 use Rattle.scan.specs.Checking.{checked, Checked}
-use Rattle.scan.specs.Laws.{nil_form, part, by_number_out}
-use Rattle.scan.specs.ReadingLaws.{number_below}
+use Rattle.scan.specs.Laws.Checking.{nil_form, part, by_number_out}
+use Rattle.scan.specs.Laws.Reading.{number_below}
 use Rattle.eb3.specs.RuleSets.{domain_size, variable_argument}
 use Rattle.eb3.specs.Reading.{taken, refused, pick, then, number_of, by_number, number_in}
 use Rattle.eb3.specs.RuleReading.{argument_of}
 use Rattle.arguments.specs.Layout.{sizes_place, domain_count}
 use Rattle.arguments.specs.Tables.{row, declared, constant_of_domain, variable_of_domain}
-use Rattle.arguments.specs.TableLaws.{domain_at, domain_beyond, argument_is}
+use Rattle.arguments.specs.Laws.Tables.{domain_at, domain_beyond, argument_is}
 use Rattle.std.specs.Prelude.{Ok, Err}
 use Rattle.refusals.specs.declared.Refusal.{Refusal}
 use Rattle.refusals.specs.declared.Refusal.TheVariants.{Form, Kind}

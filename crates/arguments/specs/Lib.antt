@@ -2,4 +2,4 @@
 -- Document 01, "Blocks and the rule stream", item 5: masks and arguments, and what they are judged by.
 pub mod Layout
 pub mod Tables
-pub mod TableLaws
+pub mod Laws

@@ -2,4 +2,4 @@
 -- Document 01, "Blocks and the rule stream"; refusals 1 to 3.
 pub mod Files
 pub mod Opening
-pub mod OpeningLaws
+pub mod Laws

@@ -4,15 +4,8 @@ pub mod Layout
 pub mod Filling
 pub mod Preparing
 pub mod Agreement
-pub mod CellLaws
 pub mod Reads
 pub mod Turns
-pub mod TurnLaws
 pub mod Frames
-pub mod FrontLaws
-pub mod FrameLaws
-pub mod FramingLaws
-pub mod PreparingLaws
-pub mod MemoryLaws
 pub mod Readying
-pub mod ReadyingFills
+pub mod Laws

@@ -4,6 +4,21 @@ use Rattle.std.specs.Prelude.{◌≡◌, cond, List, ℕ, ◌+◌, ◌-◌, ◌*
 use Rattle.eb3.specs.Bytes.{words_in, written}
 use Rattle.declarations.specs.Directory.{first_cell_in}
 use Rattle.expressions.specs.Stores.{stored, row_place, now_place, before_place, old_cells_place, row_words, begin_place}
+use Rattle.std.specs.Prelude.{◌≡◌, refl, Bool, List, ℕ, ◌+◌, ◌-◌, ◌*◌, ◌/◌, ◌%◌, ◌≤◌, ◌<◌, length, get_or, set, take, drop, replicate}
+use Rattle.std.proofs.Common.{sym, ap, subst, ◌∙◌, length-set, length-drop, length-take-le}
+use native.Mathlib.Omega.{arith}
+use borrow.Rule.Slice.PartMut.{put_mid}
+use Rattle.std.proofs.lemmas.List.{places}
+use Rattle.std.proofs.Math.Decide.{ℕ_discrete, dec_lt}
+use Rattle.std.proofs.Math.ListN.{get_or-eq_default}
+use borrow.Author.Tests.{lt-ltb, le-ltb, le-leb}
+use Rattle.eb3.specs.Bytes.{words_in, written}
+use Rattle.eb3.proofs.Laws.Bytes.{words_counted}
+use Rattle.declarations.specs.Directory.{first_cell_in}
+use Rattle.expressions.specs.Stores.{stored, now_place, old_cells_place, row_words, row_place, begin_place}
+use Rattle.writing.specs.Wrote.{Wrote}
+use Rattle.cells.specs.Laws.Turns.{stored_there, stored_else}
+use Rattle.cells.specs.Preparing.{Prepared, ready_word, Loaded, Saved}
 
 -- No variables, the old cells behind c new ones, and the rows of n functions by the directory's rows of w words; functions that are not there have no cell.
 pub record Prepared (D M M' : List ℕ) (w n c : ℕ) : Type 0 where
@@ -29,3 +44,9 @@ pub record Loaded (B M M' : List ℕ) (at c : ℕ) : Type 0 where
 pub record Saved (M B B' : List ℕ) (c : ℕ) : Type 0 where
   pub same_length : length B' ≡ length B
   pub right : now_place + c ≤ length M → 2 * c ≤ length B → B' ≡ written (take c (drop now_place M)) B
+
+pub record Loading (B M M' : List ℕ) (at i : ℕ) : Type 0 where
+  pub same_length : length M' ≡ length M
+  pub there : (k : ℕ) → k < i → stored M' (at + k) ≡ get_or (words_in B) k 0
+  pub kept_below : (k : ℕ) → k < at → stored M' k ≡ stored M k
+  pub kept_above : (k : ℕ) → at + i ≤ k → stored M' k ≡ stored M k

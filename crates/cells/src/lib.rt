@@ -13,7 +13,7 @@ ghost use Rattle.expressions.specs.Stores.{now_place};
 ghost use Rattle.cells.specs.Filling.{Filling, Filled};
 ghost use Rattle.cells.specs.Frames.{CopiedApart};
 ghost use Rattle.cells.specs.Preparing.{Prepared, ready_word, Loaded, Saved};
-ghost use Rattle.cells.specs.PreparingLaws.{Loading};
+ghost use Rattle.cells.specs.Preparing.{Loading};
 
 use arguments::layout::AT_LABELS;
 use arguments::{entry, functions, labels};

@@ -10,13 +10,14 @@ use lib.ListN.{length, get_or, set, take}
 use lib.Seq.{paste, paste-suc, length-paste, length-take-le}
 use Rattle.eb3.specs.Reading.{Read, refused, taken, Reader, giving, then, both, number_of, repeat, counted}
 use Rattle.scan.specs.Checking.{checked, last_of, Checked}
-use Rattle.scan.specs.Laws.{Ends, Tail, number_ends, last_all, last_length, last_tail, tail_at, tail_on, tail_short}
-use Rattle.scan.specs.RowLaws.{counted_ends, passed, repeat_out, repeat_in}
+use Rattle.scan.specs.Ends.{Ends, Tail}
+use Rattle.scan.specs.Laws.Checking.{number_ends, last_all, last_length, last_tail, tail_at, tail_on, tail_short}
+use Rattle.scan.specs.Laws.Rows.{counted_ends, passed, repeat_out, repeat_in}
 use Rattle.arguments.specs.Layout.{label_words}
 use Rattle.arguments.specs.Tables.{row}
 use Rattle.declarations.specs.Entering.{put_row, put_rows, Entered}
-use Rattle.declarations.specs.Regions.{paste_front}
-use Rattle.declarations.specs.Rows.{numbers_row}
+use Rattle.declarations.specs.Laws.Regions.{paste_front}
+use Rattle.declarations.specs.Laws.Rows.{numbers_row}
 use Rattle.std.specs.Prelude.{Ok, Err}
 use Rattle.refusals.specs.declared.Refusal.{Refusal}
 

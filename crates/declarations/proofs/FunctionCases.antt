@@ -13,18 +13,20 @@ use Rattle.eb3.specs.Reading.{Read, refused, taken, Reader, giving, then, both, 
 use Rattle.eb3.specs.ExpressionReading.{read_data}
 use Rattle.eb3.specs.RuleReading.{function_from, read_function}
 use Rattle.scan.specs.Checking.{checked, last_of, Checked}
-use Rattle.scan.specs.Laws.{Fine, tail_at, both_in, both_out, number_word}
-use Rattle.grammar.specs.Laws.{data_ends}
+use Rattle.scan.specs.Ends.{Fine}
+use Rattle.scan.specs.Laws.Checking.{tail_at, both_in, both_out, number_word}
+use Rattle.grammar.specs.Laws.Reading.{data_ends}
 use Rattle.arguments.specs.Layout.{domain_count, label_count}
 use Rattle.arguments.specs.Tables.{edition_in, declared}
 use Rattle.declarations.specs.declared.Counted.{Counted}
 use Rattle.declarations.specs.Entering.{labels_of, cells_of, all_cells, function_cells, functions_cells, CellsBound, found_cells}
-use Rattle.declarations.specs.ScopeFacts.{one_each, at_start, start_scope}
-use Rattle.declarations.specs.FunctionLaws.{function_ends}
+use Rattle.declarations.specs.Laws.Scopes.{one_each, at_start, start_scope}
+use Rattle.declarations.specs.Laws.Functions.{function_ends}
 use Rattle.declarations.specs.Noting.{start_of, label_expressions, function_of}
 use Rattle.std.specs.Prelude.{Ok, Err, Result}
 use Rattle.refusals.specs.declared.Refusal.{Refusal}
-use Rattle.scan.specs.ReadingLaws.{RefusedAs, checked_refused}
+use Rattle.scan.specs.Readings.{RefusedAs}
+use Rattle.scan.specs.Laws.Reading.{checked_refused}
 use Rattle.refusals.specs.Numbers.{refusal}
 
 -- ── both kinds ──

@@ -13,14 +13,16 @@ use Rattle.eb3.specs.Spelling.{data_words}
 use Rattle.eb3.specs.Reading.{Read, refused, taken, Reader, giving, then, both, for_each}
 use Rattle.eb3.specs.ExpressionReading.{read_data}
 use Rattle.scan.specs.Checking.{checked, last_of, Checked}
-use Rattle.scan.specs.Laws.{Tail, tail_on, last_all, tail_at, tail_short, got, last_tail, last_length}
-use Rattle.scan.specs.ReadingLaws.{checked_refused, not_taken, same_refused, refused_checked, RefusedAs}
-use Rattle.scan.specs.RowLaws.{passed}
-use Rattle.grammar.specs.Laws.{data_ends}
+use Rattle.scan.specs.Ends.{Tail}
+use Rattle.scan.specs.Laws.Checking.{tail_on, last_all, tail_at, tail_short, got, last_tail, last_length}
+use Rattle.scan.specs.Readings.{RefusedAs}
+use Rattle.scan.specs.Laws.Reading.{checked_refused, not_taken, same_refused, refused_checked}
+use Rattle.scan.specs.Laws.Rows.{passed}
+use Rattle.grammar.specs.Laws.Reading.{data_ends}
 use Rattle.arguments.specs.Layout.{label_place}
 use Rattle.arguments.specs.Tables.{edition_in, from, row}
 use Rattle.declarations.specs.Entering.{labels_of}
-use Rattle.declarations.specs.ScopeFacts.{at_label, label_scope}
+use Rattle.declarations.specs.Laws.Scopes.{at_label, label_scope}
 use Rattle.declarations.specs.Directory.{Stands, Standing}
 use Rattle.declarations.proofs.DirectoryLaws.{stands_noted, standing_kept, standing_more}
 use Rattle.declarations.specs.Noting.{for_label, label_expressions, LabelsNoted}

@@ -15,16 +15,17 @@ use Rattle.eb3.specs.Reading.{Read, refused, taken, number_of, series}
 use Rattle.eb3.specs.ExpressionReading.{read_data}
 use Rattle.eb3.specs.RuleReading.{function_from, read_function}
 use Rattle.scan.specs.Checking.{checked, last_of, Checked}
-use Rattle.scan.specs.Laws.{Tail, Fine, tail_at, tail_on, tail_short, last_tail, last_all, last_last, last_length}
-use Rattle.scan.specs.ReadingLaws.{checked_refused, not_taken}
-use Rattle.grammar.specs.Laws.{data_ends}
+use Rattle.scan.specs.Ends.{Tail, Fine}
+use Rattle.scan.specs.Laws.Checking.{tail_at, tail_on, tail_short, last_tail, last_all, last_last, last_length}
+use Rattle.scan.specs.Laws.Reading.{checked_refused, not_taken}
+use Rattle.grammar.specs.Laws.Reading.{data_ends}
 use Rattle.arguments.specs.Layout.{domain_count, label_count}
 use Rattle.arguments.specs.Tables.{edition_in, declared}
-use Rattle.arguments.specs.TableLaws.{from_length}
+use Rattle.arguments.specs.Laws.Tables.{from_length}
 use Rattle.declarations.specs.declared.Counted.{Counted}
 use Rattle.declarations.specs.Entering.{labels_of, cells_of, function_cells, functions_cells, found_cells, CellsBound}
-use Rattle.declarations.specs.ScopeFacts.{at_start, start_scope}
-use Rattle.declarations.specs.FunctionLaws.{function_ends}
+use Rattle.declarations.specs.Laws.Scopes.{at_start, start_scope}
+use Rattle.declarations.specs.Laws.Functions.{function_ends}
 use Rattle.declarations.specs.Directory.{Standing, FunctionRow, FunctionRows, row_width, first_cell_in, at_start_in}
 use Rattle.declarations.proofs.DirectoryLaws.{giving_taken, both_taken, for_each_count, left_is, stands_noted, row_stays}
 use Rattle.declarations.specs.Noting.{start_of, for_label, label_expressions, expressions_of, function_of, LabelsNoted, ExpressionsNoted, FunctionNoted, FunctionsNoted}

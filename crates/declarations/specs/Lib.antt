@@ -2,12 +2,8 @@
 -- Document 01, "Blocks and the rule stream", items 2 to 5; refusals 4 and 5.
 pub mod Entering
 pub mod Declaring
-pub mod ScopeFacts
 pub mod Rows
-pub mod FunctionLaws
-pub mod Regions
-pub mod DeclaringLaws
-pub mod ProcessLaws
-pub mod SectionFacts
 pub mod Directory
 pub mod Noting
+pub mod Bounds
+pub mod Laws

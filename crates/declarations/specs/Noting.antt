@@ -7,7 +7,7 @@ use Rattle.eb3.specs.Reading.{Read, taken, Reader, both, for_each, series}
 use Rattle.eb3.specs.ExpressionReading.{read_data}
 use Rattle.eb3.specs.RuleReading.{at_start_scope, at_label_scope, read_function}
 use Rattle.scan.specs.Checking.{checked, Checked}
-use Rattle.scan.specs.Laws.{Tail}
+use Rattle.scan.specs.Ends.{Tail}
 use Rattle.arguments.specs.Layout.{domain_count, label_count}
 use Rattle.arguments.specs.Tables.{edition_in, declared}
 use Rattle.declarations.specs.declared.Counted.{Counted}

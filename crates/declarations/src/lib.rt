@@ -9,7 +9,7 @@ ghost use Rattle.std.specs.Fn.{FnReturnsAt};
 ghost use Rattle.eb3.specs.Reading.{Reader, number_of, counted};
 ghost use Rattle.eb3.specs.RuleReading.{read_domains};
 ghost use Rattle.scan.specs.Checking.{Checked, checked};
-ghost use Rattle.scan.specs.Laws.{Ends};
+ghost use Rattle.scan.specs.Ends.{Ends};
 ghost use Rattle.arguments.specs.Layout.{label_count, label_words};
 ghost use Rattle.declarations.specs.Entering.{Entered, CellsBound};
 ghost use Rattle.declarations.specs.Directory.{row_width};
@@ -34,7 +34,7 @@ pub struct Counted {
 
 // Words, from the place at on.
 // Stays with a place, and not with a part of the table lent: what its callers ensure is of the whole table, which they would first have to join of its parts.
-#[tactic(auto, using(crate::proofs::Cases::copy_more, scan::specs::Laws::copy_len))]
+#[tactic(auto, using(crate::proofs::Cases::copy_more, scan::specs::Laws::Checking::copy_len))]
 pub fn copy(tb: &mut [u32], at: usize, s: &[u16])
     requires { at + length s.now ≤ length tb.old }
     ensures { tb.new ≡ paste tb.old at s.now (length s.now) }

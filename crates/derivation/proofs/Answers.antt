@@ -15,8 +15,8 @@ use Rattle.paths.specs.Paths.{path}
 use Rattle.paths.proofs.PathLaws.{path_length}
 use Rattle.derivation.specs.Derived.{passed, full, shown_count, DerivedShown}
 use Rattle.derivation.specs.Arms.{Sound, Outcome, Decided}
-use Rattle.derivation.specs.AnswerLaws.{by_order, never_full, place_room}
-use Rattle.listing.specs.Operands.{answer_is}
+use Rattle.derivation.specs.Laws.Answers.{by_order, never_full, place_room}
+use Rattle.listing.specs.Laws.Operands.{answer_is}
 
 pub sound_lost : (n k l : ℕ) → Sound n k l full
 sound_lost n k l = record { bounded = le_refl full; place_bounded = λ z. absurd (omega (arith, z)); passed_bounded = λ y z. never_full z }

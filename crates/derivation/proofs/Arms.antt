@@ -12,21 +12,22 @@ use Rattle.eb3.specs.Sizes.{size}
 use Rattle.eb3.proofs.Laws.Sizes.{size_pos}
 use Rattle.eb3.specs.Spelling.{words}
 use Rattle.scan.specs.Checking.{last_of}
-use Rattle.scan.specs.Laws.{last_len}
+use Rattle.scan.specs.Laws.Checking.{last_len}
 use Rattle.expressions.specs.Answering.{answer, Judged}
 use Rattle.actions.specs.Codes.{action_code, ActionAt}
 use Rattle.actions.specs.Sets.{in_set}
 use Rattle.listing.specs.Listing.{TermAt, holding, room}
-use Rattle.listing.specs.Positions.{TwoAt, term_front, second_at, behind_shorter}
-use Rattle.listing.specs.ByCode.{NoOther, by_rest}
-use Rattle.listing.specs.CasesByCode.{internal_cases, perform_cases, sequence_cases, choice_cases, star_cases, guard_cases}
-use Rattle.listing.specs.RoomLaws.{room_after_done, room_sequence, room_choice, room_star, room_guard}
+use Rattle.listing.specs.Positions.{TwoAt}
+use Rattle.listing.specs.Laws.Positions.{term_front, second_at, behind_shorter}
+use Rattle.listing.specs.Laws.ByCode.{NoOther, by_rest}
+use Rattle.listing.specs.Laws.CasesByCode.{internal_cases, perform_cases, sequence_cases, choice_cases, star_cases, guard_cases}
+use Rattle.listing.specs.Laws.Rooms.{room_after_done, room_sequence, room_choice, room_star, room_guard}
 use Rattle.paths.specs.Paths.{path}
 use Rattle.derivation.specs.Derived.{passed, full, shown_count, Derived, DerivedShown}
 use Rattle.derivation.specs.Arms.{Sound, Outcome, Decided, ActionDerived, TwoDerived}
-use Rattle.derivation.specs.FitLaws.{before_second}
-use Rattle.listing.specs.Operands.{answer_is, answered_left, answered_count, first_done, first_other, second_behind, truth_none, truth_some, holds, guarded_here, front_form}
-use Rattle.derivation.specs.AnswerLaws.{by_order, never_full, before_full, decided_room}
+use Rattle.derivation.specs.Laws.Fits.{before_second}
+use Rattle.listing.specs.Laws.Operands.{answer_is, answered_left, answered_count, first_done, first_other, second_behind, truth_none, truth_some, holds, guarded_here, front_form}
+use Rattle.derivation.specs.Laws.Answers.{by_order, never_full, before_full, decided_room}
 use Rattle.derivation.proofs.Answers.{sound_lost, sound_more, sound_passed, sound_of, derived_of, outcome_of, outcome_as, outcome_early, outcome_later, outcome_place, outcome_passed, outcome_single, sound_single, decided_sound, decided_outcome, derived_room}
 use Rattle.derivation.proofs.Counts.{count_moves, count_done, count_internal, count_hidden, count_shows, count_after_done, count_sequence, count_choice, count_star, count_guard, count_shut, path_after_done, path_sequence, path_choice, path_end, path_round, path_guard, path_internal, path_perform, two_first, two_second}
 

@@ -15,13 +15,15 @@ use Rattle.eb3.specs.Terms.{Term, Done, Internal, Perform, Sequence, Choice, Sta
 use Rattle.eb3.specs.Moves.{Move, moves}
 use Rattle.eb3.specs.Sizes.{size, zero_mask}
 use Rattle.actions.specs.Codes.{action_code}
-use Rattle.actions.specs.CodesLaws.{masked_code}
-use Rattle.actions.specs.Sets.{in_set, mask_set, has_all, in_mask_set, in_either, within_set}
+use Rattle.actions.specs.Laws.Codes.{masked_code}
+use Rattle.actions.specs.Sets.{in_set, mask_set, has_all}
+use Rattle.actions.specs.Laws.Sets.{in_mask_set, in_either, within_set}
 use Rattle.listing.specs.Listing.{Fits, code_of, codes, holding, room}
 use Rattle.listing.specs.Combining.{outside, pairs, combined}
-use Rattle.listing.specs.CodeLaws.{codes_done, codes_internal, codes_perform, codes_after_done, codes_sequence, codes_choice, codes_star, codes_both_done, codes_parallel, codes_guard, codes_shut}
-use Rattle.listing.specs.OutsideLaws.{outside_append, pairs_none, pairs_none_right}
-use Rattle.listing.specs.RoomLaws.{two_room, room_zero, room_masked}
+use Rattle.listing.specs.Laws.Codes.{codes_done, codes_internal, codes_perform, codes_after_done, codes_sequence, codes_choice, codes_star, codes_both_done, codes_parallel, codes_guard, codes_shut}
+use Rattle.listing.specs.Laws.Outside.{outside_append, pairs_none, pairs_none_right}
+use Rattle.listing.specs.Rooms.{two_room}
+use Rattle.listing.specs.Laws.Rooms.{room_zero, room_masked}
 use Rattle.paths.specs.Paths.{shown?, shown, path, path_in_turn, paired, idle}
 use Rattle.paths.proofs.ShownLaws.{shown_all, idle_none}
 use Rattle.derivation.specs.Derived.{move_count, shown_count}

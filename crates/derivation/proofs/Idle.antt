@@ -13,15 +13,16 @@ use Rattle.eb3.specs.Sizes.{size, breadth}
 use Rattle.eb3.proofs.Laws.Sizes.{size_pos}
 use Rattle.eb3.specs.Spelling.{words}
 use Rattle.scan.specs.Checking.{last_of}
-use Rattle.scan.specs.Laws.{last_len}
+use Rattle.scan.specs.Laws.Checking.{last_len}
 use Rattle.expressions.specs.Answering.{answer}
 use Rattle.listing.specs.Listing.{TermAt, holding}
-use Rattle.listing.specs.Positions.{TwoAt, second_at}
+use Rattle.listing.specs.Positions.{TwoAt}
+use Rattle.listing.specs.Laws.Positions.{second_at}
 use Rattle.paths.specs.Paths.{path, idle}
 use Rattle.derivation.specs.Derived.{passed, full, DerivedShown}
 use Rattle.derivation.specs.Arms.{Decided, RightDerived, LeftDerived, listed_path, ListedDerived, masked_path, MaskedDerived}
-use Rattle.derivation.specs.FitLaws.{before_second}
-use Rattle.derivation.specs.AnswerLaws.{before_full, decided_room}
+use Rattle.derivation.specs.Laws.Fits.{before_second}
+use Rattle.derivation.specs.Laws.Answers.{before_full, decided_room}
 use Rattle.derivation.proofs.Answers.{sound_more, sound_of, outcome_of, outcome_as, outcome_place, outcome_early, decided_sound, decided_outcome, derived_room}
 use Rattle.derivation.proofs.Arms.{behind_sound, behind_low, behind_outcome}
 use Rattle.derivation.proofs.Counts.{both_right, both_left}

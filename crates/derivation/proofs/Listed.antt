@@ -11,17 +11,18 @@ use Rattle.eb3.specs.Scopes.{Scope}
 use Rattle.eb3.specs.Terms.{Term}
 use Rattle.eb3.specs.Spelling.{words}
 use Rattle.scan.specs.Checking.{last_of}
-use Rattle.scan.specs.Laws.{part, back_rest, last_len}
+use Rattle.scan.specs.Laws.Checking.{part, back_rest, last_len}
 use Rattle.expressions.specs.Answering.{answer}
 use Rattle.listing.specs.Listing.{TermAt, holding, codes, Right, Listed}
 use Rattle.listing.specs.declared.lister.Moves.{Moves}
-use Rattle.listing.specs.Positions.{TwoAt, second_at, behind_term}
+use Rattle.listing.specs.Positions.{TwoAt}
+use Rattle.listing.specs.Laws.Positions.{second_at, behind_term}
 use Rattle.paths.specs.Paths.{Sides, alone, paired, locate}
 use Rattle.derivation.specs.Derived.{passed, full, shown_count}
 use Rattle.derivation.specs.Searching.{sides_of, Within, shown_combined, LocatedBy}
 use Rattle.derivation.specs.Arms.{SidesDerived, sides_path, combined_count, ListedDerived}
-use Rattle.listing.specs.Operands.{answer_is}
-use Rattle.derivation.specs.AnswerLaws.{never_full}
+use Rattle.listing.specs.Laws.Operands.{answer_is}
+use Rattle.derivation.specs.Laws.Answers.{never_full}
 use Rattle.derivation.proofs.Answers.{sound_lost, sound_passed}
 use Rattle.derivation.proofs.Counts.{count_all}
 

@@ -7,7 +7,7 @@ use lib.Dec.{eqb}
 use lib.ListN.{length}
 use Rattle.eb3.specs.Generic.Lists.{filter}
 use Rattle.listing.specs.Combining.{outside, equal_to, pairs}
-use Rattle.listing.specs.OutsideLaws.{outside_append, equal_hidden}
+use Rattle.listing.specs.Laws.Outside.{outside_append, equal_hidden}
 
 module _ (p : ℕ → Bool) where
   pub length_outside : (xs : List ℕ) → length (outside p xs) ≡ length (filter (λ c. not (p c)) xs)

@@ -15,11 +15,11 @@ use Rattle.eb3.specs.Sizes.{size}
 use Rattle.expressions.specs.Answering.{answer}
 use Rattle.actions.specs.Sets.{mask_word, mask_set, has_all}
 use Rattle.listing.specs.Positions.{TwoAt, MaskedAt}
-use Rattle.listing.specs.CasesByCode.{parallel_cases}
+use Rattle.listing.specs.Laws.CasesByCode.{parallel_cases}
 use Rattle.derivation.specs.Derived.{passed, DerivedShown}
 use Rattle.derivation.specs.Arms.{Decided, TwoDerived, MaskedDerived}
-use Rattle.listing.specs.Operands.{answer_is, BothDone, behind_both, mask_len}
-use Rattle.derivation.specs.AnswerLaws.{by_order, decided_room}
+use Rattle.listing.specs.Laws.Operands.{answer_is, BothDone, behind_both, mask_len}
+use Rattle.derivation.specs.Laws.Answers.{by_order, decided_room}
 use Rattle.derivation.proofs.Answers.{sound_more, derived_of, outcome_as, outcome_single, sound_single, decided_sound, decided_outcome}
 use Rattle.derivation.proofs.Arms.{Told}
 use Rattle.derivation.proofs.Counts.{count_both_done, count_masked, count_covered, room_sides, path_both_done, path_masked, path_covered}

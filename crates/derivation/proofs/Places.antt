@@ -10,7 +10,7 @@ use borrow.Author.Tests.{eqb-true, eqb-false, lt-ltb, le-ltb}
 use Rattle.eb3.specs.Generic.Lists.{filter}
 use Rattle.eb3.specs.Reading.{pick}
 use Rattle.listing.specs.Combining.{equal_to, pairs}
-use Rattle.listing.specs.CodeLaws.{turned}
+use Rattle.listing.specs.Laws.Codes.{turned}
 use Rattle.paths.specs.Paths.{Sought, at, beyond, one_on, seek, Sides, together, pair_from, seek_pair}
 use Rattle.derivation.specs.Derived.{passed}
 use Rattle.derivation.specs.Searching.{nth_place, pair_or, nth_pair}

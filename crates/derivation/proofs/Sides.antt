@@ -15,8 +15,8 @@ use Rattle.paths.proofs.PathLaws.{path_length}
 use Rattle.derivation.specs.Derived.{passed, full, shown_count, DerivedShown}
 use Rattle.derivation.specs.Searching.{sides_of, Within}
 use Rattle.derivation.specs.Arms.{Decided, sides_path, SidesDerived, BothDerived}
-use Rattle.derivation.specs.FitLaws.{size_before}
-use Rattle.derivation.specs.AnswerLaws.{never_full, decided_room}
+use Rattle.derivation.specs.Laws.Fits.{size_before}
+use Rattle.derivation.specs.Laws.Answers.{never_full, decided_room}
 use Rattle.derivation.proofs.Answers.{derived_room}
 use Rattle.derivation.proofs.Locating.{sides_left, sides_right, sides_both}
 

@@ -8,7 +8,7 @@ use lib.Seq.{length-take-le}
 use Rattle.eb3.specs.Terms.{Term}
 use Rattle.scan.specs.Checking.{last_of}
 use Rattle.expressions.specs.Answering.{answer}
-use Rattle.listing.specs.Operands.{answer_is, answered_left, answered_count}
+use Rattle.listing.specs.Laws.Operands.{answer_is, answered_left, answered_count}
 use Rattle.derivation.specs.declared.arrays.Arrays.{Arrays}
 use Rattle.derivation.specs.declared.arrays.Derivation.{Derivation}
 use Rattle.derivation.specs.declared.arrays.Derivation.TheVariants.{At, Behind, NoRoom}

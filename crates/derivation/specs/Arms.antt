@@ -10,7 +10,7 @@ use Rattle.actions.specs.Codes.{action_code, ActionAt}
 use Rattle.actions.specs.Sets.{in_set}
 use Rattle.listing.specs.Listing.{TermAt, holding, codes, room}
 use Rattle.listing.specs.Positions.{TwoAt}
-use Rattle.listing.specs.RoomLaws.{two_room}
+use Rattle.listing.specs.Rooms.{two_room}
 use Rattle.paths.specs.Paths.{Sides, path, path_in_turn, path_by, idle, alone, paired, locate}
 use Rattle.derivation.specs.Derived.{passed, full, shown_count}
 use Rattle.derivation.specs.Searching.{sides_of, Within, shown_combined}

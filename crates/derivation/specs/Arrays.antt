@@ -10,16 +10,3 @@ pub record SameArrays (s s' : Scratch) : Type 0 where
   pub path_length : length s'.path.now ≡ length s.path.now
   pub acts_length : length s'.acts.now ≡ length s.acts.now
   pub mid_length : length s'.mid.now ≡ length s.mid.now
-
-pub arrays_same : {s : Scratch} → SameArrays s s
-arrays_same = record { path_is = refl; acts_is = refl; mid_is = refl; path_length = refl; acts_length = refl; mid_length = refl }
-
-pub arrays_then : {s s' s'' : Scratch} → SameArrays s s' → SameArrays s' s'' → SameArrays s s''
-arrays_then a b = record {
-  path_is = b.path_is ∙ a.path_is;
-  acts_is = b.acts_is ∙ a.acts_is;
-  mid_is = b.mid_is ∙ a.mid_is;
-  path_length = b.path_length ∙ a.path_length;
-  acts_length = b.acts_length ∙ a.acts_length;
-  mid_length = b.mid_length ∙ a.mid_length;
-}

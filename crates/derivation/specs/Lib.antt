@@ -5,7 +5,6 @@ pub mod Derived
 pub mod Searching
 pub mod Told
 pub mod Arms
-pub mod FitLaws
-pub mod AnswerLaws
 pub mod Lending
 pub mod Arrays
+pub mod Laws

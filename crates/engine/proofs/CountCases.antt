@@ -18,14 +18,16 @@ use Rattle.eb3.specs.Operations.{cells_given, listed, term_in, count}
 use Rattle.listing.specs.Listing.{holding}
 use Rattle.steps.specs.Counting.{Whole}
 use Rattle.steps.specs.Storing.{Ruled, Stored}
-use Rattle.steps.specs.Judging.{whole, moves_judged}
+use Rattle.steps.specs.Laws.Judging.{whole, moves_judged}
 use Rattle.given.specs.declared.giving.Given.{Given}
 use Rattle.given.specs.Giving.{GivenDone, given_in, found_term}
 use Rattle.runs.specs.declared.admitted.Admitted.{Admitted}
-use Rattle.engine.specs.Describing.{DescribedBy, described_by_ruled}
+use Rattle.engine.specs.Describing.{DescribedBy}
+use Rattle.engine.specs.Laws.Describing.{described_by_ruled}
 use Rattle.engine.proofs.MadeCases.{found}
-use Rattle.given.specs.GivingLaws.{told_refused}
-use Rattle.engine.specs.Counting.{counted_as, count_refused, count_short, count_done}
+use Rattle.given.specs.Laws.Giving.{told_refused}
+use Rattle.engine.specs.Counting.{counted_as}
+use Rattle.engine.specs.Laws.Counting.{count_refused, count_short, count_done}
 use Rattle.std.specs.Prelude.{Ok, Err, Result}
 use Rattle.refusals.specs.declared.Refusal.{Refusal}
 use Rattle.refusals.specs.declared.Refusal.TheVariants.{Space}

@@ -11,7 +11,7 @@ use Rattle.admission.specs.Knowing.{Known}
 use Rattle.runs.specs.declared.admitted.Admitted.{Admitted}
 use Rattle.given.specs.declared.giving.Given.{Given}
 use Rattle.given.specs.Giving.{Described, GivenDone, given_in, found_term}
-use Rattle.given.specs.GivingLaws.{Found, told_found, described_few}
+use Rattle.given.specs.Laws.Giving.{Found, told_found, described_few}
 use Rattle.engine.specs.Describing.{DescribedBy}
 use Rattle.refusals.specs.declared.Refusal.{Refusal}
 

@@ -26,7 +26,7 @@ use Rattle.runs.specs.declared.main_process.Totals.{Totals}
 use Rattle.weights.specs.declared.Limits.{Limits}
 use Rattle.admission.specs.Knowing.{Known}
 use Rattle.engine.specs.Running.{RunDone}
-use Rattle.engine.specs.RunLaws.{run_refused, run_short_term, run_short_memory, run_short_spare_term, run_short_spare_memory, run_not_through, run_done}
+use Rattle.engine.specs.Laws.Running.{run_refused, run_short_term, run_short_memory, run_short_spare_term, run_short_spare_memory, run_not_through, run_done}
 use Rattle.std.specs.Prelude.{Ok, Err}
 use Rattle.refusals.specs.declared.Refusal.{Refusal}
 use Rattle.refusals.specs.declared.Refusal.TheVariants.{Space, Reader}

@@ -22,12 +22,12 @@ use Rattle.eb3.proofs.Laws.Editions.{width_is_1}
 use Rattle.weights.specs.declared.Limits.{Limits}
 use Rattle.arguments.specs.Layout.{label_count, function_count}
 use Rattle.declarations.specs.Directory.{Directory}
-use Rattle.cells.specs.Readying.{few}
-use Rattle.steps.specs.RuledLaws.{tables_few}
+use Rattle.cells.specs.Laws.Readying.{few}
+use Rattle.steps.specs.Laws.Ruled.{tables_few}
 use Rattle.admission.specs.Knowing.{Known}
 use Rattle.engine.specs.Memories.{Begun}
 use Rattle.engine.specs.Starting.{StartDone}
-use Rattle.engine.specs.StartLaws.{start_refused, start_short_term, start_short_memory, start_done}
+use Rattle.engine.specs.Laws.Starting.{start_refused, start_short_term, start_short_memory, start_done}
 use Rattle.std.specs.Prelude.{Ok, Err}
 use Rattle.refusals.specs.declared.Refusal.{Refusal}
 use Rattle.refusals.specs.declared.Refusal.TheVariants.{Space}

@@ -26,21 +26,22 @@ use Rattle.eb3.specs.Answers.{or_refused}
 use Rattle.eb3.proofs.Laws.Editions.{width_is_1}
 use Rattle.expressions.specs.Stores.{now_place}
 use Rattle.actions.specs.Codes.{action_code, Small}
-use Rattle.actions.specs.CodesLaws.{visible_positive}
-use Rattle.actions.specs.ActionLaws.{action_small}
+use Rattle.actions.specs.Laws.Codes.{visible_positive}
+use Rattle.actions.specs.Laws.Actions.{action_small}
 use Rattle.listing.specs.Listing.{holding}
 use Rattle.cells.specs.Preparing.{Saved}
-use Rattle.cells.specs.MemoryLaws.{held_words}
+use Rattle.cells.specs.Laws.Memory.{held_words}
 use Rattle.steps.specs.declared.moving.Taken.{Taken}
 use Rattle.steps.specs.Counting.{Whole, found_at}
-use Rattle.listing.specs.FitLaws.{fits_length}
+use Rattle.listing.specs.Laws.Fits.{fits_length}
 use Rattle.steps.specs.Storing.{Ruled, Stored, StoreRenewed}
-use Rattle.steps.specs.Judging.{fits, whole, moves_judged}
+use Rattle.steps.specs.Laws.Judging.{fits, whole, moves_judged}
 use Rattle.steps.specs.Taking.{taken_as, built_over, SuccessorFits, Took}
 use Rattle.engine.specs.declared.stepping.Step.{Step}
 use Rattle.runs.specs.declared.admitted.Admitted.{Admitted}
 use Rattle.given.specs.Giving.{Described}
-use Rattle.engine.specs.Describing.{DescribedBy, described_by_ruled}
+use Rattle.engine.specs.Describing.{DescribedBy}
+use Rattle.engine.specs.Laws.Describing.{described_by_ruled}
 use Rattle.given.specs.declared.asking.Wanted.{Wanted}
 use Rattle.given.specs.declared.asking.Wanted.TheVariants.{Action as Action_of}
 use Rattle.given.specs.Asking.{Chooses}

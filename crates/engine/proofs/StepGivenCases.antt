@@ -15,13 +15,13 @@ use Rattle.declarations.specs.Declaring.{Declares}
 use Rattle.runs.specs.declared.admitted.Admitted.{Admitted}
 use Rattle.given.specs.declared.giving.Given.{Given}
 use Rattle.given.specs.Giving.{GivenDone, found_term}
-use Rattle.given.specs.GivingLaws.{told_refused}
+use Rattle.given.specs.Laws.Giving.{told_refused}
 use Rattle.given.specs.declared.asking.Request.{Request}
 use Rattle.given.specs.declared.asking.Wanted.{Wanted}
 use Rattle.given.specs.Asking.{asked_as}
 use Rattle.engine.specs.Describing.{DescribedBy}
 use Rattle.engine.specs.Stepping.{Done, stepped, SteppedAt, Steps}
-use Rattle.engine.specs.StepLaws.{step_refused, step_given, asked_stranger, Choosing, asked_wanted, stranger_done, short_term, short_memory, short_next_memory, with_room}
+use Rattle.engine.specs.Laws.Stepping.{step_refused, step_given, asked_stranger, Choosing, asked_wanted, stranger_done, short_term, short_memory, short_next_memory, with_room}
 use Rattle.engine.proofs.MadeCases.{found}
 use Rattle.std.specs.Prelude.{Err, Result, Some, None, Option}
 use Rattle.refusals.specs.declared.Refusal.{Refusal}

@@ -21,39 +21,3 @@ use Rattle.refusals.specs.Numbers.{number, refusal, refusal_number}
 unfoldable pub counted_as : Answer ℕ → Result ℕ Refusal
 counted_as (refused k) = Err (refusal k)
 counted_as (answered n) = Ok n
-
-module _ (rules term memory : List ℕ) where
-  abbrev counted_from : RuleSet × Term → Answer ℕ
-  counted_from p = pick (memory_fits p.0 memory) (answered (length (listed p.0 p.1 memory))) (refused Refusal.space)
-
-  -- what follows the term follows both
-  both_known : (R : RuleSet) (a : Answer Term) → (and_then a λ E. counted_from (R, E)) ≡ and_then (and_then a λ E. answered (R, E)) counted_from
-  unfolding and_then
-  both_known R (refused k) = refl
-  both_known R (answered E) = refl
-
-  by_admitted : (a : Answer RuleSet) → (and_then a λ R. and_then (term_in R term) λ E. counted_from (R, E)) ≡ and_then (and_then a λ R. and_then (term_in R term) λ E. answered (R, E)) counted_from
-  unfolding and_then
-  by_admitted (refused k) = refl
-  by_admitted (answered R) = both_known R (term_in R term)
-
-  by_given : count rules term memory ≡ and_then (given_in rules term) counted_from
-  unfolding count
-  by_given = by_admitted (admission rules)
-
-  pub count_refused : (k : Refusal) → given_in rules term ≡ refused (number k) → Err k ≡ counted_as (count rules term memory)
-  unfolding counted_as and_then
-  count_refused k e = ap Err (sym (refusal_number k)) ∙ sym (ap counted_as (by_given ∙ ap (λ a. and_then a counted_from) e))
-
-  module _ (R : RuleSet) (E : Term) (e : given_in rules term ≡ answered (R, E)) where
-    known_so : count rules term memory ≡ counted_from (R, E)
-    unfolding and_then
-    known_so = by_given ∙ ap (λ a. and_then a counted_from) e
-
-    pub count_short : cell_room memory < cells_needed R → Err Space ≡ counted_as (count rules term memory)
-    unfolding counted_as refusal
-    count_short h = sym (ap counted_as (known_so ∙ ap (λ b. pick b (answered (length (listed R E memory))) (refused Refusal.space)) (lt-leb (cells_needed R) (cell_room memory) h)))
-
-    pub count_done : cells_needed R ≤ cell_room memory → (n : ℕ) → n ≡ length (listed R E memory) → Ok n ≡ counted_as (count rules term memory)
-    unfolding counted_as
-    count_done h n f = ap Ok f ∙ sym (ap counted_as (known_so ∙ ap (λ b. pick b (answered (length (listed R E memory))) (refused Refusal.space)) (le-leb (cells_needed R) (cell_room memory) h)))

@@ -6,13 +6,9 @@ use Rattle.eb3.specs.Operations.{cells_needed}
 use Rattle.runs.specs.declared.admitted.Admitted.{Admitted}
 use Rattle.steps.specs.Storing.{Ruled}
 use Rattle.given.specs.Giving.{Described}
-use Rattle.given.specs.GivingLaws.{described_ruled}
+use Rattle.given.specs.Laws.Giving.{described_ruled}
 
 -- R is the rule set that was admitted, and s are the words of its running term E.
 pub record DescribedBy (rules : Admitted) (R : RuleSet) (E : Term) (s : List ℕ) : Type 0 where
   pub described : Described R E rules.functions.words.now rules.tables.now rules.functions.directory.now s
   pub cells_are : rules.functions.cells ≡ cells_needed R
-
-pub described_by_ruled : (rules : Admitted) (R : RuleSet) (E : Term) (s : List ℕ) → DescribedBy rules R E s
-    → Ruled R rules.functions.words.now rules.tables.now rules.functions.directory.now rules.functions.width rules.functions.count rules.functions.cells
-described_by_ruled rules R E s d = described_ruled R E _ rules.tables.now _ s d.described _ _ _ rules.labels_counted rules.functions_counted d.cells_are

@@ -2,9 +2,7 @@
 pub mod Describing
 pub mod Memories
 pub mod Starting
-pub mod StartLaws
 pub mod Counting
 pub mod Stepping
-pub mod StepLaws
 pub mod Running
-pub mod RunLaws
+pub mod Laws

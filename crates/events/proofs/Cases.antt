@@ -15,12 +15,12 @@ use Rattle.eb3.proofs.Laws.TermReading.{given_term_exact}
 use Rattle.eb3.proofs.Laws.Editions.{width_is_1}
 use Rattle.arguments.specs.Tables.{edition_in, declared}
 use Rattle.declarations.specs.Declaring.{Declares}
-use Rattle.declarations.specs.DeclaringLaws.{declared_alike}
+use Rattle.declarations.specs.Laws.Declaring.{declared_alike}
 use Rattle.terms.specs.declared.Given.{Given}
 use Rattle.terms.specs.Given.{given}
-use Rattle.terms.specs.Alike.{given_term_alike}
+use Rattle.terms.specs.Laws.Reading.Alike.{given_term_alike}
 use Rattle.actions.specs.Codes.{action_code, ActionAt}
-use Rattle.actions.specs.ActionLaws.{action_small}
+use Rattle.actions.specs.Laws.Actions.{action_small}
 use Rattle.events.specs.Events.{event_as}
 use Rattle.events.proofs.Leaves.{positive, event_of, event_is_leaf, internal_first, action_first, other_first}
 

@@ -15,7 +15,7 @@ use Rattle.expressions.specs.declared.valued.Valued.{Valued}
 use Rattle.expressions.specs.Stores.{reading_in, environment_in}
 use Rattle.expressions.specs.Answering.{value_word, truth, answer, DataAt, CondAt, Evaluated, Judged}
 use Rattle.expressions.specs.Operands.{Paired, Selected, Named, Joined, Negated}
-use Rattle.expressions.specs.Laws.{data_parted, cond_parted, data_value}
+use Rattle.expressions.specs.Laws.Answering.{data_parted, cond_parted, data_value}
 
 negated_word : (c : Bool) → bool_byte (eqb (truth c) 0) ≡ truth (not c)
 unfolding truth

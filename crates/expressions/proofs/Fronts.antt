@@ -16,7 +16,7 @@ use Rattle.expressions.specs.declared.valued.Valued.{Valued}
 use Rattle.expressions.specs.Stores.{stored, reading_in, variable_in, environment_in, before_place, now_place}
 use Rattle.expressions.specs.Answering.{value_word, truth, IsValued, answer, Plain, DataAt, CondAt, Evaluated, Judged}
 use Rattle.expressions.specs.Operands.{sum_word, difference_word, equal_word, less_word, Fetched, Paired, Selected, Named, Compared, Joined, Negated}
-use Rattle.expressions.specs.ValueLaws.{word_of_value}
+use Rattle.expressions.specs.Laws.Values.{word_of_value}
 
 -- ── data ──
 

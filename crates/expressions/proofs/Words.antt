@@ -15,7 +15,7 @@ use Rattle.eb3.specs.Values.{Value, undefined, number, bounded, add, subtract, e
 use Rattle.eb3.specs.Attributes.{apply_in_domain}
 use Rattle.expressions.specs.Stores.{stored, cell_in, reading_in, row_place, begin_place}
 use Rattle.expressions.specs.Answering.{truth, answer}
-use Rattle.expressions.specs.ValueLaws.{word_of_value}
+use Rattle.expressions.specs.Laws.Values.{word_of_value}
 use Rattle.expressions.specs.Operands.{sum_word, difference_word, equal_word, less_word}
 
 pub packed : (v left : ℕ) → v < 65536 → left < 65536 → (v + 65536 * left ≡ answer v left) × (v + 65536 * left < 4294967296)

@@ -4,4 +4,3 @@ pub mod Stores
 pub mod Answering
 pub mod Operands
 pub mod Laws
-pub mod ValueLaws

@@ -28,7 +28,7 @@ use Rattle.eb3.specs.Answers.{or_refused}
 use Rattle.eb3.proofs.Laws.Editions.{width_is_1}
 use Rattle.declarations.specs.Declaring.{Declares}
 use Rattle.cells.specs.Preparing.{Loaded}
-use Rattle.cells.specs.MemoryLaws.{loaded_words}
+use Rattle.cells.specs.Laws.Memory.{loaded_words}
 use Rattle.actions.specs.Codes.{action_code}
 use Rattle.events.specs.Events.{event_as}
 use Rattle.given.specs.declared.asking.Wanted.{Wanted}

@@ -24,13 +24,13 @@ use Rattle.eb3.specs.Scopes.{Scope}
 use Rattle.eb3.specs.Reading.{Read, refused, taken, Reader, pick, giving, then, both, number_of, by_number, number_in, repeat}
 use Rattle.eb3.specs.ExpressionReading.{DataKind, CondKind, data_kind, cond_kind, constant_of, args_of, data_by, cond_by, readers, read_data, read_cond}
 use Rattle.scan.specs.Checking.{Checked, checked}
-use Rattle.scan.specs.Laws.{then_checked, part}
-use Rattle.scan.specs.ReadingLaws.{handed_err, checked_refused}
+use Rattle.scan.specs.Laws.Checking.{then_checked, part}
+use Rattle.scan.specs.Laws.Reading.{handed_err, checked_refused}
 use Rattle.grammar.specs.declared.Front.{Front}
 use Rattle.grammar.specs.declared.Front.TheVariants.{On, Other}
 use Rattle.grammar.specs.Fronts.{Behind, Operand, Facing, DataFront, CondFront}
-use Rattle.grammar.specs.Laws.{whole, data_case, cond_case, two_ways}
-use Rattle.grammar.specs.RowLaws.{forget, forget_giving, then_then, then_left, then_ended, row_step, row_join, row_more, one_left, two_left, led}
+use Rattle.grammar.specs.Laws.Reading.{whole, data_case, cond_case, two_ways}
+use Rattle.grammar.specs.Laws.Rows.{forget, forget_giving, then_then, then_left, then_ended, row_step, row_join, row_more, one_left, two_left, led}
 use Rattle.std.proofs.Common.{subst, length-drop, drop-drop}
 use Rattle.std.specs.Prelude.{Ok, Err, Result, IsErr, IsErrAnd}
 use Rattle.refusals.specs.declared.Refusal.{Refusal}

@@ -12,10 +12,11 @@ use Rattle.eb3.specs.Terms.{Term}
 use Rattle.eb3.specs.Spelling.{words}
 use Rattle.scan.specs.Checking.{last_of}
 use Rattle.listing.specs.Listing.{TermAt, holding, room, Listed}
-use Rattle.listing.specs.Positions.{TwoAt, second_at}
+use Rattle.listing.specs.Positions.{TwoAt}
+use Rattle.listing.specs.Laws.Positions.{second_at}
 use Rattle.listing.specs.Arms.{Lists, OneListed, ShownListed, TwoListed}
 use Rattle.listing.specs.Shown.{shown}
-use Rattle.listing.specs.ShownLaws.{shown_all, shown_below}
+use Rattle.listing.specs.Laws.Shown.{shown_all, shown_below}
 
 -- ── the whole ──
 

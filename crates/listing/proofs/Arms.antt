@@ -12,13 +12,13 @@ use Rattle.scan.specs.Checking.{last_of}
 use Rattle.actions.specs.Codes.{action_code, ActionAt}
 use Rattle.actions.specs.Sets.{in_set}
 use Rattle.listing.specs.Listing.{TermAt, holding, room}
-use Rattle.listing.specs.Positions.{term_front, second_at}
-use Rattle.listing.specs.ByCode.{NoOther, by_rest}
-use Rattle.listing.specs.CasesByCode.{internal_cases, perform_cases, sequence_cases, choice_cases}
-use Rattle.listing.specs.Operands.{first_done, first_other, second_behind, front_form}
+use Rattle.listing.specs.Laws.Positions.{term_front, second_at}
+use Rattle.listing.specs.Laws.ByCode.{NoOther, by_rest}
+use Rattle.listing.specs.Laws.CasesByCode.{internal_cases, perform_cases, sequence_cases, choice_cases}
+use Rattle.listing.specs.Laws.Operands.{first_done, first_other, second_behind, front_form}
 use Rattle.listing.specs.Shown.{shown}
-use Rattle.listing.specs.ShownLaws.{shown_done, shown_internal, shown_perform, shown_hidden, shown_after_done, shown_sequence, shown_choice}
-use Rattle.listing.specs.RoomLaws.{room_after_done, room_sequence, room_choice}
+use Rattle.listing.specs.Laws.Shown.{shown_done, shown_internal, shown_perform, shown_hidden, shown_after_done, shown_sequence, shown_choice}
+use Rattle.listing.specs.Laws.Rooms.{room_after_done, room_sequence, room_choice}
 use Rattle.listing.specs.Arms.{Lists, OneListed, ShownListed, TwoListed}
 use Rattle.listing.proofs.Answers.{Told, listed_of, lists_to, lists_as, none_lists}
 

@@ -15,15 +15,16 @@ use Rattle.eb3.specs.Sizes.{breadth}
 use Rattle.scan.specs.Checking.{last_of}
 use Rattle.actions.specs.Sets.{in_set, mask_set}
 use Rattle.listing.specs.Listing.{TermAt, holding}
-use Rattle.listing.specs.Positions.{TwoAt, MaskedAt, second_at}
-use Rattle.listing.specs.Operands.{BothDone, behind_both}
-use Rattle.listing.specs.CasesByCode.{parallel_cases}
+use Rattle.listing.specs.Positions.{TwoAt, MaskedAt}
+use Rattle.listing.specs.Laws.Positions.{second_at}
+use Rattle.listing.specs.Laws.Operands.{BothDone, behind_both}
+use Rattle.listing.specs.Laws.CasesByCode.{parallel_cases}
 use Rattle.listing.specs.Combining.{combined, Made, Combined}
 use Rattle.std.specs.Prelude.{Option, Some, None, eqb}
 use Rattle.std.proofs.lemmas.List.{drop-take}
 use Rattle.listing.specs.Shown.{shown}
-use Rattle.listing.specs.ShownLaws.{mask_set_front, shown_below, shown_both_done, shown_parallel, combined_hidden, beside_idle_left, beside_idle_right, room_sides, room_combined}
-use Rattle.listing.specs.RoomLaws.{room_both_done}
+use Rattle.listing.specs.Laws.Shown.{mask_set_front, shown_below, shown_both_done, shown_parallel, combined_hidden, beside_idle_left, beside_idle_right, room_sides, room_combined}
+use Rattle.listing.specs.Laws.Rooms.{room_both_done}
 use Rattle.listing.specs.Arms.{Lists, OneListed, ShownListed, TwoListed, MaskedListed}
 use Rattle.listing.proofs.Answers.{Told, listed_of, lists_to, lists_as, lists_after, first_lists, second_here}
 

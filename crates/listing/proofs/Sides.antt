@@ -11,10 +11,10 @@ use Rattle.eb3.specs.Terms.{Term}
 use Rattle.scan.specs.Checking.{last_of}
 use Rattle.expressions.specs.Answering.{Judged}
 use Rattle.listing.specs.Listing.{TermAt, holding}
-use Rattle.listing.specs.Operands.{truth_none, truth_some, holds, guarded_here}
-use Rattle.listing.specs.CasesByCode.{star_cases, guard_cases}
-use Rattle.listing.specs.ShownLaws.{shown_star, shown_guard, shown_shut}
-use Rattle.listing.specs.RoomLaws.{room_star, room_guard}
+use Rattle.listing.specs.Laws.Operands.{truth_none, truth_some, holds, guarded_here}
+use Rattle.listing.specs.Laws.CasesByCode.{star_cases, guard_cases}
+use Rattle.listing.specs.Laws.Shown.{shown_star, shown_guard, shown_shut}
+use Rattle.listing.specs.Laws.Rooms.{room_star, room_guard}
 use Rattle.listing.specs.Arms.{Lists, OneListed, ShownListed}
 use Rattle.listing.proofs.Answers.{Told, listed_of, lists_as, none_lists, lists_after}
 

@@ -8,7 +8,7 @@ use Rattle.actions.specs.Sets.{in_set, mask_set}
 use Rattle.listing.specs.Listing.{TermAt, holding, room}
 use Rattle.listing.specs.Positions.{TwoAt, MaskedAt}
 use Rattle.listing.specs.Combining.{combined}
-use Rattle.listing.specs.RoomLaws.{two_room, masked_room}
+use Rattle.listing.specs.Rooms.{two_room, masked_room}
 use Rattle.listing.specs.Shown.{shown}
 
 -- Before, n moves are listed in an array; then m, o after those before, and `left` words are left.

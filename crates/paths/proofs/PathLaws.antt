@@ -18,7 +18,7 @@ use Rattle.eb3.specs.Reading.{pick}
 use Rattle.eb3.specs.Sizes.{size}
 use Rattle.eb3.proofs.Laws.Sizes.{size_pos}
 use Rattle.eb3.proofs.Laws.TransitionSystems.{getElem?_unmap}
-use Rattle.actions.specs.CodesLaws.{same_code}
+use Rattle.actions.specs.Laws.Codes.{same_code}
 use Rattle.actions.specs.Sets.{mask_set, has_all}
 use Rattle.paths.specs.Paths.{Sought, at, beyond, seek, Sides, left_alone, right_alone, together, nowhere, or_left, or_right, seek_pair, locate, alone, paired, shown?, shown, numbers, idle, path_by, path_in_turn, path, Followed, followed, within, follow, marked}
 use Rattle.paths.proofs.SeekLaws.{Seen, seek_seen, Paired, pair_seen, entry_first, entry_made, entry_behind}

@@ -13,8 +13,9 @@ use Rattle.eb3.specs.Moves.{Move, move, moves, sequenced, left_move, right_move,
 use Rattle.eb3.specs.Sizes.{breadth}
 use Rattle.eb3.proofs.Laws.Sizes.{moves_below_breadth}
 use Rattle.actions.specs.Codes.{action_code, Small}
-use Rattle.actions.specs.CodesLaws.{masked_is}
-use Rattle.actions.specs.Sets.{in_set, mask_set, has_all, in_mask_set, in_empty, in_either, within_set}
+use Rattle.actions.specs.Laws.Codes.{masked_is}
+use Rattle.actions.specs.Sets.{in_set, mask_set, has_all}
+use Rattle.actions.specs.Laws.Sets.{in_mask_set, in_empty, in_either, within_set}
 use Rattle.paths.specs.Paths.{shown?, shown, idle, alone, paired}
 use Rattle.paths.proofs.FilterLaws.{filter_append, filter_all, filter_none, filter_rows, filter_map, filter_twice, filter_same, rows_same, rows_none, neither, middle_last}
 

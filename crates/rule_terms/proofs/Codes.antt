@@ -10,8 +10,8 @@ use Rattle.eb3.specs.RuleSets.{RuleTerm, rule_internal}
 use Rattle.eb3.specs.Measures.{sat, leaf, measure_term}
 use Rattle.eb3.specs.Reading.{Read, both}
 use Rattle.eb3.specs.RuleReading.{RuleKind, rule_kind, rule_by, rule_terms, read_rule_term}
-use Rattle.scan.specs.Laws.{nil_form}
-use Rattle.scan.specs.ReadingLaws.{handed_err}
+use Rattle.scan.specs.Laws.Checking.{nil_form}
+use Rattle.scan.specs.Laws.Reading.{handed_err}
 use Rattle.codes.specs.declared.Due.TheVariants.{RuleTerm as DueTerm}
 use Rattle.codes.specs.Sorts.{code_due}
 use Rattle.codes.specs.Laws.Sorts.{no_rule_term}
@@ -20,8 +20,8 @@ use Rattle.weights.specs.declared.Weight.{Weight}
 use Rattle.weights.specs.Weighing.{cap, measure}
 use Rattle.arguments.specs.Tables.{declared, callee}
 use Rattle.rule_terms.specs.Weighed.{weighed, terms, answer, weighed_two, Answer, found}
-use Rattle.rule_terms.specs.Laws.{term_case}
-use Rattle.rule_terms.specs.WeighedLaws.{weighed_in}
+use Rattle.rule_terms.specs.Laws.Reading.{term_case}
+use Rattle.rule_terms.specs.Laws.Weighed.{weighed_in}
 use Rattle.rule_terms.proofs.Parts.{two_first, two_second, two_in, weighed_sequence, weighed_choice, parallel_none, parallel_in, copies_none, copies_out, copies_in}
 use Rattle.rule_terms.proofs.Binders.{guard_none, guard_out, guard_in, quantified_none, quantified_in}
 use Rattle.weights.specs.declared.Joint.TheVariants.{Sequence as InSequence, Choice as InChoice}

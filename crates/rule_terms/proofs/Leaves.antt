@@ -11,14 +11,15 @@ use Rattle.eb3.specs.Measures.{sat, Measure, nothing, leaf, measure_term}
 use Rattle.eb3.specs.Reading.{Read, giving, number_of, by_number}
 use Rattle.eb3.specs.RuleReading.{arguments_of, rule_action_of, call_of}
 use Rattle.scan.specs.Checking.{checked, last_of, Checked}
-use Rattle.scan.specs.ReadingLaws.{Taken, checked_refused, checked_taken, giving_refused_as, giving_taken, by_number_refused, by_number_taken, number_below, same_refused}
+use Rattle.scan.specs.Readings.{Taken}
+use Rattle.scan.specs.Laws.Reading.{checked_refused, checked_taken, giving_refused_as, giving_taken, by_number_refused, by_number_taken, number_below, same_refused}
 use Rattle.weights.specs.declared.Weight.{Weight}
 use Rattle.weights.specs.Weighing.{cap, measure}
 use Rattle.arguments.specs.Layout.{label_place, process_place, label_count, process_count, size_at, reach_at, breadth_at}
 use Rattle.arguments.specs.Tables.{row, declared, callee}
-use Rattle.arguments.specs.TableLaws.{labels_length, label_at, processes_length, process_at, arguments_end, arguments_count}
+use Rattle.arguments.specs.Laws.Tables.{labels_length, label_at, processes_length, process_at, arguments_end, arguments_count}
 use Rattle.rule_terms.specs.Weighed.{weighed, found}
-use Rattle.rule_terms.specs.WeighedLaws.{weighed_in, refused_in}
+use Rattle.rule_terms.specs.Laws.Weighed.{weighed_in, refused_in}
 use Rattle.std.specs.Prelude.{Ok, Err}
 use Rattle.refusals.specs.declared.Refusal.{Refusal}
 

@@ -11,17 +11,19 @@ use Rattle.eb3.specs.Reading.{Read, refused, taken, Reader, giving, then, both}
 use Rattle.eb3.specs.TermReading.{mask_of}
 use Rattle.eb3.specs.RuleReading.{rule_mask_of}
 use Rattle.scan.specs.Checking.{checked, last_of, Checked}
-use Rattle.scan.specs.Laws.{Ends, tail_here}
-use Rattle.scan.specs.ReadingLaws.{Taken, checked_refused, checked_taken, giving_refused_as, both_first_as, both_second_as, both_taken, RefusedAs, same_refused}
+use Rattle.scan.specs.Ends.{Ends}
+use Rattle.scan.specs.Laws.Checking.{tail_here}
+use Rattle.scan.specs.Readings.{Taken, RefusedAs}
+use Rattle.scan.specs.Laws.Reading.{checked_refused, checked_taken, giving_refused_as, both_first_as, both_second_as, both_taken, same_refused}
 use Rattle.weights.specs.declared.Weight.{Weight}
 use Rattle.weights.specs.Weighing.{cap, measure, weight, joint_of}
 use Rattle.arguments.specs.Layout.{label_count}
 use Rattle.arguments.specs.Tables.{declared, callee}
-use Rattle.arguments.specs.TableLaws.{labels_length, mask_read}
+use Rattle.arguments.specs.Laws.Tables.{labels_length, mask_read}
 use Rattle.rule_terms.specs.declared.Weighed.{Weighed}
 use Rattle.rule_terms.specs.Weighed.{weighed, terms, answer, weighed_two, mask_if, copies_of, weighed_copies, Answer, found}
-use Rattle.rule_terms.specs.Laws.{term_ends, rule_mask_ends}
-use Rattle.rule_terms.specs.WeighedLaws.{weighed_out, weighed_got, refused_in}
+use Rattle.rule_terms.specs.Laws.Reading.{term_ends, rule_mask_ends}
+use Rattle.rule_terms.specs.Laws.Weighed.{weighed_out, weighed_got, refused_in}
 use Rattle.std.specs.Prelude.{Ok, Err}
 use Rattle.refusals.specs.declared.Refusal.{Refusal}
 use Rattle.weights.specs.declared.Joint.{Joint}

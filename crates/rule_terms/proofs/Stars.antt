@@ -10,13 +10,15 @@ use Rattle.eb3.specs.RuleReading.{RuleKind, rule_kind, read_rule_term}
 use Rattle.weights.specs.declared.Weight.{Weight}
 use Rattle.weights.specs.Weighing.{cap, measure, stars_of}
 use Rattle.arguments.specs.Tables.{declared, callee}
-use Rattle.scan.specs.Repeats.{leading, leading_short, leading_stops}
-use Rattle.scan.specs.ReadingLaws.{giving_refused_as, RefusedAs, same_refused}
+use Rattle.scan.specs.Repeats.{leading}
+use Rattle.scan.specs.Laws.Repeats.{leading_short, leading_stops}
+use Rattle.scan.specs.Readings.{RefusedAs}
+use Rattle.scan.specs.Laws.Reading.{giving_refused_as, same_refused}
 use Rattle.refusals.specs.declared.Refusal.{Refusal}
 use Rattle.rule_terms.specs.Starred.{starred, Stars}
-use Rattle.rule_terms.specs.Laws.{term_case}
+use Rattle.rule_terms.specs.Laws.Reading.{term_case}
 use Rattle.rule_terms.specs.Weighed.{terms, answer, Answer, found}
-use Rattle.rule_terms.specs.WeighedLaws.{weighed_in, refused_in}
+use Rattle.rule_terms.specs.Laws.Weighed.{weighed_in, refused_in}
 use Rattle.rule_terms.proofs.Parts.{got_term, no_term}
 
 -- ── the count ──

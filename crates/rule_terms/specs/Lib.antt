@@ -3,4 +3,3 @@
 pub mod Weighed
 pub mod Starred
 pub mod Laws
-pub mod WeighedLaws

@@ -11,20 +11,23 @@ use Rattle.eb3.specs.Measures.{sat, measure_main}
 use Rattle.eb3.specs.Reading.{Read, refused, taken, Reader, then, count_of, series}
 use Rattle.eb3.specs.RuleReading.{parameter_limit, read_parameter_counts, read_function, read_functions, read_process, with_process, read_processes, without_processes}
 use Rattle.scan.specs.Checking.{checked, last_of, Checked}
-use Rattle.scan.specs.Laws.{Tail, Fine, tail_at, tail_on, last_tail}
-use Rattle.scan.specs.ReadingLaws.{checked_refused, then_refused_as, then_taken, not_taken, RefusedAs, same_refused}
-use Rattle.scan.specs.RowLaws.{count_word}
+use Rattle.scan.specs.Ends.{Tail, Fine}
+use Rattle.scan.specs.Laws.Checking.{tail_at, tail_on, last_tail}
+use Rattle.scan.specs.Readings.{RefusedAs}
+use Rattle.scan.specs.Laws.Reading.{checked_refused, then_refused_as, then_taken, not_taken, same_refused}
+use Rattle.scan.specs.Laws.Rows.{count_word}
 use Rattle.weights.specs.Weighing.{cap, weight}
 use Rattle.arguments.specs.Layout.{tables_length, functions_place, domain_count, label_count}
 use Rattle.arguments.specs.Tables.{edition_in, declared}
-use Rattle.arguments.specs.TableLaws.{domains_length, labels_length}
+use Rattle.arguments.specs.Laws.Tables.{domains_length, labels_length}
 use Rattle.declarations.specs.declared.Counted.{Counted}
 use Rattle.declarations.specs.Entering.{labels_of, all_cells, functions_cells, found_cells}
 use Rattle.declarations.specs.Declaring.{Heads, Tables}
-use Rattle.declarations.specs.DeclaringLaws.{functions_entered}
-use Rattle.declarations.specs.FunctionLaws.{functions_end}
-use Rattle.declarations.specs.ProcessLaws.{Bounded, set_bounded}
-use Rattle.declarations.specs.SectionFacts.{functions_read, cells_total}
+use Rattle.declarations.specs.Laws.Declaring.{functions_entered}
+use Rattle.declarations.specs.Laws.Functions.{functions_end}
+use Rattle.declarations.specs.Bounds.{Bounded}
+use Rattle.declarations.specs.Laws.Processes.{set_bounded}
+use Rattle.declarations.specs.Laws.Sections.{functions_read, cells_total}
 use Rattle.declarations.specs.Directory.{FunctionRows, row_width}
 use Rattle.declarations.specs.Noting.{function_of, FunctionsNoted}
 use Rattle.rules.specs.declared.Rules.{Rules}

@@ -13,20 +13,23 @@ use Rattle.eb3.specs.RuleReading.{parameter_limit, read_rule_term, read_process,
 use Rattle.weights.specs.Weighing.{measure}
 use Rattle.weights.specs.declared.Weight.{Weight}
 use Rattle.scan.specs.Checking.{checked, last_of, Checked}
-use Rattle.scan.specs.Laws.{Tail, tail_on, last_tail, last_all, last_last, last_length}
+use Rattle.scan.specs.Ends.{Tail}
+use Rattle.scan.specs.Laws.Checking.{tail_on, last_tail, last_all, last_last, last_length}
 use Rattle.std.proofs.Common.{le_refl}
 use Rattle.rule_terms.specs.declared.Weighed.{Weighed}
 use Rattle.rule_terms.specs.Weighed.{weighed, Answer, found}
 use Rattle.arguments.specs.Layout.{processes_place, process_place, size_in, reach_in, breadth_in, body_in, domain_count, process_count}
 use Rattle.arguments.specs.Tables.{row, declared, callee}
-use Rattle.arguments.specs.TableLaws.{domains_length}
+use Rattle.arguments.specs.Laws.Tables.{domains_length}
 use Rattle.declarations.specs.Declaring.{Declares, entered_process}
-use Rattle.declarations.specs.DeclaringLaws.{entered_length}
-use Rattle.declarations.specs.ProcessLaws.{Bounded, entered_bounded}
-use Rattle.declarations.specs.Rows.{RowAt, numbers_row}
+use Rattle.declarations.specs.Laws.Declaring.{entered_length}
+use Rattle.declarations.specs.Bounds.{Bounded}
+use Rattle.declarations.specs.Laws.Processes.{entered_bounded}
+use Rattle.declarations.specs.Rows.{RowAt}
+use Rattle.declarations.specs.Laws.Rows.{numbers_row}
 use Rattle.rules.specs.Sections.{process_weighed, main_weighed}
 use Rattle.rules.specs.Filling.{ProcessesRead}
-use Rattle.rules.specs.SectionLaws.{processes_refused, process_row_front, last_answers, last_placed, next_answers, next_placed}
+use Rattle.rules.specs.Laws.Sections.{processes_refused, process_row_front, last_answers, last_placed, next_answers, next_placed}
 use Rattle.std.specs.Prelude.{Ok, Err}
 use Rattle.refusals.specs.declared.Refusal.{Refusal}
 use Rattle.refusals.specs.Numbers.{refusal}

@@ -12,19 +12,23 @@ use Rattle.eb3.specs.Reading.{Read, taken, Reader, then, count_of, number_of, re
 use Rattle.eb3.specs.RuleReading.{read_domains, read_labels, read_processes, without_processes, read_rules}
 use Rattle.eb3.proofs.Laws.Reading.{Sound, count_sound}
 use Rattle.scan.specs.Checking.{checked, last_of, Checked}
-use Rattle.scan.specs.Laws.{Tail, tail_on, number_ends, got, last_tail}
-use Rattle.scan.specs.ReadingLaws.{checked_refused, then_refused_as, then_taken, not_taken, RefusedAs, same_refused}
-use Rattle.scan.specs.RowLaws.{count_word, repeat_ends, counted_ends}
+use Rattle.scan.specs.Ends.{Tail}
+use Rattle.scan.specs.Laws.Checking.{tail_on, number_ends, got, last_tail}
+use Rattle.scan.specs.Readings.{RefusedAs}
+use Rattle.scan.specs.Laws.Reading.{checked_refused, then_refused_as, then_taken, not_taken, same_refused}
+use Rattle.scan.specs.Laws.Rows.{count_word, repeat_ends, counted_ends}
 use Rattle.arguments.specs.Layout.{tables_length, labels_place, label_place, processes_place, process_place, domain_count, label_count, process_count, domains_place}
 use Rattle.arguments.specs.Tables.{edition_in, row, declared}
-use Rattle.arguments.specs.TableLaws.{domains_length}
+use Rattle.arguments.specs.Laws.Tables.{domains_length}
 use Rattle.declarations.specs.Entering.{put_rows, Entered}
 use Rattle.declarations.specs.Declaring.{Heads, Tables, Declares}
-use Rattle.declarations.specs.DeclaringLaws.{domains_counted, domains_entered, labels_counted, labels_entered, processes_start}
-use Rattle.declarations.specs.ProcessLaws.{Bounded, set_bounded}
-use Rattle.declarations.specs.Regions.{paste_front}
-use Rattle.declarations.specs.Rows.{RowAt, domains_row}
-use Rattle.declarations.specs.SectionFacts.{labels_read}
+use Rattle.declarations.specs.Laws.Declaring.{domains_counted, domains_entered, labels_counted, labels_entered, processes_start}
+use Rattle.declarations.specs.Bounds.{Bounded}
+use Rattle.declarations.specs.Laws.Processes.{set_bounded}
+use Rattle.declarations.specs.Laws.Regions.{paste_front}
+use Rattle.declarations.specs.Rows.{RowAt}
+use Rattle.declarations.specs.Laws.Rows.{domains_row}
+use Rattle.declarations.specs.Laws.Sections.{labels_read}
 use Rattle.rules.specs.declared.Rules.{Rules}
 use Rattle.rules.specs.Filling.{ProcessesRead, ProcessSectionRead, FunctionSectionRead, LabelSectionRead, RulesRead}
 use Rattle.rules.specs.Sections.{main_weighed, rules_weighed, process_section, function_section, label_section}

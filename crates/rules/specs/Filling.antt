@@ -4,10 +4,10 @@ use Rattle.std.specs.Prelude.{◌≡◌, List, ℕ, ◌*◌, ◌≤◌, ◌<◌,
 use Rattle.eb3.specs.RuleSets.{Function, RuleSet}
 use Rattle.eb3.specs.Reading.{taken, Reader}
 use Rattle.eb3.specs.RuleReading.{read_processes, read_rules}
-use Rattle.scan.specs.Laws.{Tail}
+use Rattle.scan.specs.Ends.{Tail}
 use Rattle.arguments.specs.Tables.{edition_in, declared}
 use Rattle.declarations.specs.Declaring.{Heads, Tables, Declares}
-use Rattle.declarations.specs.ProcessLaws.{Narrow}
+use Rattle.declarations.specs.Bounds.{Narrow}
 use Rattle.declarations.specs.Directory.{ProcessRows, Directory, row_width}
 use Rattle.rules.specs.declared.Rules.{Rules}
 use Rattle.rules.specs.Sections.{main_weighed, rules_weighed, process_section, function_section, label_section}

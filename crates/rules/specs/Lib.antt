@@ -2,5 +2,4 @@
 -- Document 01, "Blocks and the rule stream", items 2 to 5; refusals 4 to 6.
 pub mod Sections
 pub mod Filling
-pub mod SectionLaws
-pub mod WholeLaws
+pub mod Laws

@@ -7,7 +7,7 @@ ghost use Rattle.eb3.specs.RuleReading.{parameter_limit, read_process};
 ghost use Rattle.arguments.specs.Layout.{domain_count, process_count};
 ghost use Rattle.arguments.specs.Tables.{declared, callee};
 ghost use Rattle.declarations.specs.Declaring.{entered_process};
-ghost use Rattle.declarations.specs.ProcessLaws.{Bounded};
+ghost use Rattle.declarations.specs.Bounds.{Bounded};
 ghost use Rattle.rules.specs.Sections.{process_weighed};
 ghost use Rattle.rules.specs.Filling.{ProcessesRead, ProcessSectionRead, FunctionSectionRead, LabelSectionRead, RulesRead};
 

@@ -19,16 +19,16 @@ use Rattle.eb3.specs.Semantics.{Sem_M, system}
 use Rattle.eb3.specs.TransitionSystems.{outcomes}
 use Rattle.eb3.specs.Machines.{memory_run}
 use Rattle.eb3.specs.WellFormedness.{Running, Form}
-use Rattle.scan.specs.Laws.{last_all}
+use Rattle.scan.specs.Laws.Checking.{last_all}
 use Rattle.expressions.specs.Answering.{answer}
-use Rattle.steps.specs.Judging.{whole}
+use Rattle.steps.specs.Laws.Judging.{whole}
 use Rattle.sharing.specs.Shared.{Shared, Ended as Done_there, Part, term_of, shared_words, Unmasked, PartAt, Stands}
 use Rattle.sharing.specs.Beginning.{put_at}
 use Rattle.sharing.specs.Splicing.{Expanded}
 use Rattle.sharing.specs.Expanding.{told}
 use Rattle.sharing.specs.declared.expansion.Extent.{Extent}
 use Rattle.std.specs.Prelude.{Option, None, Some}
-use Rattle.runs.specs.ScratchLaws.{words_kept}
+use Rattle.runs.specs.Laws.Scratch.{words_kept}
 use Rattle.runs.specs.Running.{Spelled, Ended, CountedBy}
 use Rattle.runs.specs.Scratch.{WordsOnly}
 use Rattle.runs.specs.Sharing.{SharedOver}

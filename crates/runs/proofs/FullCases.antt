@@ -22,14 +22,14 @@ use Rattle.eb3.proofs.Laws.Editions.{width_is_1}
 use Rattle.actions.specs.Codes.{action_code}
 use Rattle.listing.specs.Listing.{holding}
 use Rattle.cells.specs.Preparing.{Loaded}
-use Rattle.cells.specs.MemoryLaws.{written_loaded}
+use Rattle.cells.specs.Laws.Memory.{written_loaded}
 use Rattle.steps.specs.Counting.{Whole}
 use Rattle.steps.specs.Taking.{taken_as, built_over, SuccessorFits, Took}
 use Rattle.steps.specs.Storing.{Ruled}
-use Rattle.steps.specs.Judging.{whole}
+use Rattle.steps.specs.Laws.Judging.{whole}
 use Rattle.steps.specs.declared.moving.Taken.{Taken}
 use Rattle.runs.specs.Scratch.{WordsOnly}
-use Rattle.runs.specs.ScratchLaws.{words_kept, words_written}
+use Rattle.runs.specs.Laws.Scratch.{words_kept, words_written}
 use Rattle.derivation.specs.declared.scratch.Scratch.{Scratch}
 use Rattle.runs.specs.Running.{Spelled, Situated, Roomy}
 use Rattle.runs.specs.Held.{MovedTo, TakesMove}

@@ -30,16 +30,16 @@ use Rattle.eb3.proofs.Laws.Editions.{width_is_1}
 use Rattle.arguments.specs.Layout.{label_count, function_count}
 use Rattle.expressions.specs.Stores.{now_place, store_length}
 use Rattle.cells.specs.Preparing.{Loaded}
-use Rattle.cells.specs.MemoryLaws.{held_words, written_loaded}
+use Rattle.cells.specs.Laws.Memory.{held_words, written_loaded}
 use Rattle.declarations.specs.Directory.{Directory, row_width}
 use Rattle.unfold.specs.Unfolded.{Ready}
 use Rattle.steps.specs.Storing.{Stored, Ruled}
-use Rattle.steps.specs.RuledLaws.{ruled_there}
-use Rattle.steps.specs.Judging.{whole}
+use Rattle.steps.specs.Laws.Ruled.{ruled_there}
+use Rattle.steps.specs.Laws.Judging.{whole}
 use Rattle.sharing.specs.Masks.{Shareable}
 use Rattle.readers.specs.Table.{counted_by}
 use Rattle.runs.specs.Scratch.{WordsOnly}
-use Rattle.runs.specs.ScratchLaws.{words_written, words_then}
+use Rattle.runs.specs.Laws.Scratch.{words_written, words_then}
 use Rattle.derivation.specs.declared.scratch.Scratch.{Scratch}
 use Rattle.runs.specs.Running.{Holding, Spelled, Ended, CountedBy}
 use Rattle.runs.specs.Held.{Runs}

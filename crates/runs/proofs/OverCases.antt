@@ -23,7 +23,7 @@ use Rattle.sharing.specs.Stepping.{StepTaken, Stepped}
 use Rattle.sharing.specs.declared.moved.Moved.{Moved}
 use Rattle.derivation.specs.declared.scratch.Scratch.{Scratch}
 use Rattle.steps.specs.declared.moving.Taken.{Taken}
-use Rattle.runs.specs.ScratchLaws.{words_kept}
+use Rattle.runs.specs.Laws.Scratch.{words_kept}
 use Rattle.runs.specs.Running.{Situated}
 use Rattle.runs.specs.Sharing.{SharedOver, RoomyOver}
 use Rattle.runs.specs.Held.{MovedTo, TakesMove}

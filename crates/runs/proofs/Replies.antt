@@ -24,7 +24,7 @@ use Rattle.eb3.proofs.Laws.Editions.{width_is_1}
 use Rattle.actions.specs.Codes.{action_code}
 use Rattle.listing.specs.Listing.{holding}
 use Rattle.steps.specs.Storing.{Ruled, StoreRenewed}
-use Rattle.steps.specs.Judging.{moves_judged}
+use Rattle.steps.specs.Laws.Judging.{moves_judged}
 use Rattle.runs.specs.Running.{Holding, Situated, done_as, Once}
 use Rattle.runs.specs.declared.Done.{Done}
 use Rattle.runs.specs.declared.Done.TheVariants.{Visible, Internal}

@@ -21,7 +21,7 @@ use Rattle.readers.specs.Table.{place_of, one_more, outcome_place, counted_by}
 use Rattle.readers.specs.declared.Outcome.{Outcome as Counted}
 use Rattle.readers.proofs.Laws.Counting.{counted_next}
 use Rattle.runs.specs.Scratch.{WordsOnly}
-use Rattle.runs.specs.ScratchLaws.{words_kept, words_then}
+use Rattle.runs.specs.Laws.Scratch.{words_kept, words_then}
 use Rattle.derivation.specs.Arrays.{SameArrays}
 use Rattle.derivation.specs.declared.scratch.Scratch.{Scratch}
 use Rattle.runs.specs.Running.{Holding, Situated, done_as, outcome_of, Once, Steps, counted, Ended, RunsBy}

@@ -1,9 +1,8 @@
 -- What a check of words answers, and the laws of reading that every crate above uses.
 -- Document 01, "Operations": 4, 5 and 6 by the first offending word of the stream.
 pub mod Checking
-pub mod Words
 pub mod Repeats
-pub mod Laws
-pub mod ReadingLaws
 pub mod Refusing
-pub mod RowLaws
+pub mod Ends
+pub mod Readings
+pub mod Laws

@@ -30,7 +30,7 @@ pub fn first(s: &[u16]) -> usize
 
 // The last n words; all of them where there are fewer.
 // Stays with n, and so do `front` and `after`: this is what makes a slice of that many words.
-#[tactic(auto, using(crate::specs::Laws::part), unfolding(crate::specs::Checking::last_of))]
+#[tactic(auto, using(crate::specs::Laws::Checking::part), unfolding(crate::specs::Checking::last_of))]
 pub fn last(s: &[u16], n: usize) -> &[u16]
     ensures { result.now ≡ last_of n s.now }
 {
@@ -79,7 +79,7 @@ pub fn number_or<E: Drop>(t: &[u16], missing: E, wrong: E, limit: usize) -> Resu
 }
 
 // One number below a limit, else this refusal.
-#[tactic(auto, using(crate::specs::ReadingLaws::number_or_checked))]
+#[tactic(auto, using(crate::specs::Laws::Reading::number_or_checked))]
 pub fn number(t: &[u16], refusal: Refusal, limit: usize) -> Result<usize, Refusal>
     ensures { result ≡ checked (number_of (number refusal) limit t.now) }
 {

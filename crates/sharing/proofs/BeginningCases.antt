@@ -13,18 +13,20 @@ use Rattle.eb3.specs.Terms.{Term, Done, Sequence, Choice, Star, visible, interna
 use Rattle.eb3.specs.Spelling.{cond_words, words}
 use Rattle.eb3.specs.Sizes.{size}
 use Rattle.scan.specs.Checking.{last_of}
-use Rattle.scan.specs.Laws.{Tail, part, last_behind}
+use Rattle.scan.specs.Ends.{Tail}
+use Rattle.scan.specs.Laws.Checking.{part, last_behind}
 use Rattle.expressions.specs.Answering.{CondAt}
 use Rattle.actions.specs.Codes.{action_code, ActionAt}
 use Rattle.listing.specs.Listing.{TermAt}
-use Rattle.listing.specs.Positions.{action_at, code_in_front, term_front, TwoAt, behind_term}
-use Rattle.listing.specs.Operands.{is_done, other_test}
+use Rattle.listing.specs.Positions.{code_in_front, TwoAt}
+use Rattle.listing.specs.Laws.Positions.{action_at, term_front, behind_term}
+use Rattle.listing.specs.Laws.Operands.{is_done, other_test}
 use Rattle.paths.specs.Paths.{followed, within, follow, marked}
 use Rattle.sharing.specs.Shared.{PartAt}
-use Rattle.sharing.specs.SharedLaws.{size_some}
+use Rattle.sharing.specs.Laws.Shared.{size_some}
 use Rattle.sharing.specs.Beginning.{BeganRight, Beginning, ActionNumber, EndPut}
-use Rattle.successors.specs.TermLaws.{sequence_two, choice_two, star_first, guard_condition, guard_operand, right_there, left_within}
-use Rattle.successors.specs.FollowLaws.{leaf, choice_left_follows, choice_left_marked, choice_right_follows, choice_right_marked, star_end_follows, round_follows, round_marked}
+use Rattle.successors.specs.Laws.Terms.{sequence_two, choice_two, star_first, guard_condition, guard_operand, right_there, left_within}
+use Rattle.successors.specs.Laws.Following.{leaf, choice_left_follows, choice_left_marked, choice_right_follows, choice_right_marked, star_end_follows, round_follows, round_marked}
 use Rattle.sharing.proofs.BeginningEnds.{Under, under_on, last_tail, part_at}
 use Rattle.sharing.proofs.BeginningGiven.{Skipped, lent, Given, begun, by_any, by_action, by_sequence, by_choice, by_star, by_guard, ended, then_began}
 

@@ -5,7 +5,7 @@ use Prim.Native.Nat.{ℕ, ◌+◌, ◌*◌, ◌/◌, ◌%◌, ◌≤◌, ◌<◌
 use native.Mathlib.Omega.{arith}
 use Rattle.eb3.specs.Terms.{Action, internal, visible}
 use Rattle.actions.specs.Codes.{action_code, Small}
-use Rattle.actions.specs.CodesLaws.{few_arguments}
+use Rattle.actions.specs.Laws.Codes.{few_arguments}
 use Rattle.sharing.specs.Beginning.{began, ActionNumber}
 
 small_number : (ρ : Action) → Small ρ → action_code ρ < 1048576

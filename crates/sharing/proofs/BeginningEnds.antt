@@ -12,10 +12,12 @@ use Rattle.eb3.specs.Scopes.{Scope}
 use Rattle.eb3.specs.Terms.{Term, Mask}
 use Rattle.eb3.specs.Sizes.{zero_mask}
 use Rattle.scan.specs.Checking.{last_of}
-use Rattle.scan.specs.Laws.{Tail, part, tail_on, tail_at, tail_short}
+use Rattle.scan.specs.Ends.{Tail}
+use Rattle.scan.specs.Laws.Checking.{part, tail_on, tail_at, tail_short}
 use Rattle.listing.specs.Listing.{TermAt}
-use Rattle.listing.specs.Positions.{code_in_front, term_front}
-use Rattle.listing.specs.Operands.{is_done, other_test}
+use Rattle.listing.specs.Positions.{code_in_front}
+use Rattle.listing.specs.Laws.Positions.{term_front}
+use Rattle.listing.specs.Laws.Operands.{is_done, other_test}
 use Rattle.sharing.specs.Shared.{Shared, Ended, Part, no_mask, term_of, shared_words, Unmasked, PartAt, Stands}
 
 -- ── the last words ──

@@ -12,8 +12,9 @@ use Rattle.eb3.specs.Terms.{Term, Done, Perform, Sequence, Choice, Star, Paralle
 use Rattle.eb3.specs.Sizes.{size}
 use Rattle.actions.specs.Codes.{action_code}
 use Rattle.listing.specs.Listing.{TermAt}
-use Rattle.listing.specs.Positions.{code_in_front, term_front}
-use Rattle.listing.specs.ByCode.{by_perform as of_perform, by_sequence as of_sequence, by_choice as of_choice, by_star as of_star, by_parallel as of_parallel, by_guard as of_guard}
+use Rattle.listing.specs.Positions.{code_in_front}
+use Rattle.listing.specs.Laws.Positions.{term_front}
+use Rattle.listing.specs.Laws.ByCode.{by_perform as of_perform, by_sequence as of_sequence, by_choice as of_choice, by_star as of_star, by_parallel as of_parallel, by_guard as of_guard}
 use Rattle.paths.specs.Paths.{Followed, followed, within, follow, marked}
 use Rattle.sharing.specs.Shared.{Ended, Then, term_of, shared_words, Unmasked, PartAt}
 use Rattle.sharing.specs.Beginning.{began, BeganRight, Beginning, EndPut}

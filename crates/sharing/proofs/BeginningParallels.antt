@@ -13,17 +13,18 @@ use Rattle.eb3.specs.Reading.{pick}
 use Rattle.eb3.specs.Spelling.{words}
 use Rattle.eb3.specs.Sizes.{size}
 use Rattle.scan.specs.Checking.{last_of}
-use Rattle.scan.specs.Laws.{part}
+use Rattle.scan.specs.Laws.Checking.{part}
 use Rattle.actions.specs.Codes.{action_code}
-use Rattle.listing.specs.Positions.{TwoAt, second_at}
+use Rattle.listing.specs.Positions.{TwoAt}
+use Rattle.listing.specs.Laws.Positions.{second_at}
 use Rattle.paths.specs.Paths.{Followed, followed, within, follow, marked}
 use Rattle.sharing.specs.Shared.{Beside, no_mask, term_of, shared_words, Unmasked}
-use Rattle.sharing.specs.SharedLaws.{size_some, shared_short, shared_some}
+use Rattle.sharing.specs.Laws.Shared.{size_some, shared_short, shared_some}
 use Rattle.sharing.specs.Beginning.{began, BeganRight, Beginning, EndPut, TwoRight, LeftBegun, BothBegun}
-use Rattle.successors.specs.FollowLaws.{rest_of_path, rest_short, parallel_end_follows, parallel_left_follows, parallel_left_marked, parallel_right_follows, parallel_right_marked, parallel_both_follows, parallel_both_marked, size_marked}
+use Rattle.successors.specs.Laws.Following.{rest_of_path, rest_short, parallel_end_follows, parallel_left_follows, parallel_left_marked, parallel_right_follows, parallel_right_marked, parallel_both_follows, parallel_both_marked, size_marked}
 use Rattle.sharing.proofs.BeginningPuts.{put_one, one_put, put_behind}
 use Rattle.sharing.proofs.BeginningEnds.{Under, under_on, last_tail, one_word, bare_mask}
-use Rattle.successors.specs.TermLaws.{parallel_two, parallel_long, right_there, left_within}
+use Rattle.successors.specs.Laws.Terms.{parallel_two, parallel_long, right_there, left_within}
 use Rattle.sharing.proofs.BeginningCodes.{began_at, began_left, began_action, began_both}
 use Rattle.sharing.proofs.BeginningGiven.{Skipped, lent, Given, begun, by_parallel, ended}
 

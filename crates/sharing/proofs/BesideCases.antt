@@ -7,9 +7,9 @@ use lib.ListN.{length, drop, get_or, length-append}
 use Rattle.eb3.specs.Scopes.{Scope}
 use Rattle.eb3.specs.Spelling.{words}
 use Rattle.scan.specs.Checking.{last_of}
-use Rattle.scan.specs.Laws.{last_behind}
+use Rattle.scan.specs.Laws.Checking.{last_behind}
 use Rattle.expressions.specs.Answering.{answer}
-use Rattle.listing.specs.Operands.{answer_is}
+use Rattle.listing.specs.Laws.Operands.{answer_is}
 use Rattle.sharing.specs.Shared.{Shared, Ended, Part, Then, Beside, term_of, shared_words, Stands}
 use Rattle.sharing.specs.Beginning.{put_at}
 use Rattle.sharing.specs.Splicing.{Expanded}

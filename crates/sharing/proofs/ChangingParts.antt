@@ -11,13 +11,13 @@ use Rattle.eb3.specs.Scopes.{Scope}
 use Rattle.eb3.specs.Terms.{Term, Action}
 use Rattle.eb3.specs.Sizes.{size}
 use Rattle.scan.specs.Checking.{last_of}
-use Rattle.scan.specs.Laws.{last_length}
+use Rattle.scan.specs.Laws.Checking.{last_length}
 use Rattle.listing.specs.Listing.{TermAt}
 use Rattle.actions.specs.Codes.{action_code}
 use Rattle.paths.specs.Paths.{Followed, follow, followed, marked}
 use Rattle.sharing.specs.Shared.{Shared, Ended, term_of, part_word, shared_words, PartAt}
 use Rattle.sharing.specs.Beginning.{began, put_at, BeganRight, Beginning}
-use Rattle.sharing.specs.SharedLaws.{shared_some}
+use Rattle.sharing.specs.Laws.Shared.{shared_some}
 use Rattle.sharing.specs.Splicing.{Spliced}
 use Rattle.sharing.proofs.BeginningCodes.{began_at, began_action}
 use Rattle.sharing.specs.Changing.{RoomFor, ChangedRight, Joined, PartChanged}

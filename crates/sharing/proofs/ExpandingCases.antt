@@ -12,7 +12,7 @@ use Rattle.eb3.specs.Spelling.{words}
 use Rattle.scan.specs.Checking.{last_of}
 use Rattle.expressions.specs.Answering.{answer}
 use Rattle.listing.specs.Listing.{TermAt}
-use Rattle.listing.specs.Operands.{answer_is, front_form}
+use Rattle.listing.specs.Laws.Operands.{answer_is, front_form}
 use Rattle.sharing.specs.Shared.{Shared, Ended, Part, Then, Beside, term_of, part_word, shared_words, PartAt, Stands}
 use Rattle.sharing.specs.Beginning.{put_at}
 use Rattle.sharing.specs.Splicing.{Expanded, PartExpanded, DoneExpanded}

@@ -10,7 +10,7 @@ use Rattle.eb3.specs.Terms.{Sequence, done?}
 use Rattle.eb3.specs.Moves.{moves}
 use Rattle.expressions.specs.Answering.{answer}
 use Rattle.listing.specs.Listing.{holding}
-use Rattle.listing.specs.Operands.{answer_is, front_form}
+use Rattle.listing.specs.Laws.Operands.{answer_is, front_form}
 use Rattle.derivation.specs.Derived.{passed, full, move_count}
 use Rattle.sharing.specs.Shared.{Shared, Ended, Then, term_of, part_word, shared_words, Stands}
 use Rattle.sharing.specs.Finding.{part, resumed, FoundRight, Found, PartFound}

@@ -14,7 +14,7 @@ use Rattle.eb3.specs.Terms.{Term, Done, Sequence, Parallel, Action, internal, vi
 use Rattle.eb3.specs.Moves.{Move, move, moves, sequenced, left_move, right_move, synchronised, outside_mask?, synchronise?, parallel_moves}
 use Rattle.eb3.specs.Sizes.{zero_mask}
 use Rattle.eb3.proofs.Laws.TransitionSystems.{getElem?_map}
-use Rattle.listing.specs.CodeLaws.{zero_word}
+use Rattle.listing.specs.Laws.Codes.{zero_word}
 use Rattle.paths.proofs.FilterLaws.{filter_all, filter_none, rows_none}
 use Rattle.paths.proofs.SeekLaws.{entry_first, entry_behind}
 use Rattle.sharing.specs.Shared.{no_mask}

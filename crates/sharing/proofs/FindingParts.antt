@@ -10,15 +10,15 @@ use Rattle.eb3.specs.Terms.{Term}
 use Rattle.eb3.specs.Sizes.{size}
 use Rattle.eb3.specs.Spelling.{words}
 use Rattle.scan.specs.Checking.{last_of}
-use Rattle.scan.specs.Laws.{last_len}
+use Rattle.scan.specs.Laws.Checking.{last_len}
 use Rattle.expressions.specs.Answering.{answer}
 use Rattle.listing.specs.Listing.{TermAt, holding}
-use Rattle.listing.specs.FitLaws.{fits_length}
-use Rattle.listing.specs.Operands.{answer_is}
+use Rattle.listing.specs.Laws.Fits.{fits_length}
+use Rattle.listing.specs.Laws.Operands.{answer_is}
 use Rattle.paths.specs.Paths.{path}
 use Rattle.derivation.specs.Derived.{passed, full, move_count}
 use Rattle.sharing.specs.Shared.{part_word, PartAt}
-use Rattle.sharing.specs.RoomLaws.{unmasked_room}
+use Rattle.sharing.specs.Laws.Rooms.{unmasked_room}
 use Rattle.sharing.specs.Seeking.{Sought, Outcome}
 use Rattle.sharing.specs.Finding.{PartFound}
 

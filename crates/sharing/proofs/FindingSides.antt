@@ -10,12 +10,12 @@ use lib.ListN.{length, drop, get_or, length-drop, length-append}
 use Rattle.eb3.specs.Scopes.{Scope}
 use Rattle.eb3.specs.Terms.{done?}
 use Rattle.scan.specs.Checking.{last_of}
-use Rattle.scan.specs.Laws.{last_behind, last_len}
+use Rattle.scan.specs.Laws.Checking.{last_behind, last_len}
 use Rattle.expressions.specs.Answering.{answer}
 use Rattle.listing.specs.Listing.{holding}
-use Rattle.listing.specs.Operands.{answer_is, answered_left, answered_count}
+use Rattle.listing.specs.Laws.Operands.{answer_is, answered_left, answered_count}
 use Rattle.derivation.specs.Derived.{passed, full, move_count}
-use Rattle.derivation.specs.AnswerLaws.{by_order}
+use Rattle.derivation.specs.Laws.Answers.{by_order}
 use Rattle.sharing.specs.Shared.{Shared, Ended, Beside, term_of, shared_words, Stands}
 use Rattle.sharing.specs.Finding.{joined, Found}
 use Rattle.sharing.proofs.FindingMoves.{moves_joined, count_sides}

@@ -11,13 +11,14 @@ use Rattle.eb3.specs.Terms.{Term, Done, Internal, Perform, Sequence, Choice, Sta
 use Rattle.eb3.specs.Sizes.{zero_mask}
 use Rattle.eb3.specs.Spelling.{cond_words, words}
 use Rattle.scan.specs.Checking.{last_of}
-use Rattle.scan.specs.Laws.{last_behind, last_len, behind_len}
+use Rattle.scan.specs.Laws.Checking.{last_behind, last_len, behind_len}
 use Rattle.expressions.specs.Answering.{CondAt}
 use Rattle.actions.specs.Codes.{ActionAt}
 use Rattle.listing.specs.Listing.{TermAt}
-use Rattle.listing.specs.Positions.{code_in_front, TwoAt, GuardedAt, term_front, second_at}
-use Rattle.listing.specs.Operands.{front_form, front_len, mask_len}
-use Rattle.listing.specs.CasesByCode.{perform_cases, sequence_cases, choice_cases, star_cases, parallel_cases, guard_cases}
+use Rattle.listing.specs.Positions.{code_in_front, TwoAt, GuardedAt}
+use Rattle.listing.specs.Laws.Positions.{term_front, second_at}
+use Rattle.listing.specs.Laws.Operands.{front_form, front_len, mask_len}
+use Rattle.listing.specs.Laws.CasesByCode.{perform_cases, sequence_cases, choice_cases, star_cases, parallel_cases, guard_cases}
 use Rattle.sharing.specs.Shared.{Unmasked}
 use Rattle.sharing.specs.Masks.{Bare}
 

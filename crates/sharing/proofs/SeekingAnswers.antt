@@ -13,7 +13,7 @@ use Rattle.paths.specs.Paths.{path}
 use Rattle.paths.proofs.PathLaws.{path_length}
 use Rattle.derivation.specs.Derived.{passed, full, move_count, Derived}
 use Rattle.derivation.specs.Arms.{Decided}
-use Rattle.derivation.specs.AnswerLaws.{by_order, place_room}
+use Rattle.derivation.specs.Laws.Answers.{by_order, place_room}
 use Rattle.sharing.specs.Shared.{Unmasked}
 use Rattle.sharing.specs.Seeking.{Bounded, Outcome, Sought}
 

@@ -13,17 +13,18 @@ use Rattle.eb3.specs.Spelling.{words}
 use Rattle.scan.specs.Checking.{last_of}
 use Rattle.expressions.specs.Answering.{answer, Judged}
 use Rattle.listing.specs.Listing.{TermAt, holding}
-use Rattle.listing.specs.Positions.{TwoAt, MaskedAt, term_front, second_at, behind_shorter}
-use Rattle.listing.specs.ByCode.{NoOther, by_rest}
-use Rattle.listing.specs.CasesByCode.{internal_cases, perform_cases, sequence_cases, choice_cases, star_cases, parallel_cases, guard_cases}
-use Rattle.listing.specs.RoomLaws.{room_after_done, room_sequence, room_choice, room_star, room_zero, room_guard}
-use Rattle.listing.specs.Operands.{BothDone, answer_is, answered_left, answered_count, first_done, first_other, second_behind, truth_none, truth_some, holds, guarded_here, front_form}
+use Rattle.listing.specs.Positions.{TwoAt, MaskedAt}
+use Rattle.listing.specs.Laws.Positions.{term_front, second_at, behind_shorter}
+use Rattle.listing.specs.Laws.ByCode.{NoOther, by_rest}
+use Rattle.listing.specs.Laws.CasesByCode.{internal_cases, perform_cases, sequence_cases, choice_cases, star_cases, parallel_cases, guard_cases}
+use Rattle.listing.specs.Laws.Rooms.{room_after_done, room_sequence, room_choice, room_star, room_zero, room_guard}
+use Rattle.listing.specs.Laws.Operands.{BothDone, answer_is, answered_left, answered_count, first_done, first_other, second_behind, truth_none, truth_some, holds, guarded_here, front_form}
 use Rattle.paths.specs.Paths.{path}
 use Rattle.derivation.specs.Derived.{passed, full, move_count, Derived}
 use Rattle.derivation.specs.Arms.{Decided}
-use Rattle.derivation.specs.FitLaws.{before_second}
+use Rattle.derivation.specs.Laws.Fits.{before_second}
 use Rattle.sharing.specs.Seeking.{Bounded, Sought, TwoSought}
-use Rattle.derivation.specs.AnswerLaws.{by_order, before_full, decided_room}
+use Rattle.derivation.specs.Laws.Answers.{by_order, before_full, decided_room}
 use Rattle.sharing.proofs.SeekingAnswers.{bounded_more, bounded_passed, bounded_single, Told, sought_of, outcome_as, outcome_early, outcome_later, outcome_none, outcome_single, decided_bounds, decided_outcome, outcome_room, derived_place, derived_outcome, derived_room}
 use Rattle.sharing.proofs.SeekingCounts.{count_done, count_internal, count_perform, count_after_done, count_sequence, count_choice, count_star, count_guard, count_shut, count_both_done, count_beside, path_after_done, path_sequence, path_choice, path_end, path_round, path_guard, path_internal, path_perform, two_first, two_second, path_both_done, path_beside}
 

@@ -15,8 +15,8 @@ use Rattle.eb3.specs.Moves.{move, moves, sequenced, parallel_moves}
 use Rattle.eb3.specs.Sizes.{size, zero_mask}
 use Rattle.actions.specs.Sets.{mask_set, has_all}
 use Rattle.listing.specs.Listing.{Fits, code_of, codes, holding}
-use Rattle.listing.specs.CodeLaws.{codes_parallel, combined_zero}
-use Rattle.listing.specs.ShownLaws.{zero_within}
+use Rattle.listing.specs.Laws.Codes.{codes_parallel, combined_zero}
+use Rattle.listing.specs.Laws.Shown.{zero_within}
 use Rattle.paths.specs.Paths.{shown, path, path_in_turn, path_by, idle, alone, paired, numbers, locate}
 use Rattle.paths.proofs.ShownLaws.{shown_all}
 use Rattle.derivation.specs.Derived.{move_count}

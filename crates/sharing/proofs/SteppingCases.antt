@@ -12,14 +12,14 @@ use Rattle.eb3.specs.Scopes.{Scope}
 use Rattle.eb3.specs.Moves.{Move, moves}
 use Rattle.eb3.specs.Sizes.{size}
 use Rattle.listing.specs.Listing.{holding}
-use Rattle.listing.specs.Operands.{answer_is, answered_left, answered_count}
+use Rattle.listing.specs.Laws.Operands.{answer_is, answered_left, answered_count}
 use Rattle.paths.proofs.SeekLaws.{some_within}
 use Rattle.derivation.specs.Derived.{passed}
 use Rattle.sharing.specs.Shared.{Shared, term_of, shared_words, Stands}
 use Rattle.sharing.specs.Finding.{Place, FoundRight, Found}
 use Rattle.sharing.specs.Changing.{Changes, RoomFor, ChangedRight, Changed}
 use Rattle.sharing.specs.Stepping.{StepTaken, Stepped}
-use Rattle.sharing.specs.SharedLaws.{shared_some}
+use Rattle.sharing.specs.Laws.Shared.{shared_some}
 use Rattle.sharing.proofs.SteppingPlaces.{moves_here, place_room, place_taken}
 
 -- No term that is there has a move k.

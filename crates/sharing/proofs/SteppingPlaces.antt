@@ -14,9 +14,9 @@ use Rattle.actions.specs.Codes.{action_code}
 use Rattle.listing.specs.Listing.{holding}
 use Rattle.paths.specs.Paths.{path, follow, followed, marked}
 use Rattle.paths.proofs.PathLaws.{follow_path}
-use Rattle.derivation.specs.FitLaws.{small_actions}
+use Rattle.derivation.specs.Laws.Fits.{small_actions}
 use Rattle.sharing.specs.Shared.{Shared, Part, term_of, shared_words, PartAt}
-use Rattle.sharing.specs.SharedLaws.{shared_short}
+use Rattle.sharing.specs.Laws.Shared.{shared_short}
 use Rattle.sharing.specs.Finding.{Moving, part, resumed, joined, Place}
 use Rattle.sharing.specs.Changing.{Changes, RoomFor, ChangedRight}
 use Rattle.sharing.specs.Changing as changing

@@ -5,7 +5,7 @@ use Prim.Native.Nat.{ℕ, ◌+◌, ◌-◌, ◌*◌, ◌/◌, ◌%◌, ◌≤◌
 use native.Mathlib.Omega.{arith}
 use Rattle.scan.specs.Checking.{last_of}
 use Rattle.expressions.specs.Answering.{answer}
-use Rattle.listing.specs.Operands.{answer_is, answered_left, answered_count}
+use Rattle.listing.specs.Laws.Operands.{answer_is, answered_left, answered_count}
 use Rattle.derivation.specs.declared.arrays.Arrays.{Arrays}
 use Rattle.derivation.specs.declared.arrays.Walked.{Walked}
 use Rattle.derivation.specs.declared.arrays.Walked.TheVariants.{Found as Seen, Passed, Full}

@@ -1,8 +1,6 @@
 -- Terms that share parts with the start's unfolding: what is held, what finding, building, splicing and spelling out answer.
 -- Document 01, "Moves, in order"; "Operations": Run.
 pub mod Shared
-pub mod SharedLaws
-pub mod RoomLaws
 pub mod Walking
 pub mod Seeking
 pub mod Finding
@@ -13,3 +11,4 @@ pub mod Expanding
 pub mod Changing
 pub mod Stepping
 pub mod Masks
+pub mod Laws

@@ -13,7 +13,7 @@ use Rattle.eb3.specs.Moves.{moves, later, first_with}
 use Rattle.actions.specs.Codes.{action_code, Small}
 use Rattle.listing.specs.Listing.{holding, codes}
 use Rattle.steps.specs.Counting.{Whole, found_at, first_number, MadeOfAll}
-use Rattle.steps.specs.CountingLaws.{first_by_code}
+use Rattle.steps.specs.Laws.Counting.{first_by_code}
 
 next_below : (k n : ℕ) → nat_lt (1 + k) (suc n) ≡ nat_lt k n
 next_below k n = go (dec_lt k n)

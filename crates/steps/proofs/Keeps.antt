@@ -8,7 +8,7 @@ use Rattle.eb3.specs.Generic.AllLists.{all_at}
 use Rattle.eb3.specs.Terms.{VisibleAction, visible}
 use Rattle.expressions.specs.Stores.{stored, argument_place, now_place}
 use Rattle.actions.specs.Codes.{action_code, Small}
-use Rattle.cells.specs.TurnLaws.{stored_there, stored_else}
+use Rattle.cells.specs.Laws.Turns.{stored_there, stored_else}
 use Rattle.steps.specs.Keeping.{Given}
 
 -- ── arguments given ──

@@ -20,17 +20,17 @@ use Rattle.eb3.specs.WellFormedness.{WellFormedAction}
 use Rattle.declarations.specs.Directory.{row_width, at_start_in, at_label_in}
 use Rattle.expressions.specs.Stores.{stored, now_place, before_place, old_cells_place, row_place}
 use Rattle.actions.specs.Codes.{action_code, Small}
-use Rattle.actions.specs.CodesLaws.{visible_positive}
-use Rattle.actions.specs.ActionLaws.{action_small}
+use Rattle.actions.specs.Laws.Codes.{visible_positive}
+use Rattle.actions.specs.Laws.Actions.{action_small}
 use Rattle.cells.specs.Layout.{Laid, Holds}
 use Rattle.cells.specs.Filling.{Filling, Filled}
 use Rattle.cells.specs.Preparing.{Prepared, Loaded}
-use Rattle.cells.specs.MemoryLaws.{words_small, given_at_most, given_counted, loaded_holds}
-use Rattle.cells.specs.Reads.{laid_kept}
-use Rattle.cells.specs.Readying.{rows_laid}
-use Rattle.cells.specs.ReadyingFills.{start_filling, renew_filling}
+use Rattle.cells.specs.Laws.Memory.{words_small, given_at_most, given_counted, loaded_holds}
+use Rattle.cells.specs.Laws.Reads.{laid_kept}
+use Rattle.cells.specs.Laws.Readying.{rows_laid}
+use Rattle.cells.specs.Laws.ReadyingFills.{start_filling, renew_filling}
 use Rattle.steps.specs.Storing.{Stored, Ruled, StoreLoaded, StoreStarted, StoreRenewed}
-use Rattle.steps.specs.StoringLaws.{rows_few, initial_counted, renewed_counted, initial_at_most, renewed_at_most}
+use Rattle.steps.specs.Laws.Storing.{rows_few, initial_counted, renewed_counted, initial_at_most, renewed_at_most}
 use Rattle.steps.specs.Keeping.{Kept, Given}
 
 -- What fill says of its cells.

@@ -18,13 +18,13 @@ use Rattle.eb3.specs.Spelling.{words}
 use Rattle.eb3.specs.Bytes.{written}
 use Rattle.eb3.proofs.Laws.Sizes.{moves_below_breadth}
 use Rattle.actions.specs.Codes.{action_code}
-use Rattle.listing.specs.FitLaws.{fits_length}
+use Rattle.listing.specs.Laws.Fits.{fits_length}
 use Rattle.listing.specs.Listing.{holding}
-use Rattle.listing.specs.RoomLaws.{room_below_breadth}
+use Rattle.listing.specs.Laws.Rooms.{room_below_breadth}
 use Rattle.paths.specs.Paths.{path, Followed, follow, followed, marked}
 use Rattle.paths.proofs.SeekLaws.{some_within}
 use Rattle.paths.proofs.PathLaws.{follow_path}
-use Rattle.listing.specs.Operands.{answer_is}
+use Rattle.listing.specs.Laws.Operands.{answer_is}
 use Rattle.derivation.specs.declared.arrays.Derivation.{Derivation}
 use Rattle.derivation.specs.declared.arrays.Derivation.TheVariants.{At, Behind, NoRoom}
 use Rattle.derivation.specs.Derived.{passed, full, move_count, Derived}
@@ -32,7 +32,7 @@ use Rattle.derivation.specs.Lending.{Placed as Within, told}
 use Rattle.successors.specs.declared.Built.{Built}
 use Rattle.successors.specs.Building.{built_words, Building, BuiltRight}
 use Rattle.steps.specs.Counting.{Whole}
-use Rattle.derivation.specs.FitLaws.{small_actions}
+use Rattle.derivation.specs.Laws.Fits.{small_actions}
 use Rattle.steps.specs.Taking.{PathSought, PathFound, taken_as, built_over, SuccessorFits, Took}
 use Rattle.steps.specs.declared.moving.Taken.{Taken}
 

@@ -2,13 +2,13 @@
 use Rattle.std.specs.Prelude.{◌≡◌, refl, List, [], ℕ, ◌≤◌, length, take, replicate, Option, None, Some, unwrap_or}
 use Rattle.std.proofs.Common.{ap, subst, ◌∙◌}
 use Rattle.std.proofs.lemmas.List.{length-map, length-replicate}
-use Rattle.cells.specs.FrontLaws.{false_no}
+use Rattle.cells.specs.Laws.Fronts.{false_no}
 use native.Mathlib.Omega.{arith}
 use Rattle.eb3.specs.Scopes.{Scope}
 use Rattle.eb3.specs.Terms.{Term}
 use Rattle.eb3.specs.Moves.{moves}
 use Rattle.listing.specs.Listing.{holding, code_of, codes, room, Right, Listed}
-use Rattle.listing.specs.RoomLaws.{room_below_breadth}
+use Rattle.listing.specs.Laws.Rooms.{room_below_breadth}
 use Rattle.listing.specs.declared.lister.Moves.{Moves}
 use Rattle.steps.specs.Counting.{Whole, Made, MadeOfAll}
 

@@ -10,12 +10,13 @@ use Rattle.eb3.specs.Scopes.{Scope}
 use Rattle.eb3.specs.Terms.{Term, Perform, Sequence, Choice, Star, Parallel, Guard, VisibleAction, Mask}
 use Rattle.eb3.specs.Spelling.{words}
 use Rattle.scan.specs.Checking.{last_of}
-use Rattle.scan.specs.Laws.{Tail, part, back_rest}
+use Rattle.scan.specs.Ends.{Tail}
+use Rattle.scan.specs.Laws.Checking.{part, back_rest}
 use Rattle.actions.specs.Codes.{action_code}
 use Rattle.listing.specs.Listing.{Fits, TermAt}
 use Rattle.listing.specs.Rows.{terms_words, terms_append, all_append}
-use Rattle.listing.specs.Positions.{term_front}
-use Rattle.listing.specs.ByCode.{by_perform as of_perform, by_sequence as of_sequence, by_choice as of_choice, by_star as of_star, by_parallel as of_parallel, by_guard as of_guard}
+use Rattle.listing.specs.Laws.Positions.{term_front}
+use Rattle.listing.specs.Laws.ByCode.{by_perform as of_perform, by_sequence as of_sequence, by_choice as of_choice, by_star as of_star, by_parallel as of_parallel, by_guard as of_guard}
 use Rattle.paths.specs.Paths.{follow, marked}
 use Rattle.successors.specs.Building.{built_words, Building}
 use Rattle.successors.specs.Parts.{Bounded, Made, Whole, Going, Begun, BegunOf, Beginning, Behind, After, with_right, Closed}

@@ -11,20 +11,21 @@ use Rattle.eb3.specs.Scopes.{Scope}
 use Rattle.eb3.specs.Terms.{Term, Done, Perform, Sequence, Choice, Star, VisibleAction, visible, internal, done?}
 use Rattle.eb3.specs.Spelling.{cond_words, words}
 use Rattle.scan.specs.Checking.{last_of}
-use Rattle.scan.specs.Laws.{part, last_len, behind_part, behind_fewer}
+use Rattle.scan.specs.Laws.Checking.{part, last_len, behind_part, behind_fewer}
 use Rattle.expressions.specs.Answering.{CondAt}
 use Rattle.actions.specs.Codes.{action_code, ActionAt}
 use Rattle.listing.specs.Listing.{TermAt}
 use Rattle.listing.specs.Rows.{RowAt}
-use Rattle.listing.specs.Positions.{action_at, code_in_front, term_front}
-use Rattle.listing.specs.Operands.{is_done, other_test}
+use Rattle.listing.specs.Positions.{code_in_front}
+use Rattle.listing.specs.Laws.Positions.{action_at, term_front}
+use Rattle.listing.specs.Laws.Operands.{is_done, other_test}
 use Rattle.paths.specs.Paths.{followed, within, follow, marked}
 use Rattle.successors.specs.Building.{built_words}
 use Rattle.successors.specs.Parts.{Unbuilt, Made, Whole, Added, Begun, BegunOf, Beginning, Behind, After, with_right, Closed}
 use Rattle.successors.specs.declared.Built.{Built}
 use Rattle.successors.proofs.Ends.{before_part, drop_past}
-use Rattle.successors.specs.TermLaws.{sequence_two, choice_two, star_first, guard_condition, guard_operand, size_there}
-use Rattle.successors.specs.FollowLaws.{leaf, choice_left_follows, choice_left_marked, choice_right_follows, choice_right_marked, star_end_follows, round_follows, round_marked}
+use Rattle.successors.specs.Laws.Terms.{sequence_two, choice_two, star_first, guard_condition, guard_operand, size_there}
+use Rattle.successors.specs.Laws.Following.{leaf, choice_left_follows, choice_left_marked, choice_right_follows, choice_right_marked, star_end_follows, round_follows, round_marked}
 use Rattle.successors.proofs.Made.{bounded_within, right_bounded, unbuilt_bounded, made_left, added_made}
 use Rattle.successors.proofs.Writes.{lent}
 use Rattle.successors.proofs.Begun.{begun_within, begun_longer, begun_where, whole_begun, by_action, by_sequence, by_choice, by_star, by_guard}

@@ -6,7 +6,8 @@ use native.Mathlib.Omega.{arith}
 use lib.ListN.{length, take, drop, length-append, length-drop, take-append-drop}
 use lib.Seq.{take_at, drop_at, drop-drop, drop-length}
 use Rattle.scan.specs.Checking.{last_of}
-use Rattle.scan.specs.Laws.{Tail, tail_on, tail_at, last_length, last_tail, behind_part}
+use Rattle.scan.specs.Ends.{Tail}
+use Rattle.scan.specs.Laws.Checking.{tail_on, tail_at, last_length, last_tail, behind_part}
 
 -- ── the last words ──
 

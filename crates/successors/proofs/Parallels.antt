@@ -10,7 +10,7 @@ use Rattle.eb3.specs.Terms.{Term, Done, Parallel, Mask, internal}
 use Rattle.eb3.specs.Spelling.{words}
 use Rattle.eb3.specs.Sizes.{size}
 use Rattle.scan.specs.Checking.{last_of}
-use Rattle.scan.specs.Laws.{part, last_len, behind_part}
+use Rattle.scan.specs.Laws.Checking.{part, last_len, behind_part}
 use Rattle.actions.specs.Codes.{action_code}
 use Rattle.listing.specs.Listing.{TermAt}
 use Rattle.paths.specs.Paths.{followed, within, follow, marked}
@@ -18,8 +18,8 @@ use Rattle.successors.specs.Building.{built_words}
 use Rattle.successors.specs.Parts.{Unbuilt, Made, Whole, Begun, BegunOf, Beginning, BegunAfter, Behind, After, with_right, Closed, Both}
 use Rattle.successors.specs.declared.Built.{Built}
 use Rattle.successors.proofs.Ends.{last_within, behind_dropped, drop_past, take_past}
-use Rattle.successors.specs.TermLaws.{parallel_two, parallel_head, parallel_long, size_there}
-use Rattle.successors.specs.FollowLaws.{rest_of_path, parallel_end_follows, parallel_left_follows, parallel_left_marked, parallel_right_follows, parallel_right_marked, parallel_both_follows, parallel_both_marked, size_marked}
+use Rattle.successors.specs.Laws.Terms.{parallel_two, parallel_head, parallel_long, size_there}
+use Rattle.successors.specs.Laws.Following.{rest_of_path, parallel_end_follows, parallel_left_follows, parallel_left_marked, parallel_right_follows, parallel_right_marked, parallel_both_follows, parallel_both_marked, size_marked}
 use Rattle.successors.proofs.Writes.{lent}
 use Rattle.successors.proofs.Made.{bounded_within, right_bounded, unbuilt_bounded}
 use Rattle.successors.proofs.Begun.{begun_longer, whole_begun, by_parallel}

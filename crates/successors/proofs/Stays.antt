@@ -13,16 +13,16 @@ use Rattle.eb3.specs.Reading.{pick}
 use Rattle.eb3.specs.Scopes.{Scope}
 use Rattle.eb3.specs.Terms.{Term, Sequence, Parallel, Mask, done?}
 use Rattle.eb3.specs.Spelling.{words}
-use Rattle.scan.specs.Laws.{part}
-use Rattle.listing.specs.ByCode.{by_sequence, by_parallel}
+use Rattle.scan.specs.Laws.Checking.{part}
+use Rattle.listing.specs.Laws.ByCode.{by_sequence, by_parallel}
 use Rattle.listing.specs.Listing.{TermAt}
-use Rattle.listing.specs.Operands.{other_test}
-use Rattle.listing.specs.Positions.{term_front}
+use Rattle.listing.specs.Laws.Operands.{other_test}
+use Rattle.listing.specs.Laws.Positions.{term_front}
 use Rattle.paths.specs.Paths.{within, follow, marked}
 use Rattle.successors.specs.Building.{built_words}
 use Rattle.successors.specs.Unchanged.{Moving, Ahead, leading_words, Staying}
-use Rattle.successors.specs.TermLaws.{sequence_two, parallel_two, parallel_head}
-use Rattle.successors.specs.FollowLaws.{parallel_left_follows, parallel_left_marked, parallel_right_follows, parallel_right_marked}
+use Rattle.successors.specs.Laws.Terms.{sequence_two, parallel_two, parallel_head}
+use Rattle.successors.specs.Laws.Following.{parallel_left_follows, parallel_left_marked, parallel_right_follows, parallel_right_marked}
 use Rattle.successors.proofs.Parallels.{right_there, head_there}
 use Rattle.successors.proofs.Writes.{lent}
 

@@ -8,9 +8,9 @@ use lib.ListN.{length, take, drop, length-append, length-drop}
 use lib.Seq.{length-take-le}
 use borrow.Author.Tests.{leb-true, le-leb}
 use Rattle.eb3.specs.Bytes.{written}
-use Rattle.scan.specs.Laws.{back_rest}
+use Rattle.scan.specs.Laws.Checking.{back_rest}
 use Rattle.writing.specs.Wrote.{Wrote}
-use Rattle.writing.specs.WroteLaws.{written_then}
+use Rattle.writing.specs.Laws.Wrote.{written_then}
 
 pub never : {b : Bool} → b ≡ true → b ≡ false → ⊥
 never p q = let w : ◌≡◌ {A = ℕ} 0 1 = cc in omega arith

@@ -3,5 +3,4 @@
 pub mod Building
 pub mod Parts
 pub mod Unchanged
-pub mod FollowLaws
-pub mod TermLaws
+pub mod Laws

@@ -17,14 +17,14 @@ use Rattle.eb3.specs.Terms.{Term, Star, Sequence, Choice}
 use Rattle.eb3.specs.Measures.{sat, Measure, leaf, nothing, measure_running}
 use Rattle.eb3.specs.Reading.{Read, refused, taken, giving, both}
 use Rattle.eb3.specs.TermReading.{TermKind, term_kind, action_of, term_by, terms, read_term}
-use Rattle.scan.specs.Laws.{nil_form, behind_len}
+use Rattle.scan.specs.Laws.Checking.{nil_form, behind_len}
 use Rattle.weights.specs.declared.Weight.{Weight}
 use Rattle.weights.specs.Weighing.{cap, measure, joint_of}
 use Rattle.arguments.specs.Tables.{declared}
 use Rattle.weights.specs.declared.Joint.TheVariants as Joint
 use Rattle.terms.specs.Given.{wrong, weighed_running}
 use Rattle.terms.specs.Answers.{packed, Packs, weighed_pair}
-use Rattle.terms.specs.Laws.{term_case}
+use Rattle.terms.specs.Laws.Reading.{term_case}
 use Rattle.terms.proofs.Parts.{reads}
 
 term_none : (T s : List ℕ) → length s ≡ 0 → wrong ≡ weighed_running (read_term (declared T) s)

@@ -20,18 +20,20 @@ use Rattle.eb3.specs.Reading.{refused, taken, Reader, pick, giving, then, number
 use Rattle.eb3.specs.TermReading.{elements_of, perform, action_of}
 use Rattle.eb3.proofs.Laws.Reading.{Sound}
 use Rattle.eb3.proofs.Laws.TermReading.{elements_sound}
-use Rattle.scan.specs.Laws.{Fine, nil_form, cons_form}
-use Rattle.scan.specs.ReadingLaws.{Taken, giving_refused_as, giving_taken, same_refused}
+use Rattle.scan.specs.Ends.{Fine}
+use Rattle.scan.specs.Laws.Checking.{nil_form, cons_form}
+use Rattle.scan.specs.Readings.{Taken}
+use Rattle.scan.specs.Laws.Reading.{giving_refused_as, giving_taken, same_refused}
 use Rattle.weights.specs.declared.Weight.{Weight}
 use Rattle.weights.specs.Weighing.{cap, measure}
 use Rattle.arguments.specs.Layout.{label_place, label_count}
 use Rattle.arguments.specs.Tables.{row, declared}
-use Rattle.arguments.specs.TableLaws.{labels_length, label_at}
+use Rattle.arguments.specs.Laws.Tables.{labels_length, label_at}
 use Rattle.terms.specs.Given.{wrong, weighed_running}
 use Rattle.terms.specs.Answers.{left_after, packed, Packs}
-use Rattle.terms.specs.Laws.{elements_end}
+use Rattle.terms.specs.Laws.Reading.{elements_end}
 use Rattle.std.specs.Prelude.{Option, Some, None}
-use Rattle.terms.specs.AnswerLaws.{refused_wrong, left_wrong, left_taken}
+use Rattle.terms.specs.Laws.Reading.Answers.{refused_wrong, left_wrong, left_taken}
 
 -- An element was read for each size.
 elements_count : (ns t vs u : List ℕ) → elements_of 1 ns t ≡ taken vs u → length vs ≡ length ns

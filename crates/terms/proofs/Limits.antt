@@ -12,12 +12,12 @@ use Rattle.eb3.specs.Measures.{sat, Measure}
 use Rattle.eb3.specs.Reading.{Read, refused, taken}
 use Rattle.eb3.specs.TermReading.{read_term, term_alone, given_term}
 use Rattle.eb3.proofs.Laws.Sizes.{size_below_reach}
-use Rattle.scan.specs.Laws.{nil_form}
+use Rattle.scan.specs.Laws.Checking.{nil_form}
 use Rattle.weights.specs.Weighing.{cap}
 use Rattle.arguments.specs.Tables.{edition_in, declared}
 use Rattle.terms.specs.declared.Given.{Given}
 use Rattle.terms.specs.Given.{wrong, weighed_running, given}
-use Rattle.terms.specs.AnswerLaws.{reach_cut, breadth_cut, taken_size, Got, got, none_read}
+use Rattle.terms.specs.Laws.Reading.Answers.{reach_cut, breadth_cut, taken_size, Got, got, none_read}
 use Rattle.std.specs.Prelude.{Some, None, Option}
 
 abbrev found : ℕ → ℕ → Option Given

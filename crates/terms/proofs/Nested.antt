@@ -17,12 +17,14 @@ use Rattle.eb3.specs.TermReading.{TermKind, term_kind, read_term}
 use Rattle.scan.specs.Checking.{last_of}
 use Rattle.weights.specs.Weighing.{cap, stars_of}
 use Rattle.arguments.specs.Tables.{declared}
-use Rattle.scan.specs.ReadingLaws.{giving_refused_as, same_refused, RefusedAs}
+use Rattle.scan.specs.Readings.{RefusedAs}
+use Rattle.scan.specs.Laws.Reading.{giving_refused_as, same_refused}
 use Rattle.terms.specs.Given.{wrong, weighed_running}
-use Rattle.scan.specs.Repeats.{leading, leading_short}
+use Rattle.scan.specs.Repeats.{leading}
+use Rattle.scan.specs.Laws.Repeats.{leading_short}
 use Rattle.terms.specs.Answers.{packed, unpacked, Answer, starred_of}
-use Rattle.terms.specs.Laws.{term_case}
-use Rattle.terms.specs.AnswerLaws.{refused_wrong, Got, got, none_read}
+use Rattle.terms.specs.Laws.Reading.{term_case}
+use Rattle.terms.specs.Laws.Reading.Answers.{refused_wrong, Got, got, none_read}
 use Rattle.refusals.specs.declared.Refusal.{Refusal}
 
 -- ── reading ──

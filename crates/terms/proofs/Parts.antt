@@ -23,18 +23,19 @@ use Rattle.eb3.proofs.Laws.Reading.{Sound}
 use Rattle.eb3.proofs.Laws.ExpressionReading.{cond_sound}
 use Rattle.eb3.proofs.Laws.Spelling.{cond_length}
 use Rattle.scan.specs.Checking.{checked, last_of, Checked}
-use Rattle.scan.specs.Laws.{last_len}
-use Rattle.scan.specs.ReadingLaws.{Taken, checked_refused, checked_taken, giving_refused_as, giving_taken, both_first_as, both_second_as, both_taken, both_behind, same_refused}
-use Rattle.grammar.specs.Laws.{cond_ends}
+use Rattle.scan.specs.Laws.Checking.{last_len}
+use Rattle.scan.specs.Readings.{Taken}
+use Rattle.scan.specs.Laws.Reading.{checked_refused, checked_taken, giving_refused_as, giving_taken, both_first_as, both_second_as, both_taken, both_behind, same_refused}
+use Rattle.grammar.specs.Laws.Reading.{cond_ends}
 use Rattle.weights.specs.Weighing.{cap, parallel_by, joint_of}
 use Rattle.arguments.specs.Layout.{label_count, function_count}
 use Rattle.arguments.specs.Tables.{declared}
-use Rattle.arguments.specs.TableLaws.{labels_length, guard_declared, mask_ends, mask_read}
+use Rattle.arguments.specs.Laws.Tables.{labels_length, guard_declared, mask_ends, mask_read}
 use Rattle.weights.specs.declared.Joint.{Joint}
 use Rattle.weights.specs.declared.Joint.TheVariants.{Parallel}
 use Rattle.terms.specs.Given.{wrong, weighed_running}
 use Rattle.terms.specs.Answers.{packed, unpacked, Answer, Operands, Operand, joined_of, weighed_pair, guarded_of}
-use Rattle.terms.specs.AnswerLaws.{refused_wrong, Got, got, none_read}
+use Rattle.terms.specs.Laws.Reading.Answers.{refused_wrong, Got, got, none_read}
 use Rattle.std.specs.Prelude.{Ok, Err}
 use Rattle.refusals.specs.declared.Refusal.{Refusal}
 

@@ -9,7 +9,7 @@ use Rattle.arguments.specs.Tables.{declared}
 use Rattle.eb3.specs.Measures.{Measure}
 use Rattle.terms.specs.Given.{wrong, weighed_running}
 use Rattle.terms.specs.Answers.{packed, unpacked, Packs}
-use Rattle.terms.specs.AnswerLaws.{left_packed, reach_packed, breadth_packed}
+use Rattle.terms.specs.Laws.Reading.Answers.{left_packed, reach_packed, breadth_packed}
 
 module _ (n g b : ℕ) (fits : Packs n (record { size = 0; reach = g; breadth = b })) where
   abbrev number : ℕ

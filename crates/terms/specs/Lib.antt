@@ -4,5 +4,3 @@ pub mod Given
 pub mod Answers
 pub mod Lending
 pub mod Laws
-pub mod AnswerLaws
-pub mod Alike

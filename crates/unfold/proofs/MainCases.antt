@@ -17,7 +17,7 @@ use Rattle.arguments.specs.Layout.{process_count, body_at}
 use Rattle.unfold.specs.declared.writer.Writer.{Writer}
 use Rattle.unfold.specs.Written.{written_from}
 use Rattle.unfold.specs.Unfolded.{Ready, RuleTermAt, unfolded_words, Unfolding, UnfoldedInto}
-use Rattle.unfold.specs.PutsLaws.{from_start}
+use Rattle.unfold.specs.Laws.Puts.{from_start}
 use Rattle.unfold.proofs.RuleFacts.{processes_there, body_stands}
 
 -- Words written into the first m bytes of a buffer.

@@ -24,11 +24,11 @@ use Rattle.codes.specs.Shapes.{more_words}
 use Rattle.unfold.specs.declared.writer.Writer.{Writer}
 use Rattle.unfold.specs.Written.{written_from}
 use Rattle.unfold.specs.Puts.{Puts, Heads, Putting}
-use Rattle.unfold.specs.PutsLaws.{from_next, head_none, head_some, head_last, puts_lost, putting_fail, putting_next, putting_all, putting_start, putting_stuck}
+use Rattle.unfold.specs.Laws.Puts.{from_next, head_none, head_some, head_last, puts_lost, putting_fail, putting_next, putting_all, putting_start, putting_stuck}
 use Rattle.unfold.specs.Instantiation.{Instantiates, front_width, front_words}
 use Rattle.unfold.specs.Saying.{Performs, Conditions}
-use Rattle.unfold.specs.SayingLaws.{where_in}
-use Rattle.unfold.specs.InstantiationLaws.{last_behind, row_step, row_there, row_known, row_done}
+use Rattle.unfold.specs.Laws.Saying.{where_in}
+use Rattle.unfold.specs.Laws.Instantiation.{last_behind, row_step, row_there, row_known, row_done}
 
 -- ── a code and the words that go with it ──
 

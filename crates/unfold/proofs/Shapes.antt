@@ -27,7 +27,7 @@ use Rattle.arguments.specs.Tables.{from, row, declared}
 use Rattle.unfold.specs.Unfolded.{Ready, unfolded_words}
 use Rattle.unfold.specs.Puts.{Exactly}
 use Rattle.unfold.specs.Instantiation.{Expression, value, test, expression_words, instantiate, PlainExpression}
-use Rattle.unfold.specs.InstantiationLaws.{last_behind}
+use Rattle.unfold.specs.Laws.Instantiation.{last_behind}
 use Rattle.unfold.specs.Saying.{Unfolds, Performs, Guards, Stars, Copies, Joins, Overs, argument_at, Enters, Calls}
 use Rattle.unfold.proofs.RuleFacts.{domain_same, label_row, parameters_row, body_stands, guard_plain, arguments_counted}
 

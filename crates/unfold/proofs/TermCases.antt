@@ -10,16 +10,16 @@ use borrow.Author.Tests.{ne_eqb}
 use Rattle.eb3.specs.RuleSets.{domain_size}
 use Rattle.eb3.specs.RuleSpelling.{rule_words}
 use Rattle.scan.specs.Checking.{last_of}
-use Rattle.scan.specs.Laws.{nil_form}
+use Rattle.scan.specs.Laws.Checking.{nil_form}
 use Rattle.arguments.specs.Layout.{process_place, body_at}
 use Rattle.arguments.specs.Tables.{from, row, declared}
 use Rattle.std.specs.Prelude.{Option, Some, None, ⊤}
 use Rattle.unfold.specs.declared.writer.Writer.{Writer}
 use Rattle.unfold.specs.Unfolded.{Unfolding}
 use Rattle.unfold.specs.Puts.{Puts, Heads, Exactly, Then, Putting}
-use Rattle.unfold.specs.PutsLaws.{puts_as, puts_none, puts_lost, then_last, head_none, head_some, head_fail, head_last, putting_fail, putting_next, putting_last, putting_start}
+use Rattle.unfold.specs.Laws.Puts.{puts_as, puts_none, puts_lost, then_last, head_none, head_some, head_fail, head_last, putting_fail, putting_next, putting_last, putting_start}
 use Rattle.unfold.specs.Saying.{Unfolds, Performs, Conditions, Guards, Stars, TwoTerms, Copy, Headed, Copies, Joins, Overs, argument_at, Body, Enters, Calls}
-use Rattle.unfold.specs.SayingLaws.{where_in, term_puts, puts_term}
+use Rattle.unfold.specs.Laws.Saying.{where_in, term_puts, puts_term}
 use Rattle.unfold.proofs.RowCases.{last_size}
 use Rattle.unfold.proofs.Shapes.{Shape, shape}
 

@@ -3,9 +3,7 @@
 pub mod Written
 pub mod Unfolded
 pub mod Puts
-pub mod PutsLaws
 pub mod Instantiation
-pub mod InstantiationLaws
 pub mod Saying
-pub mod SayingLaws
 pub mod Joints
+pub mod Laws

@@ -1,7 +1,7 @@
 use mathlib.Core.Path.{ap}
-use Rattle.scan.specs.ReadingLaws.{handed_on}
+use Rattle.scan.specs.Laws.Reading.{handed_on}
 use Rattle.blocks.specs.Opening.{counted}
-use Rattle.admission.specs.OpeningLaws.{admit_refused, admit_read}
+use Rattle.admission.specs.Laws.Opening.{admit_refused, admit_read}
 use Rattle.admission.proofs.admit.Goals as goal
 
 pub returns-then-file-le1 : goal.returns-then-file-le1

@@ -1,4 +1,4 @@
-use Rattle.admission.specs.OpeningLaws.{stream_part}
+use Rattle.admission.specs.Laws.Opening.{stream_part}
 use Rattle.admission.proofs.Cases.{file_admitted}
 use Rattle.admission.proofs.admit_in.Goals as goal
 

@@ -1,4 +1,4 @@
-use Rattle.scan.specs.ReadingLaws.{handed_err}
+use Rattle.scan.specs.Laws.Reading.{handed_err}
 use Rattle.arguments.proofs.Cases.{constant_bad, constant_is, constant_is_not}
 use Rattle.arguments.proofs.constant_argument.Goals as goal
 

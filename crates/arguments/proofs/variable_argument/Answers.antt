@@ -1,4 +1,4 @@
-use Rattle.scan.specs.ReadingLaws.{handed_err}
+use Rattle.scan.specs.Laws.Reading.{handed_err}
 use Rattle.arguments.proofs.Cases.{variable_bad}
 use Rattle.arguments.proofs.variable_argument.Goals as goal
 

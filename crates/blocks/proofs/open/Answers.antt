@@ -2,7 +2,7 @@
 use Rattle.std.proofs.Common.{arith, refl}
 use Rattle.std.proofs.lemmas.Grind.{common_steps}
 use Rattle.blocks.proofs.Cases.{open_length, open_wrong, open_other, open_fine}
-use Rattle.blocks.specs.OpeningLaws.{admit_blocks, admit_opens}
+use Rattle.blocks.specs.Laws.Opening.{admit_blocks, admit_opens}
 use Rattle.blocks.proofs.open.Goals as goal
 use Rattle.blocks.proofs.open.Goals.{then-rules-ne0-via-then-rules-ne0, then-rules-ne0-via-else-rules-ne0+then-not-contains}
 

@@ -1,7 +1,7 @@
 use mathlib.Core.Path.{refl}
 use native.Mathlib.Omega.{arith}
 use lib.ListN.{length-set}
-use Rattle.cells.specs.FramingLaws.{apart_next}
+use Rattle.cells.specs.Laws.Framing.{apart_next}
 use Rattle.cells.proofs.copy_cells.Goals as goal
 
 pub loop-i-preserved : goal.loop-i-preserved

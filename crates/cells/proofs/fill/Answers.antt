@@ -1,4 +1,4 @@
-use Rattle.cells.specs.TurnLaws.{fill_start, fill_next, fill_end}
+use Rattle.cells.specs.Laws.Turns.{fill_start, fill_next, fill_end}
 use mathlib.Core.Path.{refl}
 use native.Mathlib.Omega.{arith}
 use Rattle.cells.proofs.fill.Goals as goal

@@ -1,6 +1,6 @@
 use lib.ListN.{length-set}
 use native.Mathlib.Omega.{arith}
-use Rattle.cells.specs.PreparingLaws.{readying_next, readying_end}
+use Rattle.cells.specs.Laws.Preparing.{readying_next, readying_end}
 use Rattle.cells.proofs.lay.Goals as goal
 
 pub loop-i-preserved : goal.loop-i-preserved

@@ -3,7 +3,7 @@ use lib.ListN.{length}
 use Prim.Native.Nat.{◌≤◌}
 use mathlib.Core.Path.{◌≡◌}
 use Rattle.expressions.specs.Stores.{now_place}
-use Rattle.cells.specs.PreparingLaws.{Readying}
+use Rattle.cells.specs.Laws.Preparing.{Readying}
 use Rattle.cells.proofs.lay.Given as goal
 
 -- Each turn of the loop makes one word more ready (`readying_next`).

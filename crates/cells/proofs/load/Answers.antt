@@ -1,7 +1,7 @@
 -- The words that the memory has, and zeros behind them (`loading_zeros`), as far as there is room (`loading_end`).
 use Rattle.std.proofs.Common.{◌+◌}
 use native.Mathlib.Omega.{arith}
-use Rattle.cells.specs.PreparingLaws.{cleared_part, loading_zeros, loading_end}
+use Rattle.cells.specs.Laws.Preparing.{cleared_part, loading_zeros, loading_end}
 use Rattle.cells.proofs.load.Goals as goal
 
 pub returns : goal.returns

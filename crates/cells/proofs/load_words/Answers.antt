@@ -1,6 +1,6 @@
 use Rattle.std.proofs.Common.{arith}
 use lib.ListN.{length-set}
-use Rattle.cells.specs.PreparingLaws.{loading_next}
+use Rattle.cells.specs.Laws.Preparing.{loading_next}
 use Rattle.cells.proofs.load_words.Goals as goal
 
 pub loop-i-preserved : goal.loop-i-preserved

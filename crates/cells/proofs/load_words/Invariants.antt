@@ -1,7 +1,7 @@
 -- Each turn of the loop puts one word more (`loading_next`).
 use lib.ListN.{length}
 use mathlib.Core.Path.{◌≡◌}
-use Rattle.cells.specs.PreparingLaws.{Loading}
+use Rattle.cells.specs.Preparing.{Loading}
 use Rattle.cells.proofs.load_words.Given as goal
 
 -- Each turn of the loop puts one word more (`loading_next`).

@@ -1,7 +1,7 @@
 -- One case for each kind of word below the cells (`PreparingLaws`).
 use mathlib.Core.Path.{ap}
 use Prim.Native.Nat.{◌%◌}
-use Rattle.cells.specs.PreparingLaws.{ready_variable, ready_old, ready_row, ready_none}
+use Rattle.cells.specs.Laws.Preparing.{ready_variable, ready_old, ready_row, ready_none}
 use Rattle.cells.proofs.ready_word.Goals as goal
 
 pub returns-then-i-lt-OLD_CELLS : goal.returns-then-i-lt-OLD_CELLS

@@ -2,8 +2,8 @@ use Rattle.std.specs.Prelude.{◌≡◌, List, ℕ}
 use Rattle.std.specs.Fn.{FnReturnsAt}
 use Rattle.eb3.specs.Reading.{Reader}
 use Rattle.scan.specs.Checking.{Checked, checked}
-use Rattle.scan.specs.Laws.{Ends}
-use Rattle.scan.specs.RowLaws.{Repeating}
+use Rattle.scan.specs.Ends.{Ends}
+use Rattle.scan.specs.Laws.Rows.{Repeating}
 use Rattle.declarations.proofs.counted_row.Given as goal
 
 -- As many words as turns are read, by any reader that answers as `one`.

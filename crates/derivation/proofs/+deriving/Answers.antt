@@ -4,8 +4,8 @@ use lib.ListN.{drop, length}
 use lib.Seq.{length-take-le}
 use mathlib.Core.Path.{refl, sym, ap, ◌∙◌}
 use lib.Dec.{lit<}
-use Rattle.scan.specs.Laws.{behind_len, last_len}
-use Rattle.derivation.specs.AnswerLaws.{sized}
+use Rattle.scan.specs.Laws.Checking.{behind_len, last_len}
+use Rattle.derivation.specs.Laws.Answers.{sized}
 use Rattle.derivation.proofs.Answers.{at_store}
 use Rattle.derivation.proofs.Walking.{at_low, walk_found, found_low, full_high, other_high, passed_high, passed_few, last_is, rest_is, walk_on, whole_back, placed_at, told_at, told_other, derived_path, operands_path, decided_path}
 use Rattle.derivation.proofs.Arms.{internal_derived, perform_derived, two_left, two_right, choice_derived, sequence_right, sequence_lost, sequence_found, sequence_passed, star_end, star_round, guard_shut, guard_open, at_front, other_derived}

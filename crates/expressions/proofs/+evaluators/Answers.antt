@@ -1,4 +1,4 @@
-use Rattle.scan.specs.Laws.{last_len, behind_len}
+use Rattle.scan.specs.Laws.Checking.{last_len, behind_len}
 use Rattle.expressions.proofs.Cases.{paired, joined, negated, named, select_second, select_first}
 use Rattle.expressions.proofs.Fronts.{handed, data_constant, data_variable, data_sum, data_difference, data_selection, data_present, data_past, data_none, cond_equality, cond_order, cond_conjunction, cond_disjunction, cond_negation, cond_truism}
 use Rattle.expressions.specs.Operands.{operated, connected}

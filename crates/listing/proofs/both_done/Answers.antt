@@ -1,5 +1,5 @@
 use borrow.Author.Tests.{ne_eqb}
-use Rattle.listing.specs.Operands.{both_second, both_first}
+use Rattle.listing.specs.Laws.Operands.{both_second, both_first}
 use Rattle.listing.proofs.both_done.Goals as goal
 
 pub returns-then-first-eq-DONE : goal.returns-then-first-eq-DONE

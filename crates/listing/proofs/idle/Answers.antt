@@ -1,4 +1,4 @@
-use Rattle.listing.specs.Coded.{coded_term}
+use Rattle.listing.specs.Laws.Coded.{coded_term}
 use Rattle.listing.proofs.idle.Goals as goal
 
 pub returns : goal.returns

@@ -1,5 +1,5 @@
 use Rattle.codes.specs.Rows.{of_term}
-use Rattle.listing.specs.Coded.{coded_term}
+use Rattle.listing.specs.Laws.Coded.{coded_term}
 use Rattle.listing.proofs.skip.Goals as goal
 
 pub returns : goal.returns

@@ -1,5 +1,5 @@
 use mathlib.Core.Path.{sym, ◌∙◌}
-use Rattle.listing.specs.Coded.{pieces, pieces_counted, coded_row}
+use Rattle.listing.specs.Laws.Coded.{pieces, pieces_counted, coded_row}
 use Rattle.listing.proofs.skip_row.Goals as goal
 
 pub returns : goal.returns

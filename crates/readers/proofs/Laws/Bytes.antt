@@ -5,7 +5,7 @@ use borrow.Rule.Slice.PartMut.{put_mid}
 use Rattle.std.specs.Int.{w32, to_le_bytes}
 use Rattle.eb3.specs.Bytes.{words_in, written, doubles_in, double_words}
 use Rattle.eb3.proofs.Laws.Readers.{double_length}
-use Rattle.writing.specs.WroteLaws.{written_next}
+use Rattle.writing.specs.Laws.Wrote.{written_next}
 use Rattle.readers.specs.Placing.{put_word, put_number}
 
 pub number_there : (b : List ℕ) (i : ℕ) → 4 * i + 4 ≤ length b

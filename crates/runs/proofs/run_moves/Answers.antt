@@ -1,5 +1,5 @@
 use mathlib.Core.Path.{refl, ap, ◌∙◌}
-use Rattle.derivation.specs.Arrays.{arrays_same, arrays_then}
+use Rattle.derivation.specs.Laws.Arrays.{arrays_same, arrays_then}
 use Rattle.runs.proofs.RunCases.{total, counted_once, run_start, run_next, run_end}
 use native.Mathlib.Omega.{arith}
 use Rattle.runs.proofs.run_moves.Goals as goal

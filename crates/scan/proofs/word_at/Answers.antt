@@ -1,7 +1,7 @@
 -- A word is two bytes (`loaded_word`).
 use Rattle.std.proofs.Common.{◌≡◌, ◌∙◌, ◌+◌, ◌*◌, refl, arith}
 use Rattle.std.specs.Prelude.{slice_index}
-use Rattle.scan.specs.Words.{loaded_word}
+use Rattle.scan.specs.Laws.Words.{loaded_word}
 use Rattle.scan.proofs.word_at.Goals as goal
 
 pub returns : goal.returns

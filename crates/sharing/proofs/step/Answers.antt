@@ -1,7 +1,7 @@
 use mathlib.Core.Path.{◌≡◌, refl, sym, ap, ◌∙◌}
 use lib.ListN.{drop}
 use Rattle.std.proofs.Common.{rules}
-use Rattle.scan.specs.Laws.{part}
+use Rattle.scan.specs.Laws.Checking.{part}
 use Rattle.sharing.specs.Walking.{found_in}
 use Rattle.sharing.proofs.WalkingCases.{find_low, find_other, seen_left, seen_at, changed_at}
 use Rattle.sharing.proofs.SteppingCases.{not_found, place_beyond, place_empty, path_beyond, place_changed}

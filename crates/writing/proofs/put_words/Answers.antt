@@ -1,5 +1,5 @@
 use native.Mathlib.Omega.{arith}
-use Rattle.writing.specs.WroteLaws.{words_none, words_next}
+use Rattle.writing.specs.Laws.Wrote.{words_none, words_next}
 use Rattle.writing.proofs.put_words.Goals as goal
 
 pub loop-i-init : goal.loop-i-init

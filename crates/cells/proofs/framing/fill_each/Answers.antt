@@ -1,6 +1,6 @@
 use native.Mathlib.Omega.{arith}
 use lib.ListN.{length-set}
-use Rattle.cells.specs.FramingLaws.{each_next, each_end}
+use Rattle.cells.specs.Laws.Framing.{each_next, each_end}
 use Rattle.cells.proofs.framing.fill_each.Goals as goal
 
 pub loop-x-preserved : goal.loop-x-preserved

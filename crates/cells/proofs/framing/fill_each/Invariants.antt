@@ -1,7 +1,7 @@
 -- Each turn of the loop makes one cell more new (`each_next`).
 use mathlib.Core.Path.{◌≡◌}
 use lib.ListN.{length}
-use Rattle.cells.specs.FramingLaws.{Begins}
+use Rattle.cells.specs.Laws.Framing.{Begins}
 use Rattle.cells.proofs.framing.fill_each.Given as goal
 
 -- Each turn of the loop makes one cell more new (`each_next`).

@@ -2,11 +2,11 @@
 use mathlib.Core.Path.{◌≡◌, refl, subst}
 use Prim.Native.Nat.{◌+◌}
 use native.Mathlib.Omega.{arith}
-use Rattle.scan.specs.Laws.{last_len}
+use Rattle.scan.specs.Laws.Checking.{last_len}
 use Rattle.expressions.specs.Stores.{now_place}
-use Rattle.cells.specs.TurnLaws.{turn_room}
+use Rattle.cells.specs.Laws.Turns.{turn_room}
 use Rattle.cells.specs.Frames.{kept_value, AsksOne, Tells}
-use Rattle.cells.specs.FramingLaws.{placed_by, all_kept}
+use Rattle.cells.specs.Laws.Framing.{placed_by, all_kept}
 use Rattle.cells.proofs.framing.fill_function.Goals as goal
 
 pub returns-then-m-at : goal.returns-then-m-at

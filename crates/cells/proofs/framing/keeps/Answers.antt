@@ -1,6 +1,6 @@
 -- The pattern tests each word of before f(x0) but the function's number, which the last test compares (`keeps_told`).
 use native.Mathlib.Omega.{arith}
-use Rattle.cells.specs.FrontLaws.{keeps_told, false_no, equal_tested}
+use Rattle.cells.specs.Laws.Fronts.{keeps_told, false_no, equal_tested}
 use Rattle.cells.proofs.framing.keeps.Goals as goal
 
 pub returns-in-7 : goal.returns-in-7

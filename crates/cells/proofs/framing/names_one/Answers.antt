@@ -1,7 +1,7 @@
 -- The patterns test each word of an expression that asks but the last, which must not be x0 (`asks_told`).
 use mathlib.Core.Logic.{inl, inr, ⊎_elim}
 use native.Mathlib.Omega.{arith}
-use Rattle.cells.specs.FrontLaws.{asks_told, false_no, unequal_tested}
+use Rattle.cells.specs.Laws.Fronts.{asks_told, false_no, unequal_tested}
 use Rattle.cells.proofs.framing.names_one.Goals as goal
 
 pub returns-in-5 : goal.returns-in-5

@@ -1,9 +1,9 @@
 use mathlib.Core.Path.{ap}
-use Rattle.scan.specs.ReadingLaws.{handed_on}
+use Rattle.scan.specs.Laws.Reading.{handed_on}
 use Rattle.blocks.specs.Opening.{counted}
-use Rattle.admission.specs.OpeningLaws.{open_refused}
+use Rattle.admission.specs.Laws.Opening.{open_refused}
 use Rattle.engine.proofs.CountCases.{unopened_given}
-use Rattle.engine.specs.Counting.{count_refused}
+use Rattle.engine.specs.Laws.Counting.{count_refused}
 use Rattle.engine.proofs.counting.count.Goals as goal
 
 pub returns-in_err-file : goal.returns-in_err-file

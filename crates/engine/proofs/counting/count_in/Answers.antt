@@ -2,8 +2,8 @@ use native.Mathlib.Omega.{arith}
 use Prim.Native.Nat.{◌-◌, ◌*◌}
 use mathlib.Core.Path.{◌∙◌}
 use lib.ListN.{drop, length-take}
-use Rattle.scan.specs.ReadingLaws.{handed_on}
-use Rattle.admission.specs.OpeningLaws.{stream_part}
+use Rattle.scan.specs.Laws.Reading.{handed_on}
+use Rattle.admission.specs.Laws.Opening.{stream_part}
 use Rattle.engine.proofs.RoomCases.{fits, lacks}
 use Rattle.engine.proofs.MadeCases.{given_few, given_made}
 use Rattle.engine.proofs.CountCases.{counted_refused, counted_short, counted_done}

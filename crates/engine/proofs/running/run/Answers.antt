@@ -1,7 +1,7 @@
 use mathlib.Core.Path.{ap}
-use Rattle.scan.specs.ReadingLaws.{handed_err}
+use Rattle.scan.specs.Laws.Reading.{handed_err}
 use Rattle.blocks.specs.Opening.{counted}
-use Rattle.admission.specs.OpeningLaws.{open_refused}
+use Rattle.admission.specs.Laws.Opening.{open_refused}
 use Rattle.engine.proofs.RunCases.{unopened_run}
 use Rattle.engine.proofs.running.run.Goals as goal
 

@@ -1,15 +1,15 @@
 use Prim.Native.Nat.{◌-◌, ◌*◌}
 use native.Mathlib.Omega.{arith}
 use lib.ListN.{drop, length-take}
-use Rattle.admission.specs.Knowing.{known, known_refused}
-use Rattle.engine.specs.RunLaws.{run_refused}
-use Rattle.admission.specs.OpeningLaws.{stream_part}
+use Rattle.admission.specs.Laws.Knowing.{known, known_refused}
+use Rattle.engine.specs.Laws.Running.{run_refused}
+use Rattle.admission.specs.Laws.Opening.{stream_part}
 use Rattle.engine.proofs.RoomCases.{fits, lacks}
 use Rattle.engine.proofs.MadeCases.{known_made}
 use Rattle.engine.proofs.StartCases.{known_tables}
 use Rattle.engine.proofs.RunCases.{ran_short_term, ran_short_memory, ran_short_spare, ran_short_cells, ran_not_through, ran_done, table_room}
 use native.Mathlib.Omega.{arith}
-use Rattle.scan.specs.ReadingLaws.{handed_err}
+use Rattle.scan.specs.Laws.Reading.{handed_err}
 use mathlib.Core.Path.{refl, ◌∙◌}
 use Rattle.engine.proofs.running.run_in.Goals as goal
 

@@ -1,13 +1,13 @@
 use Prim.Native.Nat.{◌-◌, ◌*◌}
 use native.Mathlib.Omega.{arith}
 use lib.ListN.{drop, length-take}
-use Rattle.admission.specs.Knowing.{known, known_refused}
-use Rattle.engine.specs.StartLaws.{start_refused}
-use Rattle.admission.specs.OpeningLaws.{stream_part}
+use Rattle.admission.specs.Laws.Knowing.{known, known_refused}
+use Rattle.engine.specs.Laws.Starting.{start_refused}
+use Rattle.admission.specs.Laws.Opening.{stream_part}
 use Rattle.engine.proofs.RoomCases.{fits, lacks}
 use Rattle.engine.proofs.MadeCases.{known_made}
 use Rattle.engine.proofs.StartCases.{known_tables, known_short_term, known_short_memory, known_done}
-use Rattle.scan.specs.ReadingLaws.{handed_err}
+use Rattle.scan.specs.Laws.Reading.{handed_err}
 use mathlib.Core.Path.{refl, ◌∙◌}
 use Rattle.engine.proofs.starting.start_in.Goals as goal
 

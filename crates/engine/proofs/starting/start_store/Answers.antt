@@ -1,7 +1,7 @@
 use mathlib.Core.Option.{none}
 use Rattle.eb3.specs.Expressions.{no_reading}
 use Rattle.eb3.specs.RuleSets.{attributes}
-use Rattle.engine.specs.Memories.{memory_started}
+use Rattle.engine.specs.Laws.Memories.{memory_started}
 use Rattle.engine.proofs.starting.start_store.Goals as goal
 
 pub returns : goal.returns

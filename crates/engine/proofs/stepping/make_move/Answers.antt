@@ -2,7 +2,7 @@ use mathlib.Core.Path.{sym, subst}
 use borrow.Author.Rules.{rules}
 use Rattle.engine.specs.Stepping.{Done}
 use Rattle.engine.proofs.StepGivenCases.{done_there}
-use Rattle.engine.specs.StepLaws.{move_stepped}
+use Rattle.engine.specs.Laws.Stepping.{move_stepped}
 use Rattle.engine.proofs.stepping.make_move.Goals as goal
 
 pub returns : goal.returns

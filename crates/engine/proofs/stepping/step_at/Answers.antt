@@ -1,5 +1,5 @@
 use native.Mathlib.Omega.{arith}
-use Rattle.given.specs.Handing.{handed_some, handed_none}
+use Rattle.given.specs.Laws.Handing.{handed_some, handed_none}
 use Rattle.engine.proofs.StepCases.{step_loaded, step_unwanted}
 use Rattle.engine.proofs.stepping.step_at.Goals as goal
 

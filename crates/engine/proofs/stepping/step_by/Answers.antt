@@ -1,9 +1,9 @@
 use mathlib.Core.Path.{ap}
-use Rattle.scan.specs.ReadingLaws.{handed_err}
+use Rattle.scan.specs.Laws.Reading.{handed_err}
 use Rattle.blocks.specs.Opening.{counted}
-use Rattle.admission.specs.OpeningLaws.{open_refused}
+use Rattle.admission.specs.Laws.Opening.{open_refused}
 use Rattle.engine.proofs.CountCases.{unopened_given}
-use Rattle.engine.specs.StepLaws.{step_refused}
+use Rattle.engine.specs.Laws.Stepping.{step_refused}
 use Rattle.engine.proofs.stepping.step_by.Goals as goal
 
 pub returns-in_err-file-clause-done : goal.returns-in_err-file-clause-done

@@ -1,4 +1,4 @@
-use Rattle.given.specs.Handing.{handed_some, handed_none}
+use Rattle.given.specs.Laws.Handing.{handed_some, handed_none}
 use Rattle.engine.proofs.StepCases.{step_made, step_refused}
 use Rattle.engine.proofs.stepping.step_from.Goals as goal
 

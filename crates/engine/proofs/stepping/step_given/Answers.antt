@@ -1,4 +1,4 @@
-use Rattle.given.specs.Handing.{handed_some, handed_none}
+use Rattle.given.specs.Laws.Handing.{handed_some, handed_none}
 use Rattle.engine.proofs.RoomCases.{fits, lacks}
 use Rattle.engine.proofs.StepGivenCases.{steps_stranger, steps_short_term, steps_short_memory, steps_short_next, steps_done}
 use Rattle.engine.proofs.stepping.step_given.Goals as goal

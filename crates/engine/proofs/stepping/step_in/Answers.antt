@@ -2,10 +2,10 @@ use Prim.Native.Nat.{◌-◌, ◌*◌}
 use native.Mathlib.Omega.{arith}
 use mathlib.Core.Path.{◌∙◌}
 use lib.ListN.{drop, length-take}
-use Rattle.admission.specs.OpeningLaws.{stream_part}
+use Rattle.admission.specs.Laws.Opening.{stream_part}
 use Rattle.engine.proofs.MadeCases.{given_few, given_made}
 use Rattle.engine.proofs.StepGivenCases.{stepped_refused, stepped_done}
-use Rattle.scan.specs.ReadingLaws.{handed_err}
+use Rattle.scan.specs.Laws.Reading.{handed_err}
 use Rattle.engine.proofs.stepping.step_in.Goals as goal
 
 pub of-rules-requires : goal.of-rules-requires

@@ -1,6 +1,6 @@
 use mathlib.Core.Path.{refl, sym, ◌∙◌}
-use Rattle.cells.specs.MemoryLaws.{loaded_words}
-use Rattle.given.specs.Handing.{handed_some, handed_none}
+use Rattle.cells.specs.Laws.Memory.{loaded_words}
+use Rattle.given.specs.Laws.Handing.{handed_some, handed_none}
 use Rattle.given.proofs.GivingCases.{loaded_part, checked_odd, checked_long, checked_wrong, checked_running, over_limit}
 use borrow.Author.Rules.{rules}
 use Rattle.given.proofs.giving.check_term.Goals as goal

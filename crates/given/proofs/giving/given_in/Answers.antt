@@ -1,8 +1,8 @@
-use Rattle.scan.specs.ReadingLaws.{handed_err}
+use Rattle.scan.specs.Laws.Reading.{handed_err}
 use mathlib.Core.Path.{refl}
 use native.Mathlib.Omega.{arith}
-use Rattle.admission.specs.Knowing.{known, known_refused}
-use Rattle.given.specs.GivingLaws.{given_refused, given_checked}
+use Rattle.admission.specs.Laws.Knowing.{known, known_refused}
+use Rattle.given.specs.Laws.Giving.{given_refused, given_checked}
 use borrow.Author.Rules.{rules}
 use Rattle.given.proofs.giving.given_in.Goals as goal
 

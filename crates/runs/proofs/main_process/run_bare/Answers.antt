@@ -2,7 +2,7 @@
 use Rattle.std.proofs.Common.{rules}
 use mathlib.Core.Path.{refl}
 use Rattle.runs.proofs.BareCases.{bare_none, bare_run}
-use Rattle.scan.specs.Laws.{set_first}
+use Rattle.scan.specs.Laws.Checking.{set_first}
 use lib.ListN.{length-set}
 use Rattle.runs.proofs.main_process.run_bare.Goals as goal
 

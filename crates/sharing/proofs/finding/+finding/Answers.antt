@@ -1,8 +1,8 @@
 use Rattle.std.proofs.Common.{rules}
 use mathlib.Core.Path.{refl, sym, ap, ◌∙◌}
 use lib.Dec.{lit<}
-use Rattle.scan.specs.Laws.{behind_len, last_len}
-use Rattle.listing.specs.Operands.{answer_is, front_len}
+use Rattle.scan.specs.Laws.Checking.{behind_len, last_len}
+use Rattle.listing.specs.Laws.Operands.{answer_is, front_len}
 use Rattle.sharing.specs.Walking.{found_in}
 use Rattle.sharing.proofs.WalkingCases.{find_low, find_full, packed_high, packed_low, last_is, find_on, passing_found, found_path}
 use Rattle.sharing.proofs.FindingCases.{done_found, part_found, then_resumed, then_found, at_front}

@@ -1,7 +1,7 @@
 -- A move looked for in one part meets its contract: FindingParts says what is answered where it returns (document 01, "Moves, in order").
 use native.Mathlib.Omega.{arith}
 use mathlib.Core.Path.{refl}
-use Rattle.scan.specs.Laws.{last_len}
+use Rattle.scan.specs.Laws.Checking.{last_len}
 use Rattle.sharing.proofs.WalkingCases.{seek_low, placed_is, seek_full, seek_high, seek_few, seek_rest, part_as}
 use Rattle.sharing.proofs.FindingParts.{part_lost, part_placed, part_passed}
 use Rattle.sharing.proofs.finding.find_part.Goals as goal

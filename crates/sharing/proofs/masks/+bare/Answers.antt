@@ -1,7 +1,7 @@
 use Rattle.std.proofs.Common.{rules}
 use lib.Dec.{lit<}
 use Rattle.std.proofs.Common.{arith, sym, ◌∙◌}
-use Rattle.scan.specs.Laws.{last_len}
+use Rattle.scan.specs.Laws.Checking.{last_len}
 use Rattle.sharing.proofs.MasksCases.{passing_none, goes_on, goes_less, behind_mask_less, at_front, action_bare, sequence_bare, choice_bare, star_bare, parallel_bare, guard_bare, leaf_bare, two_bare}
 use Rattle.sharing.proofs.masks.+bare.Goals as goal
 

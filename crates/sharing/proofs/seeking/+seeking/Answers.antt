@@ -1,8 +1,8 @@
 use Rattle.std.proofs.Common.{rules}
 use mathlib.Core.Path.{refl, sym, ap, ◌∙◌}
 use lib.Dec.{lit<}
-use Rattle.scan.specs.Laws.{last_len}
-use Rattle.derivation.specs.AnswerLaws.{sized}
+use Rattle.scan.specs.Laws.Checking.{last_len}
+use Rattle.derivation.specs.Laws.Answers.{sized}
 use Rattle.derivation.specs.Lending.{answered}
 use Rattle.sharing.proofs.WalkingCases.{walk_low, packed_high, packed_low, last_is, seek_on, sought_store, sought_path, decided_path, decided_at, decided_sought}
 use Rattle.sharing.proofs.SeekingArms.{internal_sought, perform_sought, two_left, two_right, choice_sought, sequence_right, sequence_left, star_end, star_round, parallel_done, parallel_beside, guard_shut, guard_open, at_front, other_sought}

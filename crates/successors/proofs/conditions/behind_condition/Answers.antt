@@ -1,5 +1,5 @@
 use Rattle.codes.specs.Rows.{of_cond}
-use Rattle.listing.specs.Coded.{coded_condition}
+use Rattle.listing.specs.Laws.Coded.{coded_condition}
 use Rattle.successors.proofs.conditions.behind_condition.Goals as goal
 
 pub returns : goal.returns

@@ -1,9 +1,9 @@
 use native.Mathlib.Omega.{arith}
 use borrow.Author.Rules.{rules}
 use mathlib.Core.Path.{refl, ◌∙◌}
-use Rattle.scan.specs.Laws.{last_len}
+use Rattle.scan.specs.Laws.Checking.{last_len}
 use Rattle.terms.proofs.Weighers.{left_said, right_said, measures_said}
-use Rattle.terms.specs.AnswerLaws.{got}
+use Rattle.terms.specs.Laws.Reading.Answers.{got}
 use Rattle.terms.proofs.Codes.{term_internal, term_done}
 use Rattle.terms.proofs.Numbers.{joined_fits, joined_in, guard_in, stars_fit, stars_in}
 use Rattle.terms.proofs.Parts.{pair_fits, pair_in, guarded_fits, guarded_in}

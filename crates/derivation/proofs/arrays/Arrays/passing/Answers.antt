@@ -1,7 +1,7 @@
 -- The answer for a term without move k is one number, below the one that says that there was no room.
 use mathlib.Core.Path.{refl}
 use native.Mathlib.Omega.{arith}
-use Rattle.listing.specs.Operands.{answer_is}
+use Rattle.listing.specs.Laws.Operands.{answer_is}
 use Rattle.derivation.proofs.arrays.Arrays.passing.Goals as goal
 
 pub returns-clause-passed : goal.returns-clause-passed

@@ -1,6 +1,6 @@
 use native.Mathlib.Omega.{arith}
 use mathlib.Core.Path.{refl, ◌∙◌}
-use Rattle.unfold.specs.PutsLaws.{from_none}
+use Rattle.unfold.specs.Laws.Puts.{from_none}
 use Rattle.unfold.proofs.RowCases.{head_put, head_next}
 use Rattle.unfold.proofs.writer.Writer.head.Goals as goal
 

@@ -1,0 +1,55 @@
+-- What Count answers, by the specification's operation (document 01, "Operations"): refused as the rule set or the term is, or for want of cells; else the
+-- number of moves.
+use Rattle.std.specs.Prelude.{◌≡◌, List, ℕ, ◌≤◌, ◌<◌, length, Ok, Err, Result}
+use Rattle.std.proofs.Math.Path.{refl, ap, sym}
+use Rattle.std.proofs.Common.{◌∙◌, le-leb}
+use Rattle.std.proofs.lemmas.Bool.{lt-leb}
+use Rattle.eb3.specs.Refusal
+use Rattle.eb3.specs.Terms.{Term}
+use Rattle.eb3.specs.RuleSets.{RuleSet}
+use Rattle.eb3.specs.Reading.{pick}
+use Rattle.eb3.specs.Admission.{admission}
+use Rattle.eb3.specs.Memory.{cell_room}
+use Rattle.eb3.specs.Answers.{Answer, refused, answered, and_then}
+use Rattle.eb3.specs.Operations.{cells_needed, memory_fits, term_in, listed, count}
+use Rattle.given.specs.Giving.{given_in}
+use Rattle.refusals.specs.declared.Refusal.{Refusal}
+use Rattle.refusals.specs.declared.Refusal.TheVariants.{Space}
+use Rattle.refusals.specs.Numbers.{number, refusal, refusal_number}
+use Rattle.engine.specs.Counting.{counted_as}
+
+module _ (rules term memory : List ℕ) where
+  abbrev counted_from : RuleSet × Term → Answer ℕ
+  counted_from p = pick (memory_fits p.0 memory) (answered (length (listed p.0 p.1 memory))) (refused Refusal.space)
+
+  -- what follows the term follows both
+  both_known : (R : RuleSet) (a : Answer Term) → (and_then a λ E. counted_from (R, E)) ≡ and_then (and_then a λ E. answered (R, E)) counted_from
+  unfolding and_then
+  both_known R (refused k) = refl
+  both_known R (answered E) = refl
+
+  by_admitted : (a : Answer RuleSet) → (and_then a λ R. and_then (term_in R term) λ E. counted_from (R, E)) ≡ and_then (and_then a λ R. and_then (term_in R term) λ E. answered (R, E)) counted_from
+  unfolding and_then
+  by_admitted (refused k) = refl
+  by_admitted (answered R) = both_known R (term_in R term)
+
+  by_given : count rules term memory ≡ and_then (given_in rules term) counted_from
+  unfolding count
+  by_given = by_admitted (admission rules)
+
+  pub count_refused : (k : Refusal) → given_in rules term ≡ refused (number k) → Err k ≡ counted_as (count rules term memory)
+  unfolding counted_as and_then
+  count_refused k e = ap Err (sym (refusal_number k)) ∙ sym (ap counted_as (by_given ∙ ap (λ a. and_then a counted_from) e))
+
+  module _ (R : RuleSet) (E : Term) (e : given_in rules term ≡ answered (R, E)) where
+    known_so : count rules term memory ≡ counted_from (R, E)
+    unfolding and_then
+    known_so = by_given ∙ ap (λ a. and_then a counted_from) e
+
+    pub count_short : cell_room memory < cells_needed R → Err Space ≡ counted_as (count rules term memory)
+    unfolding counted_as refusal
+    count_short h = sym (ap counted_as (known_so ∙ ap (λ b. pick b (answered (length (listed R E memory))) (refused Refusal.space)) (lt-leb (cells_needed R) (cell_room memory) h)))
+
+    pub count_done : cells_needed R ≤ cell_room memory → (n : ℕ) → n ≡ length (listed R E memory) → Ok n ≡ counted_as (count rules term memory)
+    unfolding counted_as
+    count_done h n f = ap Ok f ∙ sym (ap counted_as (known_so ∙ ap (λ b. pick b (answered (length (listed R E memory))) (refused Refusal.space)) (le-leb (cells_needed R) (cell_room memory) h)))

@@ -1,0 +1,14 @@
+-- What is known of the rule set that was admitted and of a given term (document 01, "Operations": each call admits and checks everything itself).
+use Rattle.std.specs.Prelude.{◌≡◌, List, ℕ}
+use Rattle.eb3.specs.Terms.{Term}
+use Rattle.eb3.specs.RuleSets.{RuleSet}
+use Rattle.eb3.specs.Operations.{cells_needed}
+use Rattle.runs.specs.declared.admitted.Admitted.{Admitted}
+use Rattle.steps.specs.Storing.{Ruled}
+use Rattle.given.specs.Giving.{Described}
+use Rattle.given.specs.Laws.Giving.{described_ruled}
+use Rattle.engine.specs.Describing.{DescribedBy}
+
+pub described_by_ruled : (rules : Admitted) (R : RuleSet) (E : Term) (s : List ℕ) → DescribedBy rules R E s
+    → Ruled R rules.functions.words.now rules.tables.now rules.functions.directory.now rules.functions.width rules.functions.count rules.functions.cells
+described_by_ruled rules R E s d = described_ruled R E _ rules.tables.now _ s d.described _ _ _ rules.labels_counted rules.functions_counted d.cells_are

@@ -1,0 +1,49 @@
+-- The memory at the start, made of a store (document 01, "Memory and the history machine":
+-- at start the empty-trace expressions fill the cells, function by function).
+use Rattle.std.specs.Prelude.{◌≡◌, List, ℕ, ◌+◌, ◌≤◌}
+use Rattle.std.proofs.Common.{ap, sym, ◌∙◌, subst, arith}
+use Rattle.std.proofs.Math.Option.{none}
+use Rattle.std.proofs.Math.ListN.{length}
+use Rattle.eb3.specs.Expressions.{no_reading}
+use Rattle.eb3.specs.Attributes.{number_of_functions}
+use Rattle.eb3.specs.Cells.{total_cells, initial_cells}
+use Rattle.eb3.specs.RuleSets.{RuleSet, attributes}
+use Rattle.eb3.specs.WellFormedness.{Form}
+use Rattle.eb3.specs.Unfolding.{unfold_main}
+use Rattle.eb3.specs.Spelling.{words}
+use Rattle.eb3.specs.Bytes.{word_count, written}
+use Rattle.eb3.specs.Memory.{cell_room, memory_words}
+use Rattle.eb3.specs.Operations.{cells_needed}
+use Rattle.arguments.specs.Layout.{label_count, function_count}
+use Rattle.declarations.specs.Directory.{Directory, row_width, at_start_in}
+use Rattle.expressions.specs.Stores.{now_place}
+use Rattle.cells.specs.Laws.Cells.{cells_counted}
+use Rattle.steps.specs.Laws.Ruled.{labels_there, functions_there}
+use Rattle.cells.specs.Filling.{Filling, Filled}
+use Rattle.cells.specs.Preparing.{Prepared, Saved}
+use Rattle.cells.specs.Laws.Memory.{held_words}
+use Rattle.cells.specs.Laws.ReadyingFills.{start_filling}
+
+-- ── the start ──
+use Rattle.engine.specs.Memories.{MemoryStarted, Begun}
+
+-- From a store made ready, filled and saved.
+pub memory_started : (t T D M M₁ M₂ B B' : List ℕ) (w n c : ℕ) → w ≡ row_width (label_count T) → n ≡ function_count T → length M₁ ≡ length M → length M₂ ≡ length M₁
+    → (now_place ≤ length M → Prepared D M M₁ w n c)
+    → ((R : RuleSet) → Filling (attributes R) none no_reading t D M₁ w at_start_in n → Filled (attributes R) none no_reading M₁ M₂)
+    → Saved M₂ B B' c → MemoryStarted t T D (length M) c B B'
+unfolding initial_cells
+memory_started t T D M M₁ M₂ B B' w n c ew en l₁ l₂ prepared filled saved R form d ec room fits =
+    let A = attributes R in
+    let cells = initial_cells A in
+    let k : length cells ≡ total_cells A = cells_counted A none no_reading (number_of_functions A) in
+    let ew' : w ≡ row_width (length R.labels) = ew ∙ ap (λ x. row_width x) (labels_there R form t T D d) in
+    let en' : n ≡ length R.functions = en ∙ functions_there R form t T D d in
+    let p : Prepared D M M₁ (row_width (length R.labels)) (length R.functions) (total_cells A) = subst (λ x. Prepared D M M₁ (row_width (length R.labels)) (length R.functions) x) ec (subst (λ x. Prepared D M M₁ (row_width (length R.labels)) x c) en' (subst (λ x. Prepared D M M₁ x n c) ew' (prepared (omega arith)))) in
+    let f : Filling A none no_reading t D M₁ (row_width (length R.labels)) at_start_in (length R.functions) = start_filling R form t T D d M M₁ p (omega (arith, l₁, ec)) in
+    let g : Filled A none no_reading M₁ M₂ = filled R (subst (λ x. Filling A none no_reading t D M₁ w at_start_in x) (sym en') (subst (λ x. Filling A none no_reading t D M₁ x at_start_in (length R.functions)) (sym ew') f)) in
+    let e : c ≡ length cells = ec ∙ sym k in
+    saved.right (omega (arith, l₁, l₂)) (omega arith)
+    ∙ ap (λ x. written x B) (held_words M₂ cells c (sym e) (omega (arith, l₁, l₂)) g.cells)
+
+-- ── term and memory ──

@@ -1,0 +1,3 @@
+-- Laws of the definitions beside this folder.
+pub mod Giving
+pub mod Handing

@@ -1,0 +1,2 @@
+-- Laws of the definitions beside this folder.
+pub mod Scratch
