@@ -17,7 +17,7 @@ use Rattle.refusals.specs.Numbers.{refusal}
 abbrev pub labels_of : List ℕ → ℕ → ℕ → List (List ℕ)
 labels_of T l k = from l k (λ i. row T (label_place i))
 
--- A row in the words of each label: how many, and they.
+-- A row every `label_words` words: how many, and they.
 unfoldable pub put_row : ℕ → List ℕ → List ℕ → List ℕ
 put_row at l T = paste T at (length l ∷ l) (suc (length l))
 

@@ -1,5 +1,6 @@
 -- Words of the tables: a copy and a row word by word, and what is declared by them. Each part of `declared` reads its own region of the tables only:
--- domains below labels_place, labels from there below functions_place, the functions' count there, processes from processes_place on; what keeps a region keeps what is declared there.
+-- domains below labels_place, labels from there on and below functions_place, the functions' count at functions_place, processes from processes_place on;
+-- what keeps a region keeps what is declared there.
 -- Document 01, "Blocks and the rule stream", items 2 to 5; refusals 4 and 5.
 use Rattle.std.specs.Prelude.{◌≡◌, List, [], ◌++◌, map, ℕ, zero, suc, ◌+◌, ◌≤◌, ◌<◌, length, take, drop, get_or, set, ltb}
 use Rattle.std.proofs.Common.{sym, ap, ◌∙◌, subst, arith, length-take, length-drop, length-take-le, get_or-set_same, get_or-set_other, get_or-take, get_or-drop, ext_get_or, lt→ltb}
