@@ -21,6 +21,9 @@ use Rattle.arguments.specs.Tables.{row}
 use Rattle.std.specs.Prelude.{Option, Some, None, ⊤, ◌⊎◌}
 use Rattle.codes.specs.Table.{words_after, operands_after}
 use Rattle.codes.specs.Shapes.{more_words}
+use Rattle.codes.specs.Laws.Table.{expression_word}
+use mathlib.Core.Bool.{Bool, true, false}
+use lib.Dec.{eqb}
 use Rattle.unfold.specs.declared.writer.Writer.{Writer}
 use Rattle.unfold.specs.Written.{written_from}
 use Rattle.unfold.specs.Puts.{Puts, Heads, Putting}
@@ -86,6 +89,14 @@ front_alone σ s m e l k = go (cases_eq (get_or s 0 0) 2)
         sym (front_variable σ (take m s) (length (take m s)) (code ∙ two)) ∙ (ap (λ i. 1 ∷ get_or σ i 0 ∷ []) (get_or-take m s 1 0 (omega arith)) ∙ front_variable σ s m two)
     go (inr other) = rw (ne_eqb (get_or (take m s) 0 0) 2 (λ z. other (sym code ∙ z)), ne_eqb (get_or s 0 0) 2 other) (take_all (length (take m s)) (take m s) (omega arith))
 
+-- In edition 1 a code has the words that the table says.
+one_word : (c : ℕ) → more_words 0 c ≡ words_after c
+one_word c = go (eqb c 1)
+  where
+    go : (b : Bool) → words_after c + pick b 0 0 ≡ words_after c
+    go true = omega arith
+    go false = omega arith
+
 -- ── a row ──
 
 pub last_size : (n : ℕ) (t s : List ℕ) → s ≡ last_of n t → length s ≡ min n (length t)
@@ -112,6 +123,14 @@ module _ (t σ : List ℕ) (count n : ℕ) where
   module _ (k left : ℕ) (s : List ℕ) (x y : Writer) (c w : ℕ) (p : Putting (Instantiates t σ count n) (Instantiates t σ k left) x y) (some : 0 < k) (is_s : s ≡ last_of left t) (is_c : c ≡ get_or s 0 0) (is_w : w ≡ more_words 0 c) where
     m_is : 1 + w ≡ front_width (get_or s 0 0)
     m_is = ap (λ j. 1 + j) is_w ∙ ap front_width is_c
+
+    -- no code up to 13 has more than one word after it
+    pub row_long : 2 < 1 + w → Puts (Instantiates t σ count n) x y None
+    row_long h = putting_stuck _ _ x y p (λ ws rest g.
+        let o = row_known t σ s k left is_s some ws rest g in
+        let l : words_after (get_or s 0 0) ≤ 1 = expression_word (get_or s 0 0) o.1 in
+        let z : w ≡ words_after (get_or s 0 0) = is_w ∙ ap (more_words 0) is_c ∙ one_word (get_or s 0 0) in
+        omega (arith, l, z))
 
     pub row_short : length s < 1 + w → Puts (Instantiates t σ count n) x y None
     row_short h = putting_stuck _ _ x y p (λ ws rest g. let l : 1 + w ≤ length s = row_there t σ s k left (1 + w) is_s some m_is ws rest g in omega arith)

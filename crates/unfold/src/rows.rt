@@ -40,6 +40,10 @@ pub fn put_row(scope: &Scope, n: usize, count: usize, out: &mut Writer) -> Optio
         let s = last(scope.words, left);
         let c = code_at(s, 0)?;
         let m = 1 + words_after(c, EDITION_1);
+        // no expression's front has more: with this known, nothing is copied by a loop
+        if 2 < m {
+            return None;
+        }
         if s.len() < m {
             return None;
         }

@@ -34,7 +34,7 @@ record Front (σ : List ℕ) (e : Expression) : Type 0 where
   all_plain : All PlainExpression parts
   width : front_width code ≡ suc (length operand)
   counted : length parts ≡ operands_after code
-  known : code ≤ 30
+  known : code ≤ 13
   same_put : (u : List ℕ) → front_words σ (code ∷ (operand ++ u)) (suc (length operand)) ≡ put
 
 two : (a b : List ℕ) → a ++ b ≡ a ++ (b ++ [])
@@ -45,7 +45,7 @@ three a b c = ap (λ z. a ++ z) (two b c)
 
 module _ (σ : List ℕ) where
   -- a code with no word after it, and some expressions
-  bare : (e : Expression) (c : ℕ) → c ≤ 30 → (ps : List Expression) → expression_words e ≡ c ∷ all_words ps → expression_words (instantiate σ e) ≡ c ∷ all_put σ ps → All PlainExpression ps → front_width c ≡ 1 → length ps ≡ operands_after c
+  bare : (e : Expression) (c : ℕ) → c ≤ 13 → (ps : List Expression) → expression_words e ≡ c ∷ all_words ps → expression_words (instantiate σ e) ≡ c ∷ all_put σ ps → All PlainExpression ps → front_width c ≡ 1 → length ps ≡ operands_after c
       → ((u : List ℕ) → front_words σ (c ∷ u) 1 ≡ c ∷ []) → Front σ e
   bare e c l ps s i a w n f = record { code = c; known = l; operand = []; put = c ∷ []; parts = ps; spelled = s; instantiated = i; all_plain = a; width = w; counted = n; same_put = f }
 
@@ -100,7 +100,7 @@ last_behind t u v n e = tail_at u t (tail_on u (v ++ u) t (length t - n, sym e) 
 
 module _ (t σ s : List ℕ) (k n m : ℕ) (is_s : s ≡ last_of n t) (some : 0 < k) (is_m : m ≡ front_width (get_or s 0 0)) where
   go : (row : List Expression) (ws rest : List ℕ) → length row ≡ k → All PlainExpression row → last_of n t ≡ all_words row ++ rest → ws ≡ all_put σ row
-      → ((m ≤ length s) × (get_or s 0 0 ≤ 30)) × Then (Exactly (front_words σ s m) (length s - m)) (λ j. Instantiates t σ (k - 1 + operands_after (get_or s 0 0)) (length s - m)) ws rest
+      → ((m ≤ length s) × (get_or s 0 0 ≤ 13)) × Then (Exactly (front_words σ s m) (length s - m)) (λ j. Instantiates t σ (k - 1 + operands_after (get_or s 0 0)) (length s - m)) ws rest
   go [] ws rest c p e i = absurd (let z : ⊥ = omega arith in z)
   go (a ∷ es) ws rest c p e i =
       let f = front_of σ a p.0 in
@@ -136,11 +136,11 @@ module _ (t σ s : List ℕ) (k n m : ℕ) (is_s : s ≡ last_of n t) (some : 0 
   pub row_there : (ws rest : List ℕ) → Instantiates t σ k n ws rest → m ≤ length s
   row_there ws rest h = (go h.row ws rest h.counted h.all_plain h.spelled h.instantiated).0.0
 
-  row_code : (ws rest : List ℕ) → Instantiates t σ k n ws rest → get_or s 0 0 ≤ 30
+  row_code : (ws rest : List ℕ) → Instantiates t σ k n ws rest → get_or s 0 0 ≤ 13
   row_code ws rest h = (go h.row ws rest h.counted h.all_plain h.spelled h.instantiated).0.1
 
--- An expression begins with a code.
-pub row_known : (t σ s : List ℕ) (k n : ℕ) → s ≡ last_of n t → 0 < k → (ws rest : List ℕ) → Instantiates t σ k n ws rest → (0 < length s) × (get_or s 0 0 ≤ 30)
+-- An expression begins with a code up to 13.
+pub row_known : (t σ s : List ℕ) (k n : ℕ) → s ≡ last_of n t → 0 < k → (ws rest : List ℕ) → Instantiates t σ k n ws rest → (0 < length s) × (get_or s 0 0 ≤ 13)
 row_known t σ s k n e some ws rest h =
     let l : front_width (get_or s 0 0) ≤ length s = row_there t σ s k n _ e some refl ws rest h in
     (omega arith, row_code t σ s k n _ e some refl ws rest h)

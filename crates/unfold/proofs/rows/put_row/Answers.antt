@@ -1,5 +1,5 @@
 use native.Mathlib.Omega.{arith}
-use Rattle.unfold.proofs.RowCases.{rows, last_size, row_unknown, row_short, row_none, row_next}
+use Rattle.unfold.proofs.RowCases.{rows, last_size, row_unknown, row_long, row_short, row_none, row_next}
 use Rattle.unfold.proofs.rows.put_row.Goals as goal
 
 pub loop-k-init : goal.loop-k-init
@@ -7,6 +7,9 @@ loop-k-init c = (omega (arith, last_size), omega (arith, last_size), omega (arit
 
 pub returns-in_err-c-clause-puts : goal.returns-in_err-c-clause-puts
 returns-in_err-c-clause-puts c = row_unknown _ _ _ _ _ _ _ _ _ _ c.loop-k.invariant.3 c.loop-k-test.true c.last-s.ensures c.in_err-c.ensures c.from_residual.ensures
+
+pub returns-then-m-gt2-clause-puts : goal.returns-then-m-gt2-clause-puts
+returns-then-m-gt2-clause-puts c = row_long _ _ _ _ _ _ _ _ _ _ _ c.loop-k.invariant.3 c.loop-k-test.true c.last-s.ensures c.in_ok-c.ensures.0 c.words_after-m.ensures.0 c.if-m-gt2.true
 
 pub returns-then-s-m-clause-puts : goal.returns-then-s-m-clause-puts
 returns-then-s-m-clause-puts c = row_short _ _ _ _ _ _ _ _ _ _ _ c.loop-k.invariant.3 c.loop-k-test.true c.last-s.ensures c.in_ok-c.ensures.0 c.words_after-m.ensures.0 c.if-s-m.true
