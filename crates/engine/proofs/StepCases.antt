@@ -36,7 +36,7 @@ use Rattle.steps.specs.Counting.{Whole, found_at}
 use Rattle.listing.specs.Laws.Fits.{fits_length}
 use Rattle.steps.specs.Storing.{Ruled, Stored, StoreRenewed}
 use Rattle.steps.specs.Laws.Judging.{fits, whole, moves_judged}
-use Rattle.steps.specs.Taking.{taken_as, built_over, SuccessorFits, Took}
+use Rattle.steps.specs.Taking.{taken_as, built_over, SuccessorFits, Took, MoveTaken}
 use Rattle.engine.specs.declared.stepping.Step.{Step}
 use Rattle.runs.specs.declared.admitted.Admitted.{Admitted}
 use Rattle.given.specs.Giving.{Described}
@@ -127,12 +127,9 @@ module _ (R : RuleSet) (E : Term) (cells : List Value) (t T D s M : List ℕ) (d
 abbrev pub made : ℕ → ℕ → Option Taken
 made a z = Some (record { action = a; size = z })
 
-abbrev pub MoveTaken : List ℕ → List ℕ → ℕ → List ℕ → List ℕ → Option Taken → Type 0
-MoveTaken s M k B B' r = (P : Scope) (E : Term) → Whole s P E → size P.edition.width E ≤ 8192 → SuccessorFits P.edition.width (get_elem? (moves (holding M) E) k) B → Took P.edition.width (get_elem? (moves (holding M) E) k) B B' r
-
 module _ (R : RuleSet) (E : Term) (cells : List Value) (t T D s M : List ℕ) (d : Described R E t T D s) (stored : Stored R cells M) (k : ℕ) (B B' C : List ℕ) (r : Option Taken) where
   -- What was taken, at the move that there is or is not.
-  taken_so : MoveTaken s M k B B' r → reach R.edition.width E ≤ word_count B → Took R.edition.width (get_elem? (moves (holding M) E) k) B B' r
+  taken_so : MoveTaken s M k 8192 B B' r → reach R.edition.width E ≤ word_count B → Took R.edition.width (get_elem? (moves (holding M) E) k) B B' r
   taken_so taken h =
       taken (guard_scope (attributes R) 0) E (whole R d.form E d.term.running s d.term.words_are) (short R E cells t T D s M d stored)
       (successor_fits R E cells t T D s M d stored B h k (get_elem? (moves (holding M) E) k) refl)
@@ -172,13 +169,13 @@ module _ (R : RuleSet) (E : Term) (cells : List Value) (t T D s M : List ℕ) (d
         memory_after = saved.right room (omega arith) ∙ ap (λ u. written u C) (held_words M' after c (st.counted ∙ sym ec) room st.holds);
       }
 
-pub step_refused : (rules : Admitted) (s M : List ℕ) (k : ℕ) (B B' C : List ℕ) (r : Option Taken) → MoveTaken s M k B B' r → r ≡ None → SteppedFrom rules s M k B C (Err NotOffered) B' C
+pub step_refused : (rules : Admitted) (s M : List ℕ) (k : ℕ) (B B' C : List ℕ) (r : Option Taken) → MoveTaken s M k 8192 B B' r → r ≡ None → SteppedFrom rules s M k B C (Err NotOffered) B' C
 step_refused rules s M k B B' C r taken e R E cells by stored h g =
     let d = by.described in
     by_store R E cells _ _ _ s M d stored k B B' C r (Err NotOffered) C
     (refused_so R E cells _ _ _ s M d stored k B B' C r (get_elem? (moves (holding M) E) k) (taken_so R E cells _ _ _ s M d stored k B B' C r taken h) e)
 
-pub step_made : (rules : Admitted) (s M M' : List ℕ) (k : ℕ) (B B' C C' : List ℕ) (r : Option Taken) (a z : ℕ) (y : Step) → MoveTaken s M k B B' r → r ≡ made a z
+pub step_made : (rules : Admitted) (s M M' : List ℕ) (k : ℕ) (B B' C C' : List ℕ) (r : Option Taken) (a z : ℕ) (y : Step) → MoveTaken s M k 8192 B B' r → r ≡ made a z
     → length M' ≡ length M → StoreRenewed rules.functions.words.now rules.functions.directory.now M M' rules.functions.width rules.functions.count rules.functions.cells a → Saved M' C C' rules.functions.cells
     → ((ρ : Action) → Small ρ → a ≡ action_code ρ → y ≡ told ρ (z % 4294967296)) → SteppedFrom rules s M k B C (Ok y) B' C'
 step_made rules s M M' k B B' C C' r a z y taken e l renewed saved tells R E cells by stored h g =

@@ -2,9 +2,10 @@
 -- reported size keep their values, and a refusal writes nothing).
 use Rattle.std.specs.Prelude.{◌≡◌, List, ℕ, ◌≤◌, ◌<◌, length, drop, Option, None, Some}
 use Rattle.std.proofs.Math.Option.{Option as Maybe, none, some}
+use Rattle.std.proofs.Math.ListN.{get_elem?}
 use Rattle.eb3.specs.Scopes.{Scope}
 use Rattle.eb3.specs.Terms.{Term}
-use Rattle.eb3.specs.Moves.{Move}
+use Rattle.eb3.specs.Moves.{Move, moves}
 use Rattle.eb3.specs.Sizes.{size}
 use Rattle.eb3.specs.Spelling.{words}
 use Rattle.eb3.specs.Bytes.{word_count, written}
@@ -52,3 +53,8 @@ SuccessorFits width (some x) B = length (words width x.successor) ≤ word_count
 pub record Took (width : ℕ) (o : Maybe Move) (B B' : List ℕ) (r : Option Taken) : Type 0 where
   pub answer : r ≡ taken_as width o
   pub buffer : B' ≡ built_over width o B
+
+-- Move k is taken from the words s at the store M, with room for a path of n words and for the successor.
+abbrev pub MoveTaken : List ℕ → List ℕ → ℕ → ℕ → List ℕ → List ℕ → Option Taken → Type 0
+MoveTaken s M k n B B' r = (P : Scope) (E : Term) → Whole s P E → size P.edition.width E ≤ n → SuccessorFits P.edition.width (get_elem? (moves (holding M) E) k) B
+    → Took P.edition.width (get_elem? (moves (holding M) E) k) B B' r

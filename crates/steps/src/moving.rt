@@ -3,17 +3,10 @@
 // in counting.
 // Stays: that words are at most 65,535 is a clause of each function here, for the reason in successors (docs/DESIGN-PASS.md, "A struct for words").
 ghost use Rattle.std.specs.Prelude.{◌≡◌, ℕ, ◌≤◌, ◌<◌, length, MatchOption};
-ghost use Rattle.std.proofs.Math.ListN.{get_elem?};
-ghost use Rattle.eb3.specs.Scopes.{Scope};
-ghost use Rattle.eb3.specs.Terms.{Term};
-ghost use Rattle.eb3.specs.Moves.{moves};
-ghost use Rattle.eb3.specs.Sizes.{size};
 ghost use Rattle.derivation.specs.Arrays.{SameArrays};
 ghost use Rattle.derivation.specs.Derived.{passed};
 ghost use Rattle.derivation.specs.Lending.{Placed, told};
-ghost use Rattle.listing.specs.Listing.{holding};
-ghost use Rattle.steps.specs.Counting.{Whole};
-ghost use Rattle.steps.specs.Taking.{PathSought, PathFound, SuccessorFits, Took};
+ghost use Rattle.steps.specs.Taking.{PathSought, PathFound, MoveTaken};
 
 use derivation::{Derivation, Scratch, derive};
 use successors::build;
@@ -91,7 +84,7 @@ pub fn take_move_in(
 ) -> Option<Taken>
     requires { length s.now ≤ 65535 }
     ensures arrays { SameArrays scratch.old scratch.new }
-    ensures taken { (P : Scope) (E : Term) → Whole s.now P E → size P.edition.width E ≤ length scratch.old.path.now → SuccessorFits P.edition.width (get_elem? (moves (holding m.now) E) k) out.old → Took P.edition.width (get_elem? (moves (holding m.now) E) k) out.old out.new result }
+    ensures taken { MoveTaken s.now m.now k (length scratch.old.path.now) out.old out.new result }
 {
     if 65535 < k {
         return None;
@@ -110,7 +103,7 @@ pub fn take_move_in(
 #[inline(never)]
 fn take_sized<const N: usize>(s: &[u16], m: &[u16], k: usize, out: &mut [u8]) -> Option<Taken>
     requires { (length s.now ≤ 65535) × (N ≤ 65535) }
-    ensures { (P : Scope) (E : Term) → Whole s.now P E → size P.edition.width E ≤ N → SuccessorFits P.edition.width (get_elem? (moves (holding m.now) E) k) out.old → Took P.edition.width (get_elem? (moves (holding m.now) E) k) out.old out.new result }
+    ensures { MoveTaken s.now m.now k N out.old out.new result }
 {
     let mut path = [0u16; N];
     let mut acts = [0u32; 256];
@@ -126,7 +119,7 @@ fn take_sized<const N: usize>(s: &[u16], m: &[u16], k: usize, out: &mut [u8]) ->
 // With an array for a path of 256 words, of 1,024, or of 8,192, the most that there may be: little is cleared for a short term.
 pub fn take_move(s: &[u16], m: &[u16], k: usize, out: &mut [u8]) -> Option<Taken>
     requires { length s.now ≤ 65535 }
-    ensures { (P : Scope) (E : Term) → Whole s.now P E → size P.edition.width E ≤ 8192 → SuccessorFits P.edition.width (get_elem? (moves (holding m.now) E) k) out.old → Took P.edition.width (get_elem? (moves (holding m.now) E) k) out.old out.new result }
+    ensures { MoveTaken s.now m.now k 8192 out.old out.new result }
 {
     if s.len() <= 256 {
         return take_sized::<256>(s, m, k, out);
