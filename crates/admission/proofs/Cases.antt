@@ -13,9 +13,9 @@ use Rattle.eb3.proofs.Laws.Reading.{pick_true, pick_false}
 use Rattle.eb3.specs.RuleReading.{read_rules}
 use Rattle.eb3.specs.Admission.{all_zero}
 use Rattle.eb3.specs.Judging.{judged}
-use Rattle.weights.specs.Weighing.{measure, reported}
-use Rattle.weights.specs.declared.Weight.{Weight}
-use Rattle.weights.specs.declared.Limits.{Limits}
+use Rattle.measures.specs.Weighing.{measure, reported}
+use Rattle.measures.specs.declared.Weight.{Weight}
+use Rattle.measures.specs.declared.Limits.{Limits}
 use Rattle.scan.specs.Checking.{last_of}
 use Rattle.eb3.proofs.Laws.Editions.{edition_1_defined}
 use Rattle.rules.specs.declared.Rules.{Rules}

@@ -10,7 +10,7 @@ use Rattle.eb3.specs.Blocks.{stream}
 use Rattle.declarations.specs.Directory.{Directory, row_width}
 use Rattle.admission.specs.Answering.{read_whole}
 use Rattle.refusals.specs.declared.Refusal.{Refusal}
-use Rattle.weights.specs.declared.Limits.{Limits}
+use Rattle.measures.specs.declared.Limits.{Limits}
 
 -- The tables T and the directory D describe what was read at t, where a directory of n words has room for it.
 abbrev pub Described : List ℕ → ℕ → List ℕ → List ℕ → Type 0

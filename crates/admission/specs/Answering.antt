@@ -4,7 +4,7 @@ use Rattle.eb3.specs.Editions.{edition_1}
 use Rattle.eb3.specs.RuleReading.{read_rules}
 use Rattle.eb3.specs.Answers.{Answer, refused, answered, Sizes}
 use Rattle.eb3.specs.Judging.{whole_of}
-use Rattle.weights.specs.declared.Limits.{Limits}
+use Rattle.measures.specs.declared.Limits.{Limits}
 use Rattle.refusals.specs.declared.Refusal.{Refusal}
 use Rattle.refusals.specs.Numbers.{refusal}
 

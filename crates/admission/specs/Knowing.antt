@@ -10,7 +10,7 @@ use Rattle.eb3.specs.WellFormedness.{WellFormed}
 use Rattle.eb3.specs.Answers.{refused, answered}
 use Rattle.eb3.specs.Operations.{admit, sizes_needed}
 use Rattle.eb3.proofs.Laws.Admission.{admitted as admitted_form}
-use Rattle.weights.specs.declared.Limits.{Limits}
+use Rattle.measures.specs.declared.Limits.{Limits}
 use Rattle.declarations.specs.Directory.{Directory, row_width, directory_length}
 
 pub record Known (rules T D : List ℕ) (l : Limits) : Type 0 where

@@ -7,19 +7,19 @@ ghost use Rattle.eb3.specs.RuleReading.{read_rules};
 ghost use Rattle.eb3.specs.Blocks.{stream};
 ghost use Rattle.eb3.specs.Operations.{admit};
 ghost use Rattle.rules.specs.Sections.{rules_weighed};
-ghost use Rattle.weights.specs.Weighing.{measure};
+ghost use Rattle.measures.specs.Weighing.{measure};
 ghost use Rattle.eb3.specs.Judging.{judged};
 ghost use Rattle.admission.specs.Answering.{admitted, read_whole};
 ghost use Rattle.admission.specs.Admitting.{WordsAdmitted, FileAdmitted};
 
-use arguments::layout::TABLES;
-use arguments::zeros;
+use tables::layout::TABLES;
+use tables::zeros;
 use blocks::opened::Blocks;
 use blocks::{CONTENT_WORDS, WORDS_OF_8, WORDS_OF_64, join, open};
 use refusals::Refusal;
 use rules::read;
 use scan::last;
-use weights::{Limits, Weight};
+use measures::{Limits, Weight};
 
 // Refusal 7, then 8; else the sizes.
 fn judge(cells: u32, w: Weight) -> Result<Limits, Refusal>

@@ -10,7 +10,7 @@ use Rattle.refusals.specs.declared.Refusal.{Refusal as Why}
 use Rattle.refusals.specs.Numbers.{number, number_refusal}
 use Rattle.eb3.specs.Terms.{Action, internal, visible}
 use Rattle.eb3.specs.Answers.{Answer, refused, answered, Sizes, Moved, Ran, Written, Tabled}
-use Rattle.weights.specs.declared.Limits.{Limits}
+use Rattle.measures.specs.declared.Limits.{Limits}
 use Rattle.admission.specs.Answering.{admitted}
 use Rattle.cabinet.specs.declared.Sizes.{Sizes as CSizes}
 use Rattle.engine.specs.Starting.{started_as}

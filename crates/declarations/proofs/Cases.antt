@@ -13,8 +13,8 @@ use Rattle.scan.specs.Checking.{checked, last_of, Checked}
 use Rattle.scan.specs.Ends.{Ends, Tail}
 use Rattle.scan.specs.Laws.Checking.{number_ends, last_all, last_length, last_tail, tail_at, tail_on, tail_short}
 use Rattle.scan.specs.Laws.Rows.{counted_ends, passed, repeat_out, repeat_in}
-use Rattle.arguments.specs.Layout.{label_words}
-use Rattle.arguments.specs.Tables.{row}
+use Rattle.tables.specs.Layout.{label_words}
+use Rattle.tables.specs.Tables.{row}
 use Rattle.declarations.specs.Entering.{put_row, put_rows, Entered}
 use Rattle.declarations.specs.Laws.Regions.{paste_front}
 use Rattle.declarations.specs.Laws.Rows.{numbers_row}

@@ -19,7 +19,7 @@ use Rattle.scan.specs.Checking.{checked, last_of, Checked}
 use Rattle.scan.specs.Ends.{Tail, Fine, Ends}
 use Rattle.scan.specs.Laws.Checking.{tail_at, tail_on, tail_short, number_ends}
 use Rattle.scan.specs.Laws.Rows.{counted_ends}
-use Rattle.arguments.specs.Layout.{processes_place, process_place, body_in, body_at}
+use Rattle.tables.specs.Layout.{processes_place, process_place, body_in, body_at}
 use Rattle.declarations.specs.Directory.{Stands, Standing, FunctionRow, ProcessRows, row_width, first_cell_in, at_start_in}
 
 -- ── readings that took something, taken apart ──

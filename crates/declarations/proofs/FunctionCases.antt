@@ -15,9 +15,9 @@ use Rattle.eb3.specs.RuleReading.{function_from, read_function}
 use Rattle.scan.specs.Checking.{checked, last_of, Checked}
 use Rattle.scan.specs.Ends.{Fine}
 use Rattle.scan.specs.Laws.Checking.{tail_at, both_in, both_out, number_word}
-use Rattle.grammar.specs.Laws.Reading.{data_ends}
-use Rattle.arguments.specs.Layout.{domain_count, label_count}
-use Rattle.arguments.specs.Tables.{edition_in, declared}
+use Rattle.expression_check.specs.Laws.Reading.{data_ends}
+use Rattle.tables.specs.Layout.{domain_count, label_count}
+use Rattle.tables.specs.Tables.{edition_in, declared}
 use Rattle.declarations.specs.declared.Counted.{Counted}
 use Rattle.declarations.specs.Entering.{labels_of, cells_of, all_cells, function_cells, functions_cells, CellsBound, found_cells}
 use Rattle.declarations.specs.Laws.Scopes.{one_each, at_start, start_scope}

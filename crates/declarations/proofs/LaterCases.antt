@@ -18,9 +18,9 @@ use Rattle.scan.specs.Laws.Checking.{tail_on, last_all, tail_at, tail_short, got
 use Rattle.scan.specs.Readings.{RefusedAs}
 use Rattle.scan.specs.Laws.Reading.{checked_refused, not_taken, same_refused, refused_checked}
 use Rattle.scan.specs.Laws.Rows.{passed}
-use Rattle.grammar.specs.Laws.Reading.{data_ends}
-use Rattle.arguments.specs.Layout.{label_place}
-use Rattle.arguments.specs.Tables.{edition_in, from, row}
+use Rattle.expression_check.specs.Laws.Reading.{data_ends}
+use Rattle.tables.specs.Layout.{label_place}
+use Rattle.tables.specs.Tables.{edition_in, from, row}
 use Rattle.declarations.specs.Entering.{labels_of}
 use Rattle.declarations.specs.Laws.Scopes.{at_label, label_scope}
 use Rattle.declarations.specs.Directory.{Stands, Standing}

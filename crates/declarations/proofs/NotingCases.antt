@@ -18,10 +18,10 @@ use Rattle.scan.specs.Checking.{checked, last_of, Checked}
 use Rattle.scan.specs.Ends.{Tail, Fine}
 use Rattle.scan.specs.Laws.Checking.{tail_at, tail_on, tail_short, last_tail, last_all, last_last, last_length}
 use Rattle.scan.specs.Laws.Reading.{checked_refused, not_taken}
-use Rattle.grammar.specs.Laws.Reading.{data_ends}
-use Rattle.arguments.specs.Layout.{domain_count, label_count}
-use Rattle.arguments.specs.Tables.{edition_in, declared}
-use Rattle.arguments.specs.Laws.Tables.{from_length}
+use Rattle.expression_check.specs.Laws.Reading.{data_ends}
+use Rattle.tables.specs.Layout.{domain_count, label_count}
+use Rattle.tables.specs.Tables.{edition_in, declared}
+use Rattle.tables.specs.Laws.Tables.{from_length}
 use Rattle.declarations.specs.declared.Counted.{Counted}
 use Rattle.declarations.specs.Entering.{labels_of, cells_of, function_cells, functions_cells, found_cells, CellsBound}
 use Rattle.declarations.specs.Laws.Scopes.{at_start, start_scope}

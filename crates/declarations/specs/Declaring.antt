@@ -4,8 +4,8 @@ use Rattle.std.specs.Prelude.{◌≡◌, List, map, ℕ, ◌+◌, length, get_or
 use Rattle.std.proofs.Math.Seq.{paste}
 use Rattle.eb3.specs.RuleSets.{Function, Process, RuleSet}
 use Rattle.eb3.specs.Measures.{sat, row_of}
-use Rattle.arguments.specs.Layout.{process_place, size_in, reach_in, breadth_in, body_in, function_count, processes_place}
-use Rattle.arguments.specs.Tables.{edition_in, declared, callee}
+use Rattle.tables.specs.Layout.{process_place, size_in, reach_in, breadth_in, body_in, function_count, processes_place}
+use Rattle.tables.specs.Tables.{edition_in, declared, callee}
 
 -- These domains and labels.
 pub record Heads (T : List ℕ) (domains : List ℕ) (labels : List (List ℕ)) : Type 0 where

@@ -8,8 +8,8 @@ use Rattle.eb3.specs.ExpressionReading.{read_data}
 use Rattle.eb3.specs.RuleReading.{at_start_scope, at_label_scope, read_function}
 use Rattle.scan.specs.Checking.{checked, Checked}
 use Rattle.scan.specs.Ends.{Tail}
-use Rattle.arguments.specs.Layout.{domain_count, label_count}
-use Rattle.arguments.specs.Tables.{edition_in, declared}
+use Rattle.tables.specs.Layout.{domain_count, label_count}
+use Rattle.tables.specs.Tables.{edition_in, declared}
 use Rattle.declarations.specs.declared.Counted.{Counted}
 use Rattle.declarations.specs.Entering.{labels_of, function_cells, functions_cells}
 use Rattle.declarations.specs.Directory.{Standing, FunctionRow, FunctionRows, row_width}

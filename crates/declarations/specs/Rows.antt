@@ -10,7 +10,7 @@ use Rattle.scan.specs.Checking.{checked, last_of, Checked}
 use Rattle.scan.specs.Ends.{Ends, Fine}
 use Rattle.scan.specs.Laws.Checking.{tail_at, number_ends}
 use Rattle.scan.specs.Laws.Rows.{counted_ends, count_ends}
-use Rattle.arguments.specs.Tables.{row}
+use Rattle.tables.specs.Tables.{row}
 use Rattle.declarations.specs.Entering.{put_row}
 
 abbrev pub One : Reader ℕ → Type 0

@@ -10,14 +10,14 @@ ghost use Rattle.eb3.specs.Reading.{Reader, number_of, counted};
 ghost use Rattle.eb3.specs.RuleReading.{read_domains};
 ghost use Rattle.scan.specs.Checking.{Checked, checked};
 ghost use Rattle.scan.specs.Ends.{Ends};
-ghost use Rattle.arguments.specs.Layout.{label_count, label_words};
+ghost use Rattle.tables.specs.Layout.{label_count, label_words};
 ghost use Rattle.declarations.specs.Entering.{Entered, CellsBound};
 ghost use Rattle.declarations.specs.Directory.{row_width};
 ghost use Rattle.declarations.specs.Noting.{LabelsNoted, ExpressionsNoted, FunctionNoted, FunctionsNoted};
 
-use arguments::layout::{AT_LABELS, AT_START, FIRST_CELL, LABEL_ROWS, LABEL_WORDS};
-use arguments::{domains, labels, row_at, size_of};
-use grammar::{Scope, check_data};
+use tables::layout::{AT_LABELS, AT_START, FIRST_CELL, LABEL_ROWS, LABEL_WORDS};
+use tables::{domains, labels, row_at, size_of};
+use expression_check::{Scope, check_data};
 use refusals::Refusal;
 use scan::{count, first, last, number};
 

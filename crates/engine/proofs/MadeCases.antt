@@ -5,8 +5,8 @@ use Prim.Native.Nat.{ℕ, ◌/◌, ◌≤◌}
 use lib.ListN.{length, take, drop}
 use Rattle.std.specs.Prelude.{Result}
 use Rattle.eb3.specs.Blocks.{stream}
-use Rattle.weights.specs.declared.Limits.{Limits}
-use Rattle.arguments.specs.Layout.{label_count, function_count}
+use Rattle.measures.specs.declared.Limits.{Limits}
+use Rattle.tables.specs.Layout.{label_count, function_count}
 use Rattle.admission.specs.Knowing.{Known}
 use Rattle.runs.specs.declared.admitted.Admitted.{Admitted}
 use Rattle.given.specs.declared.giving.Given.{Given}

@@ -23,7 +23,7 @@ use Rattle.readers.specs.Table.{counted_by}
 use Rattle.readers.proofs.Laws.Counting.{zeros, counted_increases}
 use Rattle.runs.specs.MainProcess.{RunsMain}
 use Rattle.runs.specs.declared.main_process.Totals.{Totals}
-use Rattle.weights.specs.declared.Limits.{Limits}
+use Rattle.measures.specs.declared.Limits.{Limits}
 use Rattle.admission.specs.Knowing.{Known}
 use Rattle.engine.specs.Running.{RunDone}
 use Rattle.engine.specs.Laws.Running.{run_refused, run_short_term, run_short_memory, run_short_spare_term, run_short_spare_memory, run_not_through, run_done}

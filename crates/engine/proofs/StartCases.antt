@@ -19,8 +19,8 @@ use Rattle.eb3.proofs.Laws.Spelling.{words_length}
 use Rattle.eb3.proofs.Laws.MainRunning.{main_running}
 use Rattle.eb3.specs.Operations.{main_reach, cells_needed}
 use Rattle.eb3.proofs.Laws.Editions.{width_is_1}
-use Rattle.weights.specs.declared.Limits.{Limits}
-use Rattle.arguments.specs.Layout.{label_count, function_count}
+use Rattle.measures.specs.declared.Limits.{Limits}
+use Rattle.tables.specs.Layout.{label_count, function_count}
 use Rattle.declarations.specs.Directory.{Directory}
 use Rattle.cells.specs.Laws.Readying.{few}
 use Rattle.steps.specs.Laws.Ruled.{tables_few}

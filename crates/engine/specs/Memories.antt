@@ -14,7 +14,7 @@ use Rattle.eb3.specs.Spelling.{words}
 use Rattle.eb3.specs.Bytes.{word_count, written}
 use Rattle.eb3.specs.Memory.{cell_room, memory_words}
 use Rattle.eb3.specs.Operations.{cells_needed}
-use Rattle.arguments.specs.Layout.{label_count, function_count}
+use Rattle.tables.specs.Layout.{label_count, function_count}
 use Rattle.declarations.specs.Directory.{Directory, row_width, at_start_in}
 use Rattle.expressions.specs.Stores.{now_place}
 use Rattle.cells.specs.Laws.Cells.{cells_counted}

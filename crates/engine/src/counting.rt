@@ -9,7 +9,7 @@ ghost use Rattle.engine.specs.Describing.{DescribedBy};
 ghost use Rattle.engine.specs.Counting.{counted_as};
 
 use super::{LONGEST_TERM, MIDDLE_TERM, SHORT_TERM, room};
-use arguments::layout::TABLES;
+use tables::layout::TABLES;
 use blocks::opened::Blocks;
 use blocks::{CONTENT_WORDS, WORDS_OF_8, WORDS_OF_64, open};
 use declarations::DIRECTORY;

@@ -5,7 +5,7 @@ ghost use Rattle.engine.specs.Running.{RunDone};
 
 use super::room;
 use admission::admit_in;
-use arguments::layout::TABLES;
+use tables::layout::TABLES;
 use blocks::opened::Blocks;
 use blocks::{CONTENT_WORDS, WORDS_OF_8, WORDS_OF_64, open};
 use declarations::DIRECTORY;

@@ -7,7 +7,7 @@ ghost use Rattle.engine.specs.Starting.{StartDone};
 
 use super::room;
 use admission::admit_in;
-use arguments::layout::{AT_START, TABLES};
+use tables::layout::{AT_START, TABLES};
 use blocks::opened::Blocks;
 use blocks::{CONTENT_WORDS, WORDS_OF_8, WORDS_OF_64, open};
 use cells::{fill, lay, save};

@@ -15,7 +15,7 @@ ghost use Rattle.engine.specs.Stepping.{told, SameBuffers, Done, move_at, steppe
 
 use super::{LONGEST_TERM, MIDDLE_TERM, SHORT_TERM, room};
 use actions::{argument_at, argument_count, label_of};
-use arguments::layout::TABLES;
+use tables::layout::TABLES;
 use blocks::opened::Blocks;
 use blocks::{CONTENT_WORDS, WORDS_OF_8, WORDS_OF_64, open};
 use cells::save;

@@ -13,12 +13,12 @@ use Rattle.eb3.specs.WellFormedness.{Form, Running as RunningTerm}
 use Rattle.eb3.specs.TermReading.{given_term, leaf_of, given_event}
 use Rattle.eb3.proofs.Laws.TermReading.{given_term_exact}
 use Rattle.eb3.proofs.Laws.Editions.{width_is_1}
-use Rattle.arguments.specs.Tables.{edition_in, declared}
+use Rattle.tables.specs.Tables.{edition_in, declared}
 use Rattle.declarations.specs.Declaring.{Declares}
 use Rattle.declarations.specs.Laws.Declaring.{declared_alike}
-use Rattle.terms.specs.declared.Given.{Given}
-use Rattle.terms.specs.Given.{given}
-use Rattle.terms.specs.Laws.Reading.Alike.{given_term_alike}
+use Rattle.term_check.specs.declared.Given.{Given}
+use Rattle.term_check.specs.Given.{given}
+use Rattle.term_check.specs.Laws.Reading.Alike.{given_term_alike}
 use Rattle.actions.specs.Codes.{action_code, ActionAt}
 use Rattle.actions.specs.Laws.Actions.{action_small}
 use Rattle.events.specs.Events.{event_as}

@@ -27,14 +27,14 @@ use Rattle.eb3.proofs.Laws.Answers.{not_both, answered_injective}
 use Rattle.eb3.specs.Operations.{term_in}
 use Rattle.eb3.specs.Answers.{or_refused}
 use Rattle.eb3.proofs.Laws.Editions.{width_is_1}
-use Rattle.arguments.specs.Tables.{edition_in, declared}
+use Rattle.tables.specs.Tables.{edition_in, declared}
 use Rattle.declarations.specs.Declaring.{Declares}
 use Rattle.declarations.specs.Laws.Declaring.{declared_alike}
 use Rattle.cells.specs.Preparing.{Loaded}
 use Rattle.cells.specs.Laws.Memory.{loaded_words}
-use Rattle.terms.specs.Given.{given}
-use Rattle.terms.specs.Laws.Reading.Alike.{given_term_alike}
-use Rattle.terms.specs.declared.Given.{Given as Weighed}
+use Rattle.term_check.specs.Given.{given}
+use Rattle.term_check.specs.Laws.Reading.Alike.{given_term_alike}
+use Rattle.term_check.specs.declared.Given.{Given as Weighed}
 use Rattle.given.specs.declared.giving.Given.{Given}
 use Rattle.given.specs.Giving.{checked_as, Spelled, TermChecked, found_term}
 use Rattle.refusals.specs.declared.Refusal.{Refusal}

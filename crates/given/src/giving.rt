@@ -7,12 +7,12 @@ ghost use Rattle.declarations.specs.Declaring.{Declares};
 ghost use Rattle.given.specs.Giving.{TermChecked, GivenDone};
 
 use admission::admit_in;
-use arguments::layout::TABLES;
+use tables::layout::TABLES;
 use blocks::opened::Blocks;
 use cells::load;
 use declarations::DIRECTORY;
 use refusals::Refusal;
-use terms::given_term;
+use term_check::given_term;
 
 // The cells of the rule set and the reach of the term.
 #[derive(Clone, Copy)]

@@ -14,7 +14,7 @@ ghost use Rattle.listing.specs.Listing.{TermAt, Listed};
 ghost use Rattle.listing.specs.Rows.{RowAt};
 
 use actions::{behind_action, code_at, in_set, join, mask_set};
-use arguments::MASK_WORDS;
+use tables::MASK_WORDS;
 use code_numbers::{ACTION, CHOICE, DONE, GUARD, INTERNAL, PARALLEL, SEQUENCE, STAR};
 use codes::EDITION_1;
 use combining::combine;

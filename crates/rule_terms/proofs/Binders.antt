@@ -20,12 +20,12 @@ use Rattle.eb3.proofs.Laws.Measures.{guard_size_one}
 use Rattle.scan.specs.Checking.{checked, last_of, Checked}
 use Rattle.scan.specs.Readings.{Taken}
 use Rattle.scan.specs.Laws.Reading.{checked_refused, checked_taken, giving_refused_as, giving_taken, both_first_as, both_second_as, both_taken, by_number_refused, by_number_taken}
-use Rattle.grammar.specs.Laws.Reading.{cond_ends}
-use Rattle.weights.specs.declared.Weight.{Weight}
-use Rattle.weights.specs.Weighing.{cap, measure}
-use Rattle.arguments.specs.Layout.{domain_count, function_count}
-use Rattle.arguments.specs.Tables.{declared, callee}
-use Rattle.arguments.specs.Laws.Tables.{domains_length, guard_declared}
+use Rattle.expression_check.specs.Laws.Reading.{cond_ends}
+use Rattle.measures.specs.declared.Weight.{Weight}
+use Rattle.measures.specs.Weighing.{cap, measure}
+use Rattle.tables.specs.Layout.{domain_count, function_count}
+use Rattle.tables.specs.Tables.{declared, callee}
+use Rattle.tables.specs.Laws.Tables.{domains_length, guard_declared}
 use Rattle.rule_terms.specs.Weighed.{weighed, terms, answer, mask_if, copies_of, quantifier, weighed_copies, Answer, found}
 use Rattle.rule_terms.specs.Laws.Weighed.{weighed_in, refused_in}
 use Rattle.rule_terms.proofs.Parts.{got_term, no_term, behind_got, refused_behind}

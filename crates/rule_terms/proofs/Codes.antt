@@ -16,15 +16,15 @@ use Rattle.codes.specs.declared.Due.TheVariants.{RuleTerm as DueTerm}
 use Rattle.codes.specs.Sorts.{code_due}
 use Rattle.codes.specs.Laws.Sorts.{no_rule_term}
 use Rattle.codes.specs.Laws.Due.{code_taken, code_refused}
-use Rattle.weights.specs.declared.Weight.{Weight}
-use Rattle.weights.specs.Weighing.{cap, measure}
-use Rattle.arguments.specs.Tables.{declared, callee}
+use Rattle.measures.specs.declared.Weight.{Weight}
+use Rattle.measures.specs.Weighing.{cap, measure}
+use Rattle.tables.specs.Tables.{declared, callee}
 use Rattle.rule_terms.specs.Weighed.{weighed, terms, answer, weighed_two, Answer, found}
 use Rattle.rule_terms.specs.Laws.Reading.{term_case}
 use Rattle.rule_terms.specs.Laws.Weighed.{weighed_in}
 use Rattle.rule_terms.proofs.Parts.{two_first, two_second, two_in, weighed_sequence, weighed_choice, parallel_none, parallel_in, copies_none, copies_out, copies_in}
 use Rattle.rule_terms.proofs.Binders.{guard_none, guard_out, guard_in, quantified_none, quantified_in}
-use Rattle.weights.specs.declared.Joint.TheVariants.{Sequence as InSequence, Choice as InChoice}
+use Rattle.measures.specs.declared.Joint.TheVariants.{Sequence as InSequence, Choice as InChoice}
 use Rattle.std.specs.Prelude.{Ok, Err, IsErr, IsErrAnd}
 use Rattle.refusals.specs.declared.Refusal.{Refusal}
 use Rattle.refusals.specs.declared.Refusal.TheVariants.{Form}

@@ -13,11 +13,11 @@ use Rattle.eb3.specs.RuleReading.{arguments_of, rule_action_of, call_of}
 use Rattle.scan.specs.Checking.{checked, last_of, Checked}
 use Rattle.scan.specs.Readings.{Taken}
 use Rattle.scan.specs.Laws.Reading.{checked_refused, checked_taken, giving_refused_as, giving_taken, by_number_refused, by_number_taken, number_below, same_refused}
-use Rattle.weights.specs.declared.Weight.{Weight}
-use Rattle.weights.specs.Weighing.{cap, measure}
-use Rattle.arguments.specs.Layout.{label_place, process_place, label_count, process_count, size_at, reach_at, breadth_at}
-use Rattle.arguments.specs.Tables.{row, declared, callee}
-use Rattle.arguments.specs.Laws.Tables.{labels_length, label_at, processes_length, process_at, arguments_end, arguments_count}
+use Rattle.measures.specs.declared.Weight.{Weight}
+use Rattle.measures.specs.Weighing.{cap, measure}
+use Rattle.tables.specs.Layout.{label_place, process_place, label_count, process_count, size_at, reach_at, breadth_at}
+use Rattle.tables.specs.Tables.{row, declared, callee}
+use Rattle.tables.specs.Laws.Tables.{labels_length, label_at, processes_length, process_at, arguments_end, arguments_count}
 use Rattle.rule_terms.specs.Weighed.{weighed, found}
 use Rattle.rule_terms.specs.Laws.Weighed.{weighed_in, refused_in}
 use Rattle.std.specs.Prelude.{Ok, Err}

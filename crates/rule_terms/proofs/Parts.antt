@@ -15,19 +15,19 @@ use Rattle.scan.specs.Ends.{Ends}
 use Rattle.scan.specs.Laws.Checking.{tail_here}
 use Rattle.scan.specs.Readings.{Taken, RefusedAs}
 use Rattle.scan.specs.Laws.Reading.{checked_refused, checked_taken, giving_refused_as, both_first_as, both_second_as, both_taken, same_refused}
-use Rattle.weights.specs.declared.Weight.{Weight}
-use Rattle.weights.specs.Weighing.{cap, measure, weight, joint_of}
-use Rattle.arguments.specs.Layout.{label_count}
-use Rattle.arguments.specs.Tables.{declared, callee}
-use Rattle.arguments.specs.Laws.Tables.{labels_length, mask_read}
+use Rattle.measures.specs.declared.Weight.{Weight}
+use Rattle.measures.specs.Weighing.{cap, measure, weight, joint_of}
+use Rattle.tables.specs.Layout.{label_count}
+use Rattle.tables.specs.Tables.{declared, callee}
+use Rattle.tables.specs.Laws.Tables.{labels_length, mask_read}
 use Rattle.rule_terms.specs.declared.Weighed.{Weighed}
 use Rattle.rule_terms.specs.Weighed.{weighed, terms, answer, weighed_two, mask_if, copies_of, weighed_copies, Answer, found}
 use Rattle.rule_terms.specs.Laws.Reading.{term_ends, rule_mask_ends}
 use Rattle.rule_terms.specs.Laws.Weighed.{weighed_out, weighed_got, refused_in}
 use Rattle.std.specs.Prelude.{Ok, Err}
 use Rattle.refusals.specs.declared.Refusal.{Refusal}
-use Rattle.weights.specs.declared.Joint.{Joint}
-use Rattle.weights.specs.declared.Joint.TheVariants.{Sequence as InSequence, Choice as InChoice, Parallel as InParallel}
+use Rattle.measures.specs.declared.Joint.{Joint}
+use Rattle.measures.specs.declared.Joint.TheVariants.{Sequence as InSequence, Choice as InChoice, Parallel as InParallel}
 use Rattle.rule_terms.specs.declared.Quantifier.{Quantifier}
 use Rattle.rule_terms.specs.declared.Quantifier.TheVariants.{Choice, Parallel}
 

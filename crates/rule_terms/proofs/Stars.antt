@@ -7,9 +7,9 @@ use Rattle.eb3.specs.RuleSets.{RuleTerm, rule_star, RuleSet}
 use Rattle.eb3.specs.Measures.{sat, Measure, star_of, measure_term}
 use Rattle.eb3.specs.Reading.{Read, taken, pick, giving}
 use Rattle.eb3.specs.RuleReading.{RuleKind, rule_kind, read_rule_term}
-use Rattle.weights.specs.declared.Weight.{Weight}
-use Rattle.weights.specs.Weighing.{cap, measure, stars_of}
-use Rattle.arguments.specs.Tables.{declared, callee}
+use Rattle.measures.specs.declared.Weight.{Weight}
+use Rattle.measures.specs.Weighing.{cap, measure, stars_of}
+use Rattle.tables.specs.Tables.{declared, callee}
 use Rattle.scan.specs.Repeats.{leading}
 use Rattle.scan.specs.Laws.Repeats.{leading_short, leading_stops}
 use Rattle.scan.specs.Readings.{RefusedAs}

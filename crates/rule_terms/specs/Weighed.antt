@@ -7,10 +7,10 @@ use Rattle.eb3.specs.Measures.{sat, Measure, nothing, choice_of, measure_term}
 use Rattle.eb3.specs.Unfolding.{right_nest}
 use Rattle.eb3.specs.Reading.{Read, refused, taken, Reader}
 use Rattle.eb3.specs.RuleReading.{rule_mask_of, RuleKind, read_rule_term}
-use Rattle.weights.specs.declared.Weight.{Weight}
-use Rattle.weights.specs.Weighing.{cap, weight, parallel_by, joint_of}
-use Rattle.weights.specs.declared.Joint.{Joint}
-use Rattle.arguments.specs.Tables.{declared, callee}
+use Rattle.measures.specs.declared.Weight.{Weight}
+use Rattle.measures.specs.Weighing.{cap, weight, parallel_by, joint_of}
+use Rattle.measures.specs.declared.Joint.{Joint}
+use Rattle.tables.specs.Tables.{declared, callee}
 use Rattle.refusals.specs.declared.Refusal.{Refusal}
 use Rattle.refusals.specs.Numbers.{refusal}
 use Rattle.rule_terms.specs.declared.Weighed.{Weighed}

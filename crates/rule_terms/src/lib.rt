@@ -8,15 +8,15 @@ ghost use Rattle.eb3.specs.Scopes.{guard_scope};
 ghost use Rattle.eb3.specs.Reading.{both};
 ghost use Rattle.eb3.specs.ExpressionReading.{read_cond};
 ghost use Rattle.eb3.specs.RuleReading.{rule_action_of, call_of, RuleKind, rule_by, read_rule_term};
-ghost use Rattle.weights.specs.Weighing.{measure};
-ghost use Rattle.arguments.specs.Tables.{declared, callee};
+ghost use Rattle.measures.specs.Weighing.{measure};
+ghost use Rattle.tables.specs.Tables.{declared, callee};
 ghost use Rattle.scan.specs.Checking.{checked};
 ghost use Rattle.rule_terms.specs.Weighed.{weighed, terms, answer, weighed_two, weighed_copies, mask_if, copies_of, quantifier};
 
-use arguments::layout::{
+use tables::layout::{
     BREADTH, LABEL_ROWS, LABEL_WORDS, PROCESS_ROWS, PROCESS_WORDS, REACH, SIZE,
 };
-use arguments::{
+use tables::{
     Context, MASK_WORDS, check_arguments, check_mask, domains, entry, functions, labels, mask_zero,
     processes, row_at, size_of, with,
 };
@@ -24,11 +24,11 @@ use code_numbers::{
     ACTION, CHOICE, CHOICE_OVER, GUARD, INTERNAL, PARALLEL, PARALLEL_OVER, SEQUENCE, STAR,
 };
 use codes::{Due, code_due};
-use grammar::{Scope, check_cond};
+use expression_check::{Scope, check_cond};
 use refusals::Refusal;
 use scan::repeats::leading;
 use scan::{after, behind, first, last, number};
-use weights::{Joint, Weight, empty, guard, joined, single, stars};
+use measures::{Joint, Weight, empty, guard, joined, single, stars};
 
 // The most variables in scope: a process's parameters, and one for each quantifier around.
 const VARIABLES: usize = 8;
@@ -173,13 +173,13 @@ fn mask_if(over: Quantifier, t: &[u16], tb: &[u32]) -> Result<usize, Refusal>
 
 // Copies of a term of that weight, n of them.
 // Stays: whether the mask is zero is a Bool, as in `weights`, whose line says why.
-#[tactic(auto, unfolding(crate::specs::Weighed::copies_of, weights::specs::Weighing::joint_of))]
+#[tactic(auto, unfolding(crate::specs::Weighed::copies_of, measures::specs::Weighing::joint_of))]
 fn copied(over: Quantifier, n: usize, zero: bool, a: Weight) -> Weight
     ensures { measure result ≡ copies_of over zero n (measure a) }
 {
     match over {
-        Quantifier::Choice => weights::copies(Joint::Choice, n, a),
-        Quantifier::Parallel => weights::copies(Joint::Parallel(zero), n, a),
+        Quantifier::Choice => measures::copies(Joint::Choice, n, a),
+        Quantifier::Parallel => measures::copies(Joint::Parallel(zero), n, a),
     }
 }
 

@@ -16,10 +16,10 @@ use Rattle.scan.specs.Laws.Checking.{tail_at, tail_on, last_tail}
 use Rattle.scan.specs.Readings.{RefusedAs}
 use Rattle.scan.specs.Laws.Reading.{checked_refused, then_refused_as, then_taken, not_taken, same_refused}
 use Rattle.scan.specs.Laws.Rows.{count_word}
-use Rattle.weights.specs.Weighing.{cap, weight}
-use Rattle.arguments.specs.Layout.{tables_length, functions_place, domain_count, label_count}
-use Rattle.arguments.specs.Tables.{edition_in, declared}
-use Rattle.arguments.specs.Laws.Tables.{domains_length, labels_length}
+use Rattle.measures.specs.Weighing.{cap, weight}
+use Rattle.tables.specs.Layout.{tables_length, functions_place, domain_count, label_count}
+use Rattle.tables.specs.Tables.{edition_in, declared}
+use Rattle.tables.specs.Laws.Tables.{domains_length, labels_length}
 use Rattle.declarations.specs.declared.Counted.{Counted}
 use Rattle.declarations.specs.Entering.{labels_of, all_cells, functions_cells, found_cells}
 use Rattle.declarations.specs.Declaring.{Heads, Tables}

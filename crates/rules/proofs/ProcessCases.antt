@@ -10,17 +10,17 @@ use Rattle.eb3.specs.RuleSets.{RuleTerm, Process, RuleSet}
 use Rattle.eb3.specs.Measures.{Measure}
 use Rattle.eb3.specs.Reading.{Read, refused, taken, giving, then, counted, number_of}
 use Rattle.eb3.specs.RuleReading.{parameter_limit, read_rule_term, read_process, read_processes}
-use Rattle.weights.specs.Weighing.{measure}
-use Rattle.weights.specs.declared.Weight.{Weight}
+use Rattle.measures.specs.Weighing.{measure}
+use Rattle.measures.specs.declared.Weight.{Weight}
 use Rattle.scan.specs.Checking.{checked, last_of, Checked}
 use Rattle.scan.specs.Ends.{Tail}
 use Rattle.scan.specs.Laws.Checking.{tail_on, last_tail, last_all, last_last, last_length}
 use Rattle.std.proofs.Common.{le_refl}
 use Rattle.rule_terms.specs.declared.Weighed.{Weighed}
 use Rattle.rule_terms.specs.Weighed.{weighed, Answer, found}
-use Rattle.arguments.specs.Layout.{processes_place, process_place, size_in, reach_in, breadth_in, body_in, domain_count, process_count}
-use Rattle.arguments.specs.Tables.{row, declared, callee}
-use Rattle.arguments.specs.Laws.Tables.{domains_length}
+use Rattle.tables.specs.Layout.{processes_place, process_place, size_in, reach_in, breadth_in, body_in, domain_count, process_count}
+use Rattle.tables.specs.Tables.{row, declared, callee}
+use Rattle.tables.specs.Laws.Tables.{domains_length}
 use Rattle.declarations.specs.Declaring.{Declares, entered_process}
 use Rattle.declarations.specs.Laws.Declaring.{entered_length}
 use Rattle.declarations.specs.Bounds.{Bounded}

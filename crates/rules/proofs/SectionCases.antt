@@ -17,9 +17,9 @@ use Rattle.scan.specs.Laws.Checking.{tail_on, number_ends, got, last_tail}
 use Rattle.scan.specs.Readings.{RefusedAs}
 use Rattle.scan.specs.Laws.Reading.{checked_refused, then_refused_as, then_taken, not_taken, same_refused}
 use Rattle.scan.specs.Laws.Rows.{count_word, repeat_ends, counted_ends}
-use Rattle.arguments.specs.Layout.{tables_length, labels_place, label_place, processes_place, process_place, domain_count, label_count, process_count, domains_place}
-use Rattle.arguments.specs.Tables.{edition_in, row, declared}
-use Rattle.arguments.specs.Laws.Tables.{domains_length}
+use Rattle.tables.specs.Layout.{tables_length, labels_place, label_place, processes_place, process_place, domain_count, label_count, process_count, domains_place}
+use Rattle.tables.specs.Tables.{edition_in, row, declared}
+use Rattle.tables.specs.Laws.Tables.{domains_length}
 use Rattle.declarations.specs.Entering.{put_rows, Entered}
 use Rattle.declarations.specs.Declaring.{Heads, Tables, Declares}
 use Rattle.declarations.specs.Laws.Declaring.{domains_counted, domains_entered, labels_counted, labels_entered, processes_start}

@@ -5,7 +5,7 @@ use Rattle.eb3.specs.RuleSets.{Function, RuleSet}
 use Rattle.eb3.specs.Reading.{taken, Reader}
 use Rattle.eb3.specs.RuleReading.{read_processes, read_rules}
 use Rattle.scan.specs.Ends.{Tail}
-use Rattle.arguments.specs.Tables.{edition_in, declared}
+use Rattle.tables.specs.Tables.{edition_in, declared}
 use Rattle.declarations.specs.Declaring.{Heads, Tables, Declares}
 use Rattle.declarations.specs.Bounds.{Narrow}
 use Rattle.declarations.specs.Directory.{ProcessRows, Directory, row_width}

@@ -7,8 +7,8 @@ use Rattle.eb3.specs.RuleSets.{Function, Process, RuleSet, attributes}
 use Rattle.eb3.specs.Measures.{sat, Measure, measure_term, measure_main}
 use Rattle.eb3.specs.Reading.{Read, refused, taken, Reader, then, count_of}
 use Rattle.eb3.specs.RuleReading.{read_labels, read_functions, read_processes, without_processes}
-use Rattle.weights.specs.declared.Weight.{Weight}
-use Rattle.weights.specs.Weighing.{cap, weight}
+use Rattle.measures.specs.declared.Weight.{Weight}
+use Rattle.measures.specs.Weighing.{cap, weight}
 use Rattle.rules.specs.declared.Rules.{Rules}
 use Rattle.refusals.specs.declared.Refusal.{Refusal}
 use Rattle.refusals.specs.Numbers.{refusal}

@@ -4,23 +4,23 @@
 
 ghost use Rattle.std.specs.Prelude.{◌≡◌, List, [], ◌∷◌, ◌++◌, ℕ, ◌+◌, ◌-◌, ◌*◌, ◌≤◌, ◌<◌, drop, take, get_or, length, set};
 ghost use Rattle.eb3.specs.RuleReading.{parameter_limit, read_process};
-ghost use Rattle.arguments.specs.Layout.{domain_count, process_count};
-ghost use Rattle.arguments.specs.Tables.{declared, callee};
+ghost use Rattle.tables.specs.Layout.{domain_count, process_count};
+ghost use Rattle.tables.specs.Tables.{declared, callee};
 ghost use Rattle.declarations.specs.Declaring.{entered_process};
 ghost use Rattle.declarations.specs.Bounds.{Bounded};
 ghost use Rattle.rules.specs.Sections.{process_weighed};
 ghost use Rattle.rules.specs.Filling.{ProcessesRead, ProcessSectionRead, FunctionSectionRead, LabelSectionRead, RulesRead};
 
-use arguments::layout::{
+use tables::layout::{
     BODY, BREADTH, DOMAINS, FUNCTIONS, LABEL_ROWS, LABELS, PROCESS_ROWS, PROCESS_WORDS, PROCESSES,
     REACH, SIZE, TABLES,
 };
-use arguments::{Context, domains};
+use tables::{Context, domains};
 use declarations::{check_domains, copy, enter_labels, functions, parameters};
 use refusals::Refusal;
 use rule_terms::{Weighed, check_term};
 use scan::{count, first, last};
-use weights::{Weight, empty};
+use measures::{Weight, empty};
 
 // What a rule set comes to: how many words are left after it, its cells, and main's measures.
 #[derive(Clone, Copy)]

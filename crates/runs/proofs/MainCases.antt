@@ -27,7 +27,7 @@ use Rattle.eb3.specs.WellFormedness.{WellFormed, Running}
 use Rattle.eb3.specs.Answers.{answered, Ran}
 use Rattle.eb3.specs.Operations.{cells_needed, main_reach}
 use Rattle.eb3.proofs.Laws.Editions.{width_is_1}
-use Rattle.arguments.specs.Layout.{label_count, function_count}
+use Rattle.tables.specs.Layout.{label_count, function_count}
 use Rattle.expressions.specs.Stores.{now_place, store_length}
 use Rattle.cells.specs.Preparing.{Loaded}
 use Rattle.cells.specs.Laws.Memory.{held_words, written_loaded}

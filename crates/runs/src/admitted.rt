@@ -1,10 +1,10 @@
 // The rule set that was admitted, in the form that the later steps use, and what a run of it is given (document 01, "Operations": each begins with Admit; Run;
 // document 02, K1).
 ghost use Rattle.std.specs.Prelude.{◌≡◌, ◌+◌, ◌≤◌, length, get_or};
-ghost use Rattle.arguments.specs.Layout.{label_count, function_count};
+ghost use Rattle.tables.specs.Layout.{label_count, function_count};
 ghost use Rattle.declarations.specs.Directory.{row_width};
 
-use arguments::layout::TABLES;
+use tables::layout::TABLES;
 use cells::Functions;
 
 /// An admitted rule set: its functions, and the tables that they belong to.

@@ -4,7 +4,7 @@ ghost use Rattle.std.specs.Prelude.{◌≤◌, length, IfSome};
 ghost use Rattle.sharing.specs.Masks.{Bare, Shareable};
 
 use actions::behind_action;
-use arguments::mask_zero;
+use tables::mask_zero;
 use code_numbers::{ACTION, CHOICE, GUARD, PARALLEL, SEQUENCE, STAR};
 use listing::behind_mask;
 use scan::{behind, first, last};

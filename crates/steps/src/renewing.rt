@@ -7,7 +7,7 @@ ghost use Rattle.steps.specs.Storing.{StoreRenewed};
 ghost use Rattle.steps.specs.Keeping.{Kept, Given};
 
 use actions::{argument_at, label_of};
-use arguments::layout::AT_LABELS;
+use tables::layout::AT_LABELS;
 use cells::{Functions, copy_cells, fill};
 use expressions::store;
 

@@ -2,7 +2,7 @@
 ghost use Rattle.std.specs.Prelude.{◌≡◌, length};
 ghost use Rattle.steps.specs.Storing.{StoreLoaded, StoreStarted};
 
-use arguments::layout::AT_START;
+use tables::layout::AT_START;
 use cells::{Functions, fill, lay, load};
 use expressions::store;
 

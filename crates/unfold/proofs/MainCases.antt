@@ -13,7 +13,7 @@ use Rattle.eb3.specs.Generic.Lists.{Within}
 use Rattle.eb3.specs.RuleSets.{RuleSet, sizes_of, process, main_process}
 use Rattle.eb3.specs.Spelling.{words}
 use Rattle.eb3.specs.Unfolding.{unfold_main}
-use Rattle.arguments.specs.Layout.{process_count, body_at}
+use Rattle.tables.specs.Layout.{process_count, body_at}
 use Rattle.unfold.specs.declared.writer.Writer.{Writer}
 use Rattle.unfold.specs.Written.{written_from}
 use Rattle.unfold.specs.Unfolded.{Ready, RuleTermAt, unfolded_words, Unfolding, UnfoldedInto}

@@ -16,8 +16,8 @@ use Rattle.std.specs.Int.{w16, to_le_bytes}
 use Rattle.eb3.specs.Bytes.{bytes_of, written}
 use Rattle.eb3.specs.Reading.{pick}
 use Rattle.scan.specs.Checking.{last_of}
-use Rattle.arguments.specs.Layout.{label_place}
-use Rattle.arguments.specs.Tables.{row}
+use Rattle.tables.specs.Layout.{label_place}
+use Rattle.tables.specs.Tables.{row}
 use Rattle.std.specs.Prelude.{Option, Some, None, ⊤, ◌⊎◌}
 use Rattle.codes.specs.Table.{words_after, operands_after}
 use Rattle.codes.specs.Shapes.{more_words}

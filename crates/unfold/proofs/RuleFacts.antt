@@ -10,9 +10,9 @@ use Rattle.eb3.specs.RuleSets.{Argument, Process, RuleSet, domain_size, label, n
 use Rattle.eb3.specs.RuleSpelling.{rule_words}
 use Rattle.eb3.specs.WellFormedness.{Form, ArgumentsFit}
 use Rattle.eb3.proofs.Laws.CellCounts.{one_arity}
-use Rattle.arguments.specs.Layout.{label_place, process_place, process_count, body_at}
-use Rattle.arguments.specs.Tables.{row, declared}
-use Rattle.arguments.specs.Laws.Tables.{labels_length, label_at, processes_length, process_at}
+use Rattle.tables.specs.Layout.{label_place, process_place, process_count, body_at}
+use Rattle.tables.specs.Tables.{row, declared}
+use Rattle.tables.specs.Laws.Tables.{labels_length, label_at, processes_length, process_at}
 use Rattle.declarations.specs.Directory.{Stands, ProcessRows}
 use Rattle.unfold.specs.Unfolded.{Ready}
 use Rattle.unfold.specs.Instantiation.{NoArguments, PlainData, PlainArgs, PlainCond}

@@ -22,8 +22,8 @@ use Rattle.eb3.proofs.Laws.Unfolding.{call_unfolds}
 use Rattle.eb3.proofs.Laws.Elements.{within_counted, within_more, arguments_within}
 use Rattle.eb3.specs.WellFormedness.{ArgumentsFit, Allowed}
 use Rattle.scan.specs.Checking.{last_of}
-use Rattle.arguments.specs.Layout.{label_place, process_place, body_at}
-use Rattle.arguments.specs.Tables.{from, row, declared}
+use Rattle.tables.specs.Layout.{label_place, process_place, body_at}
+use Rattle.tables.specs.Tables.{from, row, declared}
 use Rattle.unfold.specs.Unfolded.{Ready, unfolded_words}
 use Rattle.unfold.specs.Puts.{Exactly}
 use Rattle.unfold.specs.Instantiation.{Expression, value, test, expression_words, instantiate, PlainExpression}

@@ -11,8 +11,8 @@ use Rattle.eb3.specs.RuleSets.{domain_size}
 use Rattle.eb3.specs.RuleSpelling.{rule_words}
 use Rattle.scan.specs.Checking.{last_of}
 use Rattle.scan.specs.Laws.Checking.{nil_form}
-use Rattle.arguments.specs.Layout.{process_place, body_at}
-use Rattle.arguments.specs.Tables.{from, row, declared}
+use Rattle.tables.specs.Layout.{process_place, body_at}
+use Rattle.tables.specs.Tables.{from, row, declared}
 use Rattle.std.specs.Prelude.{Option, Some, None, ⊤}
 use Rattle.unfold.specs.declared.writer.Writer.{Writer}
 use Rattle.unfold.specs.Unfolded.{Unfolding}

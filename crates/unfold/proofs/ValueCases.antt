@@ -7,7 +7,7 @@ use native.Mathlib.Omega.{arith}
 use lib.ListN.{length, take, get_or, set}
 use lib.Seq.{take-suc-set}
 use borrow.Author.Tests.{eq-eqb, ne_eqb}
-use Rattle.arguments.specs.Tables.{from}
+use Rattle.tables.specs.Tables.{from}
 use Rattle.unfold.specs.Saying.{argument_at}
 
 -- ── arguments ──

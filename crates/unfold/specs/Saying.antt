@@ -4,8 +4,8 @@ use Rattle.std.specs.Prelude.{◌≡◌, List, [], ◌∷◌, ◌++◌, ℕ, zer
 use Rattle.eb3.specs.Reading.{pick}
 use Rattle.eb3.specs.RuleSets.{RuleTerm, RuleSet, domain_size}
 use Rattle.scan.specs.Checking.{last_of}
-use Rattle.arguments.specs.Layout.{label_place, process_place, body_at}
-use Rattle.arguments.specs.Tables.{from, row, declared}
+use Rattle.tables.specs.Layout.{label_place, process_place, body_at}
+use Rattle.tables.specs.Tables.{from, row, declared}
 use Rattle.unfold.specs.Unfolded.{Ready, RuleTermAt, unfolded_words}
 use Rattle.unfold.specs.Puts.{Exactly, Then}
 use Rattle.unfold.specs.Instantiation.{Instantiates}

@@ -19,8 +19,8 @@ mod scope;
 mod values;
 mod writer;
 
-use arguments::layout::{BODY, PROCESS_ROWS, PROCESS_WORDS};
-use arguments::{Context, MASK_WORDS, entry, processes, row_at, size_of, with};
+use tables::layout::{BODY, PROCESS_ROWS, PROCESS_WORDS};
+use tables::{Context, MASK_WORDS, entry, processes, row_at, size_of, with};
 use code_numbers::{
     ACTION, CALL, CHOICE, CHOICE_OVER, GUARD, INTERNAL, PARALLEL, PARALLEL_OVER, SEQUENCE, STAR,
 };

@@ -7,8 +7,8 @@ ghost use Rattle.unfold.specs.Saying.{Performs, Conditions};
 
 use super::scope::Scope;
 use super::writer::Writer;
-use arguments::layout::{LABEL_ROWS, LABEL_WORDS};
-use arguments::row_at;
+use tables::layout::{LABEL_ROWS, LABEL_WORDS};
+use tables::row_at;
 use code_numbers::{ACTION, CONSTANT, GUARD, VARIABLE};
 use codes::{EDITION_1, code_at, operands_after, words_after};
 use scan::{behind, first, last};

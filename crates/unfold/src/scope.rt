@@ -1,7 +1,7 @@
 // What a term is unfolded with (document 01, "Unfolding, size and breadth"). In a file of its own, since clauses of the other files name it.
 ghost use Rattle.std.specs.Prelude.{◌≤◌, length};
 
-use arguments::Context;
+use tables::Context;
 
 #[derive(Clone, Copy)]
 pub struct Scope<'a> {

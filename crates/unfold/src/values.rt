@@ -1,7 +1,7 @@
 // Values of variables: those of a call's arguments (document 01, "Blocks and the rule stream", item 5: at most eight
 // variables in scope).
 ghost use Rattle.std.specs.Prelude.{◌≡◌, ◌≤◌, length};
-ghost use Rattle.arguments.specs.Tables.{from};
+ghost use Rattle.tables.specs.Tables.{from};
 ghost use Rattle.unfold.specs.Saying.{argument_at};
 
 use code_numbers::VARIABLE;

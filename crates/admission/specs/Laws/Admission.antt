@@ -18,7 +18,7 @@ use Rattle.eb3.specs.Unfolding.{unfold_main}
 use Rattle.eb3.specs.Answers.{Answer, refused, answered, and_then}
 use Rattle.eb3.specs.Operations.{admit, sizes_needed}
 use Rattle.eb3.proofs.Laws.Answers.{and_then_answered, answered_injective, pick_answered, not_both}
-use Rattle.weights.specs.declared.Limits.{Limits}
+use Rattle.measures.specs.declared.Limits.{Limits}
 use Rattle.admission.specs.Answering.{limits, admitted}
 use Rattle.refusals.specs.declared.Refusal.{Refusal}
 use Rattle.refusals.specs.Numbers.{number, RefusedBy, refused_by}

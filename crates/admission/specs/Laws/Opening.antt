@@ -21,7 +21,7 @@ use Rattle.blocks.specs.Laws.Opening.{unopened}
 use Rattle.admission.specs.Answering.{admitted, read_whole}
 use Rattle.refusals.specs.declared.Refusal.{Refusal}
 use Rattle.refusals.specs.Numbers.{number, refused_by}
-use Rattle.weights.specs.declared.Limits.{Limits}
+use Rattle.measures.specs.declared.Limits.{Limits}
 
 -- ── the stream ──
 

@@ -22,9 +22,9 @@ use Rattle.eb3.proofs.Laws.Reading.{Sound, count_sound, counted_sound}
 use Rattle.eb3.proofs.Laws.RuleSets.{get_d_map, functions_counted, domain_is}
 use Rattle.eb3.proofs.Laws.Attributes.{no_domain_beyond}
 use Rattle.eb3.proofs.Laws.Signatures.{Alike, rows_grown}
-use Rattle.arguments.specs.Layout.{labels_place, functions_place, processes_place, process_place, size_in, reach_in, breadth_in, domain_count, label_count, process_count, body_at, label_words, domains_place, label_place, body_in}
-use Rattle.arguments.specs.Tables.{row, edition_in, declared, measure_row, callee}
-use Rattle.arguments.specs.Laws.Tables.{domains_length, domain_at, labels_length, label_at, guard_declared}
+use Rattle.tables.specs.Layout.{labels_place, functions_place, processes_place, process_place, size_in, reach_in, breadth_in, domain_count, label_count, process_count, body_at, label_words, domains_place, label_place, body_in}
+use Rattle.tables.specs.Tables.{row, edition_in, declared, measure_row, callee}
+use Rattle.tables.specs.Laws.Tables.{domains_length, domain_at, labels_length, label_at, guard_declared}
 use Rattle.declarations.specs.Entering.{put_row, put_rows}
 use Rattle.declarations.specs.Declaring.{Heads, Tables, Declares, entered_process}
 use Rattle.declarations.specs.Laws.Regions.{paste_before, paste_inside, row_is, row_kept, domains_kept, heads_kept, tables_kept, callee_at, callee_beyond, count_of_same, row_of_same, same_by_rows}

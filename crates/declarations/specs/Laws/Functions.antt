@@ -8,7 +8,7 @@ use Rattle.eb3.specs.RuleReading.{count_for, at_start_scope, at_label_scope, fun
 use Rattle.scan.specs.Ends.{Ends}
 use Rattle.scan.specs.Laws.Checking.{giving_fine, both_ends, number_ends}
 use Rattle.scan.specs.Laws.Rows.{repeat_ends, for_each_ends, series_ends}
-use Rattle.grammar.specs.Laws.Reading.{data_ends}
+use Rattle.expression_check.specs.Laws.Reading.{data_ends}
 
 module _ (L : Edition) (d : ℕ) (labels : List (List ℕ)) (counts : List ℕ) where
   pub function_ends : (i : ℕ) → Ends (read_function L d labels counts i)

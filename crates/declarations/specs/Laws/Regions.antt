@@ -14,9 +14,9 @@ use Rattle.eb3.specs.Generic.AllLists.{All, all_at}
 use Rattle.eb3.specs.RuleSets.{Function, Process, label, no_process}
 use Rattle.eb3.specs.Measures.{sat, nothing}
 use Rattle.eb3.proofs.Laws.Reading.{pick_true, pick_false}
-use Rattle.arguments.specs.Layout.{label_place, functions_place, processes_place, process_place, domain_count, label_count, process_count, domains_place, sizes_place, labels_place}
-use Rattle.arguments.specs.Tables.{row, declared, measure_row, callee}
-use Rattle.arguments.specs.Laws.Tables.{domains_length, domain_at, labels_length, label_at, processes_length, process_at}
+use Rattle.tables.specs.Layout.{label_place, functions_place, processes_place, process_place, domain_count, label_count, process_count, domains_place, sizes_place, labels_place}
+use Rattle.tables.specs.Tables.{row, declared, measure_row, callee}
+use Rattle.tables.specs.Laws.Tables.{domains_length, domain_at, labels_length, label_at, processes_length, process_at}
 use Rattle.declarations.specs.Declaring.{Heads, Tables}
 
 -- ── a copy, word by word ──

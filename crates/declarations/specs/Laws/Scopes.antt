@@ -7,8 +7,8 @@ use Rattle.std.proofs.lemmas.List.{length-replicate, get_or-replicate}
 use Rattle.std.proofs.Math.ListN.{get_or-eq_default}
 use Rattle.eb3.specs.Scopes.{Scope}
 use Rattle.eb3.specs.RuleReading.{at_start_scope, at_label_scope}
-use Rattle.grammar.specs.Scoping.{scope}
-use Rattle.arguments.specs.Tables.{edition_in}
+use Rattle.expression_check.specs.Scoping.{scope}
+use Rattle.tables.specs.Tables.{edition_in}
 
 pub one_each : (n f : ℕ) → ◌≡◌ {A = ℕ} (get_or (replicate n 1) f 1) 1
 one_each n f = go (dec_lt f n)

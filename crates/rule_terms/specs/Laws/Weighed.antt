@@ -14,8 +14,8 @@ use Rattle.scan.specs.Readings.{Taken, RefusedAs}
 use Rattle.scan.specs.Refusing.{refused_number}
 use Rattle.eb3.specs.RuleReading.{read_rule_term}
 use Rattle.eb3.proofs.Laws.Refusals.{Refuses, rule_term_refuses}
-use Rattle.weights.specs.declared.Weight.{Weight}
-use Rattle.weights.specs.Weighing.{cap, measure, weight}
+use Rattle.measures.specs.declared.Weight.{Weight}
+use Rattle.measures.specs.Weighing.{cap, measure, weight}
 use Rattle.rule_terms.specs.declared.Weighed.{Weighed}
 use Rattle.rule_terms.specs.Weighed.{weighed, found}
 use Rattle.refusals.specs.declared.Refusal.{Refusal}

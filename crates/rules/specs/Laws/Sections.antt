@@ -11,16 +11,16 @@ use Rattle.eb3.specs.Refusal
 use Rattle.eb3.specs.Reading.{Read, refused, taken, then, counted, number_of}
 use Rattle.eb3.specs.RuleSpelling.{rule_words}
 use Rattle.eb3.specs.RuleReading.{parameter_limit, read_rule_term, read_process, with_process, read_processes}
-use Rattle.weights.specs.Weighing.{cap, measure, weight}
-use Rattle.weights.specs.declared.Weight.{Weight}
+use Rattle.measures.specs.Weighing.{cap, measure, weight}
+use Rattle.measures.specs.declared.Weight.{Weight}
 use Rattle.scan.specs.Checking.{last_of}
 use Rattle.scan.specs.Ends.{Tail, Fine, Ends}
 use Rattle.scan.specs.Laws.Checking.{then_fine, giving_fine, tail_at, tail_short, number_ends}
 use Rattle.scan.specs.Laws.Rows.{counted_ends}
 use Rattle.rule_terms.specs.Laws.Reading.{term_ends}
-use Rattle.arguments.specs.Layout.{process_place, body_in, process_count, body_at}
-use Rattle.arguments.specs.Tables.{declared, callee}
-use Rattle.arguments.specs.Laws.Tables.{edition_declared}
+use Rattle.tables.specs.Layout.{process_place, body_in, process_count, body_at}
+use Rattle.tables.specs.Tables.{declared, callee}
+use Rattle.tables.specs.Laws.Tables.{edition_declared}
 use Rattle.declarations.specs.Declaring.{Declares, entered_process}
 use Rattle.declarations.specs.Laws.Declaring.{entered_before, entered_left}
 use Rattle.declarations.specs.Directory.{Stands, ProcessRows}

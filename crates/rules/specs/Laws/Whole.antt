@@ -21,8 +21,8 @@ use Rattle.eb3.specs.Admission.{all_zero, ends_right}
 use Rattle.eb3.specs.Judging.{judged}
 use Rattle.eb3.proofs.Laws.Judging.{whole_refused, whole_taken}
 use Rattle.eb3.specs.Judging.{whole_of}
-use Rattle.weights.specs.Weighing.{cap, measure}
-use Rattle.weights.specs.declared.Weight.{Weight}
+use Rattle.measures.specs.Weighing.{cap, measure}
+use Rattle.measures.specs.declared.Weight.{Weight}
 use Rattle.scan.specs.Checking.{last_of}
 use Rattle.scan.specs.Laws.Checking.{behind_part}
 use Rattle.scan.specs.Refusing.{refused_number}

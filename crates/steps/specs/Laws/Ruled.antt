@@ -5,8 +5,8 @@ use Rattle.std.proofs.Common.{ap, sym, ◌∙◌, arith}
 use Rattle.eb3.specs.Cells.{total_cells}
 use Rattle.eb3.specs.RuleSets.{RuleSet, attributes}
 use Rattle.eb3.specs.WellFormedness.{Form}
-use Rattle.arguments.specs.Layout.{label_count, function_count}
-use Rattle.arguments.specs.Laws.Tables.{labels_length}
+use Rattle.tables.specs.Layout.{label_count, function_count}
+use Rattle.tables.specs.Laws.Tables.{labels_length}
 use Rattle.declarations.specs.Directory.{Directory, row_width}
 use Rattle.steps.specs.Storing.{Ruled}
 

@@ -1,7 +1,7 @@
 use mathlib.Core.List.{◌∷◌}
 use mathlib.Core.Path.{refl, ap, ◌∙◌}
 use lib.Seq.{length-take-le}
-use Rattle.arguments.specs.Tables.{from}
+use Rattle.tables.specs.Tables.{from}
 use Rattle.unfold.specs.Saying.{argument_at}
 use Rattle.unfold.proofs.TermCases.{term_none, body_put, copies_full, copies_lost, copies_next, copies_last, terms, parts, quantifiers}
 use Rattle.unfold.proofs.RowCases.{last_size}

@@ -1,5 +1,5 @@
 use native.Mathlib.Omega.{arith}
-use Rattle.arguments.specs.Layout.{label_count}
+use Rattle.tables.specs.Layout.{label_count}
 use Rattle.declarations.proofs.LaterCases.{sofar_end, sofar_fail}
 use Rattle.scan.specs.Laws.Reading.{handed_err}
 use Rattle.declarations.proofs.Context.later.Goals as goal

@@ -1,4 +1,4 @@
-use Rattle.arguments.specs.Layout.{label_count}
+use Rattle.tables.specs.Layout.{label_count}
 use Rattle.declarations.proofs.LaterCases.{Sofar}
 use Rattle.declarations.proofs.Context.later.Given as goal
 

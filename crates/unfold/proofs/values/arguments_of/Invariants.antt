@@ -1,6 +1,6 @@
 use mathlib.Core.Path.{◌≡◌}
 use lib.ListN.{take}
-use Rattle.arguments.specs.Tables.{from}
+use Rattle.tables.specs.Tables.{from}
 use Rattle.unfold.specs.Saying.{argument_at}
 use Rattle.unfold.proofs.values.arguments_of.Given as goal
 

@@ -1,5 +1,0 @@
-use Rattle.arguments.proofs.Rounds.{Masked}
-use Rattle.arguments.proofs.check_mask.Given as goal
-
-abbrev pub invariant-loop-i : goal.invariant-loop-i
-invariant-loop-i l = Masked l.k l.n l.t l.i l.left

@@ -1,8 +1,0 @@
-use Rattle.grammar.proofs.Cases.{operand_taken, operand_refused}
-use Rattle.grammar.proofs.operand.Goals as goal
-
-pub returns-in_err-number : goal.returns-in_err-number
-returns-in_err-number c = operand_refused _ _ _ _ _ _ c.number.ensures _ _ c.in_err-number.was c.from_residual.ensures
-
-pub returns : goal.returns
-returns c = operand_taken _ _ _ _ _ _ c.number.ensures _ c.in_ok-number.was

@@ -1,0 +1,198 @@
+-- A case for each way that the checks of two terms, a parallel and a guard return. The premises have the form of what the code has there, so that
+-- `search` finds them.
+-- Document 01, "Unfolding, size and breadth"; refusal 10.
+use Prim.Native.Nat.{ℕ, ◌-◌, ◌%◌, ◌≤◌}
+use native.Mathlib.Omega.{arith}
+use mathlib.Core.Path.{◌≡◌, refl, sym, ap, ◌∙◌, subst}
+use mathlib.Core.Bool.{Bool}
+use mathlib.Core.List.{List, ◌++◌}
+use lib.ListN.{length, take, length-append}
+use Rattle.eb3.specs.Editions.{edition_1}
+use Rattle.eb3.specs.Expressions.{Cond}
+use Rattle.eb3.specs.Spelling.{cond_words}
+use Rattle.eb3.specs.Scopes.{Scope, guard_scope, CondInScope}
+use Rattle.eb3.specs.Terms
+use Rattle.eb3.specs.Terms.{Term, Guard, Mask}
+use Rattle.eb3.specs.Sizes.{cond_size, zero_mask}
+use Rattle.eb3.specs.RuleSets.{attributes}
+use Rattle.eb3.specs.Measures.{sat, Measure, parallel_of, guard_of, measure_running}
+use Rattle.eb3.specs.Reading.{Read, refused, taken, Reader, giving, both}
+use Rattle.eb3.specs.ExpressionReading.{read_cond}
+use Rattle.eb3.specs.TermReading.{mask_of, TermKind, term_by, read_term}
+use Rattle.eb3.proofs.Laws.Reading.{Sound}
+use Rattle.eb3.proofs.Laws.ExpressionReading.{cond_sound}
+use Rattle.eb3.proofs.Laws.Spelling.{cond_length}
+use Rattle.scan.specs.Checking.{checked, last_of, Checked}
+use Rattle.scan.specs.Laws.Checking.{last_len}
+use Rattle.scan.specs.Readings.{Taken}
+use Rattle.scan.specs.Laws.Reading.{checked_refused, checked_taken, giving_refused_as, giving_taken, both_first_as, both_second_as, both_taken, both_behind, same_refused}
+use Rattle.expression_check.specs.Laws.Reading.{cond_ends}
+use Rattle.measures.specs.Weighing.{cap, parallel_by, joint_of}
+use Rattle.tables.specs.Layout.{label_count, function_count}
+use Rattle.tables.specs.Tables.{declared}
+use Rattle.tables.specs.Laws.Tables.{labels_length, guard_declared, mask_ends, mask_read}
+use Rattle.measures.specs.declared.Joint.{Joint}
+use Rattle.measures.specs.declared.Joint.TheVariants.{Parallel}
+use Rattle.term_check.specs.Given.{wrong, weighed_running}
+use Rattle.term_check.specs.Answers.{packed, unpacked, Answer, Operands, Operand, joined_of, weighed_pair, guarded_of}
+use Rattle.term_check.specs.Laws.Reading.Answers.{refused_wrong, Got, got, none_read}
+use Rattle.std.specs.Prelude.{Ok, Err}
+use Rattle.refusals.specs.declared.Refusal.{Refusal}
+
+abbrev pub reads : List ℕ → Reader Term
+reads T = read_term (declared T)
+
+-- ── two terms ──
+
+module _ (T t : List ℕ) (c : Joint) (p : ℕ) (fits : length t ≤ 8192) (e : p ≡ weighed_running (read_term (declared T) t)) where
+  pub pair_first : p ≡ wrong → wrong ≡ weighed_pair c (both (read_term (declared T)) (read_term (declared T)) t)
+  unfolding weighed_pair
+  pair_first h =
+      let g = none_read T t p fits e h in
+      let m = both_first_as (reads T) (reads T) t g.0 g.1 in
+      rw m.read
+
+  -- n words are left after the first, r is these
+  module _ (n q : ℕ) (r : List ℕ) (h : p ≡ wrong → ⊥) (i : n ≡ p % 65536) (l : r ≡ last_of n t) (f : q ≡ weighed_running (read_term (declared T) r)) where
+    first : Got T t p
+    first = got T t p fits e h
+
+    rest_is : first.rest ≡ r
+    rest_is = sym first.words ∙ ap (λ k. last_of k t) (sym i) ∙ sym l
+
+    long : length r ≡ p % 65536
+    long = ap length (sym rest_is) ∙ sym first.left
+
+    short : length r ≤ 8192
+    short = omega (arith, last_len n t r l)
+
+    pub pair_second : q ≡ wrong → wrong ≡ weighed_pair c (both (read_term (declared T)) (read_term (declared T)) t)
+    unfolding weighed_pair
+    pair_second o =
+        let g = none_read T r q short f o in
+        let m = both_second_as (reads T) (reads T) t first.value first.rest g.0 first.read (same_refused _ _ g.0 (ap (reads T) rest_is) g.1) in
+        rw m.read
+
+    module _ (o : q ≡ wrong → ⊥) where
+      second : Got T r q
+      second = got T r q short f o
+
+      pub pair_fits : Operands (length t) p q
+      pair_fits = record { first = first.answer; second = subst (λ k. Answer k q) long second.answer }
+
+      pub pair_in : (x : ℕ) → x ≡ joined_of c (length t) p q → x ≡ weighed_pair c (both (read_term (declared T)) (read_term (declared T)) t)
+      unfolding joined_of weighed_pair
+      pair_in x g =
+          let a = first in
+          let b = second in
+          let m : unpacked (p % 65536 - q % 65536) q ≡ measure_running (sat cap) 1 b.value = (λ j. unpacked (sym long j - q % 65536) q) ∙ b.measured in
+          let z : both (reads T) (reads T) t ≡ taken (a.value, b.value) b.rest = both_taken (reads T) (reads T) t a.value a.rest b.value b.rest a.read (ap (reads T) rest_is ∙ b.read) in
+          g ∙ (λ j. packed (b.left j) (joint_of c (a.measured j) (m j))) ∙ sym (ap (weighed_pair c) z)
+
+pub ruleset pairs = (pair_first, pair_second, pair_fits, pair_in)
+
+-- ── a mask, then two terms ──
+
+giving_giving : {A B C : Type 0} (f : B → C) (g : A → B) (r : Read A) → giving f (giving g r) ≡ giving (λ a. f (g a)) r
+unfolding giving
+giving_giving f g (refused k) = refl
+giving_giving f g (taken a t) = refl
+
+weighed_parallel : (c : Joint) (Δ : Mask) → ((l r : Measure) → joint_of c l r ≡ parallel_of (sat cap) Δ l r) → (s : Read (Term × Term)) → weighed_pair c s ≡ weighed_running (giving (λ p. Terms.Parallel Δ p.0 p.1) s)
+unfolding weighed_pair weighed_running giving measure_running
+weighed_parallel c Δ h (refused k) = refl
+weighed_parallel c Δ h (taken s t) = λ j. packed (length t) (h (measure_running (sat cap) 1 s.0) (measure_running (sat cap) 1 s.1) j)
+
+-- b is the number of labels, as the code has it
+module _ (T t : List ℕ) (b : ℕ) (p : Checked) (i : b ≡ label_count T) (e : p ≡ checked (mask_of 4 b t)) where
+  abbrev masks : Reader Mask
+  masks = mask_of 4 (length (declared T).labels)
+
+  as_declared : p ≡ checked (masks t)
+  as_declared = e ∙ ap (λ n. checked (mask_of 4 n t)) (i ∙ sym (labels_length T))
+
+  pub parallel_none : (k : Refusal) → p ≡ Err k → wrong ≡ weighed_running (term_by (declared T) (read_term (declared T)) TermKind.parallel t)
+  parallel_none k h = refused_wrong _ k (giving_refused_as _ _ k (both_first_as masks (both (reads T) (reads T)) t k (checked_refused (masks t) k (sym h ∙ as_declared))))
+
+  -- z says whether the mask is zero
+  module _ (n : ℕ) (r : List ℕ) (z : Bool) (x : ℕ) (h : p ≡ Ok n) (l : r ≡ last_of n t) (o : z ≡ zero_mask (take 4 t)) where
+    mask : Taken t n (masks t)
+    mask = checked_taken t n (masks t) (mask_ends 4 (length (declared T).labels) t) (sym h ∙ as_declared)
+
+    mask_zero : z ≡ zero_mask mask.value
+    mask_zero = o ∙ ap zero_mask (sym (mask_read 4 (length (declared T).labels) t mask.value mask.rest mask.read))
+
+    pub parallel_in : x ≡ weighed_pair (Parallel z) (both (read_term (declared T)) (read_term (declared T)) r) → x ≡ weighed_running (term_by (declared T) (read_term (declared T)) TermKind.parallel t)
+    unfolding joint_of
+    parallel_in f =
+        let k : both masks (both (reads T) (reads T)) t ≡ giving (λ s. (mask.value, s)) (both (reads T) (reads T) r) =
+        both_behind masks (both (reads T) (reads T)) t mask.value mask.rest mask.read ∙ ap (λ u. giving (λ s. (mask.value, s)) (both (reads T) (reads T) u)) (sym mask.words ∙ sym l) in
+        f ∙ weighed_parallel (Parallel z) mask.value (λ u v. ap (λ y. parallel_by y u v) mask_zero) (both (reads T) (reads T) r)
+        ∙ sym (ap weighed_running (ap (giving (λ s. Terms.Parallel s.0 s.1.0 s.1.1)) k ∙ giving_giving _ _ (both (reads T) (reads T) r)))
+
+pub ruleset parallels = (parallel_none, parallel_in)
+
+-- ── a condition, then a term ──
+
+-- A condition's size is the words that it took.
+words_taken : (P : Scope) (t : List ℕ) (C : Cond) (u : List ℕ) → read_cond 1 P t ≡ taken C u → length t - length u ≡ cond_size 1 C
+words_taken P t C u e =
+    let h : (t ≡ cond_words 1 C ++ u) × CondInScope C P = subst (λ r. Sound (cond_words 1) (λ D. CondInScope D P) t r) e (cond_sound 1 P t) in
+    omega (arith, ap length h.0, length-append (cond_words 1 C) u, cond_length 1 C)
+
+-- b is the number of functions, as the code has it
+module _ (T t : List ℕ) (b : ℕ) (p : Checked) (i : b ≡ function_count T) (e : p ≡ checked (read_cond 1 (record { edition = edition_1; arity = λ f. 1; now = b; before = 0; variables = 0 }) t)) where
+  abbrev conditions : Reader Cond
+  conditions = read_cond (declared T).edition.width (guard_scope (attributes (declared T)) 0)
+
+  width_one : read_cond 1 (guard_scope (attributes (declared T)) 0) t ≡ conditions t
+  unfolding declared
+  width_one = refl
+
+  in_scope : p ≡ checked (conditions t)
+  in_scope = e ∙ (λ j. checked (read_cond 1 (record { edition = edition_1; arity = λ f. 1; now = i j; before = 0; variables = 0 }) t))
+      ∙ ap (λ P. checked (read_cond 1 P t)) (sym (guard_declared T 0)) ∙ ap checked width_one
+
+  pub guarded_none : (k : Refusal) → p ≡ Err k → wrong ≡ weighed_running (term_by (declared T) (read_term (declared T)) TermKind.guard t)
+  guarded_none k h = refused_wrong _ k (giving_refused_as _ _ k (both_first_as conditions (reads T) t k (checked_refused (conditions t) k (sym h ∙ in_scope))))
+
+  module _ (n q : ℕ) (r : List ℕ) (fits : length t ≤ 8192) (h : p ≡ Ok n) (l : r ≡ last_of n t) (f : q ≡ weighed_running (read_term (declared T) r)) where
+    condition : Taken t n (conditions t)
+    condition = checked_taken t n (conditions t) (cond_ends (declared T).edition.width (guard_scope (attributes (declared T)) 0) t) (sym h ∙ in_scope)
+
+    behind_is : condition.rest ≡ r
+    behind_is = sym condition.words ∙ sym l
+
+    words_left : length r ≡ n
+    words_left = ap length (sym behind_is) ∙ sym condition.left
+
+    few : length r ≤ 8192
+    few = omega (arith, last_len n t r l)
+
+    pub guarded_out : q ≡ wrong → wrong ≡ weighed_running (term_by (declared T) (read_term (declared T)) TermKind.guard t)
+    guarded_out o =
+        let g = none_read T r q few f o in
+        refused_wrong _ g.0 (giving_refused_as _ _ g.0 (both_second_as conditions (reads T) t condition.value condition.rest g.0 condition.read (same_refused _ _ g.0 (ap (reads T) behind_is) g.1)))
+
+    module _ (o : q ≡ wrong → ⊥) where
+      operand : Got T r q
+      operand = got T r q few f o
+
+      pub guarded_fits : Operand (length t) n q
+      guarded_fits = record { answer = subst (λ k. Answer k q) words_left operand.answer; behind = condition.short; few = fits }
+
+      size_taken : length t - n ≡ cond_size 1 condition.value
+      unfolding declared
+      size_taken = ap (λ m. length t - m) condition.left ∙ words_taken (guard_scope (attributes (declared T)) 0) t condition.value condition.rest condition.read
+
+      pub guarded_in : (x : ℕ) → x ≡ guarded_of (length t) n q → x ≡ weighed_running (term_by (declared T) (read_term (declared T)) TermKind.guard t)
+      unfolding guarded_of weighed_running measure_running
+      guarded_in x g =
+          let a = condition in
+          let b = operand in
+          let m : unpacked (n - q % 65536) q ≡ measure_running (sat cap) 1 b.value = (λ j. unpacked (sym words_left j - q % 65536) q) ∙ b.measured in
+          let z : giving (λ s. Guard s.0 s.1) (both conditions (reads T) t) ≡ taken (Guard a.value b.value) b.rest =
+          giving_taken _ _ (a.value, b.value) b.rest (both_taken conditions (reads T) t a.value a.rest b.value b.rest a.read (ap (reads T) behind_is ∙ b.read)) in
+          g ∙ (λ j. packed (b.left j) (guard_of (sat cap) (size_taken j) (m j))) ∙ sym (ap weighed_running z)
+
+pub ruleset guards = (guarded_none, guarded_out, guarded_fits, guarded_in)

@@ -1,0 +1,48 @@
+-- The tests are stated by what they must tell, so that a limit that is off is refused where the fact fails.
+use Prim.Native.Nat.{◌≤◌, ◌<◌}
+use native.Mathlib.Omega.{arith}
+use mathlib.Core.Path.{refl}
+use Rattle.term_check.proofs.Weighers.{left_said, right_said, reach_said, breadth_said}
+use lib.ListN.{length}
+use Rattle.term_check.proofs.Limits.{given_long, given_none, given_more, given_far, given_broad, given_in}
+use Rattle.term_check.proofs.given_term.Goals as goal
+
+-- The tests are stated by what they must tell, so that a limit that is off is refused where the fact fails.
+pub returns-then-s : goal.returns-then-s
+returns-then-s c =
+    let l : 8192 < length c.args.s.now = omega (arith, c.if-s.true) in
+    given_long _ _ l
+
+pub returns-in_err-left : goal.returns-in_err-left
+returns-in_err-left c =
+    let s : length c.args.s.now ≤ 8192 = omega (arith, c.if-s.false) in
+    rw c.from_residual.ensures (given_none _ _ _ s c.in_err-left.ensures.read refl)
+
+pub returns-then-left-ne0 : goal.returns-then-left-ne0
+returns-then-left-ne0 c =
+    let s : length c.args.s.now ≤ 8192 = omega (arith, c.if-s.false) in
+    let k = c.in_ok-left.ensures.kept.fits in
+    given_more _ _ _ s c.in_ok-left.ensures.read _ (right_said _ _ _ k) (left_said _ _ _ k) c.if-left-ne0.true
+
+pub returns-then-w-gt-REACH : goal.returns-then-w-gt-REACH
+returns-then-w-gt-REACH c =
+    let s : length c.args.s.now ≤ 8192 = omega (arith, c.if-s.false) in
+    let k = c.in_ok-left.ensures.kept.fits in
+    let l : 8192 < c.check.new.self.reach = omega arith in
+    given_far _ _ _ s c.in_ok-left.ensures.read _ (right_said _ _ _ k) (left_said _ _ _ k) c.if-left-ne0.false _ (reach_said _ _ _ k) l
+
+pub returns-then-w-gt-BREADTH : goal.returns-then-w-gt-BREADTH
+returns-then-w-gt-BREADTH c =
+    let s : length c.args.s.now ≤ 8192 = omega (arith, c.if-s.false) in
+    let k = c.in_ok-left.ensures.kept.fits in
+    let r : c.check.new.self.reach ≤ 8192 = omega arith in
+    let l : 65535 < c.check.new.self.breadth = omega arith in
+    given_broad _ _ _ s c.in_ok-left.ensures.read _ (right_said _ _ _ k) (left_said _ _ _ k) c.if-left-ne0.false _ (reach_said _ _ _ k) r _ (breadth_said _ _ _ k) l
+
+pub returns : goal.returns
+returns c =
+    let s : length c.args.s.now ≤ 8192 = omega (arith, c.if-s.false) in
+    let k = c.in_ok-left.ensures.kept.fits in
+    let r : c.check.new.self.reach ≤ 8192 = omega arith in
+    let l : c.check.new.self.breadth ≤ 65535 = omega arith in
+    given_in _ _ _ s c.in_ok-left.ensures.read _ (right_said _ _ _ k) (left_said _ _ _ k) c.if-left-ne0.false _ (reach_said _ _ _ k) r _ (breadth_said _ _ _ k) l

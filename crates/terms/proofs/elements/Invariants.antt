@@ -1,7 +1,0 @@
--- The loop's next round is stated by hand: `search` over that many facts breaks off.
-use Rattle.terms.proofs.Values.{Met}
-use Rattle.terms.proofs.elements.Given as goal
-
--- The loop's next round is stated by hand: `search` over that many facts breaks off.
-abbrev pub invariant-loop-i : goal.invariant-loop-i
-invariant-loop-i l = Met l.tb l.ds l.t l.i
