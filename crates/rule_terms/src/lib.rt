@@ -172,7 +172,7 @@ fn mask_if(over: Quantifier, t: &[u16], tb: &[u32]) -> Result<usize, Refusal>
 }
 
 // Copies of a term of that weight, n of them.
-// Stays: whether the mask is zero is a Bool, as in `weights`, whose line says why.
+// Stays: whether the mask is zero is a Bool, as in `measures`, whose line says why.
 #[tactic(auto, unfolding(crate::specs::Weighed::copies_of, measures::specs::Weighing::joint_of))]
 fn copied(over: Quantifier, n: usize, zero: bool, a: Weight) -> Weight
     ensures { measure result ≡ copies_of over zero n (measure a) }

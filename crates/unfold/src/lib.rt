@@ -31,7 +31,7 @@ use values::arguments_of;
 use writer::Writer;
 
 // What joins two terms.
-// Stays beside `Joint` of weights: nothing else here is of weights, and that one's parallel says by a bool whether its mask is zero, which is not asked here.
+// Stays beside `Joint` of measures: nothing else here is of measures, and that one's parallel says by a bool whether its mask is zero, which is not asked here.
 #[derive(Clone, Copy)]
 enum Joint {
     Sequence,
