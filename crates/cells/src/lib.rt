@@ -3,17 +3,12 @@
 #![tactic(auto)]
 
 ghost use Rattle.std.specs.Prelude.{◌≡◌, ◌+◌, ◌*◌, ◌%◌, ◌≤◌, ◌<◌, length, get_or};
-ghost use Rattle.std.proofs.Math.Option.{Option};
-ghost use Rattle.eb3.specs.Expressions.{Reading};
-ghost use Rattle.eb3.specs.Terms.{VisibleAction};
-ghost use Rattle.eb3.specs.Attributes.{Attributes};
 ghost use Rattle.tables.specs.Layout.{label_count, function_count};
 ghost use Rattle.declarations.specs.Directory.{row_width};
 ghost use Rattle.expressions.specs.Stores.{now_place};
-ghost use Rattle.cells.specs.Filling.{Filling, Filled};
+ghost use Rattle.cells.specs.Filling.{Fills};
 ghost use Rattle.cells.specs.Frames.{CopiedApart};
-ghost use Rattle.cells.specs.Preparing.{Prepared, ready_word, Loaded, Saved};
-ghost use Rattle.cells.specs.Preparing.{Loading};
+ghost use Rattle.cells.specs.Preparing.{Prepared, ready_word, Loaded, Saved, Loading};
 
 use tables::layout::AT_LABELS;
 use tables::{entry, functions, labels};
@@ -68,7 +63,7 @@ impl<'a> Functions<'a> {
 // then, and a field of a struct holds facts of one moment.
 pub fn fill(functions: &Functions, m: &mut [u16], j: usize)
     requires { j ≤ 256 }
-    ensures { (length m.new ≡ length m.old) × ((A : Attributes) (o : Option VisibleAction) (b : Reading) → Filling A o b functions.now.words.now functions.now.directory.now m.old functions.now.width j functions.now.count → Filled A o b m.old m.new) }
+    ensures { (length m.new ≡ length m.old) × Fills functions.now j m.old m.new }
 {
     for f in 0..functions.count {
         let left = entry(functions.directory, functions.width * f + j) as usize;

@@ -13,16 +13,9 @@ use Rattle.scan.specs.Laws.Rows.{counted_ends, count_ends}
 use Rattle.tables.specs.Tables.{row}
 use Rattle.declarations.specs.Entering.{put_row}
 
+-- A reader of one word, which gives the word back, or refuses.
 abbrev pub One : Reader ℕ → Type 0
 One f = ((k : ℕ) × (f [] ≡ refused k)) × ((w : ℕ) (s : List ℕ) → (f (w ∷ s) ≡ taken w s) ⊎ ((k : ℕ) × (f (w ∷ s) ≡ refused k)))
-
-abbrev Shape : ℕ → List ℕ → Read (List ℕ) → Type 0
-Shape n s (refused j) = Unit {0}
-Shape n s (taken l u) = (s ≡ l ++ u) × (length l ≡ n)
-
-abbrev Row : ℕ → List ℕ → Read (List ℕ) → Type 0
-Row hi t (refused j) = Unit {0}
-Row hi t (taken l u) = (t ≡ length l ∷ (l ++ u)) × (length l ≤ hi)
 
 -- Of c, a reading of words t that leaves m of them.
 pub record RowAt (hi : ℕ) (t : List ℕ) (c : Read (List ℕ)) (m : ℕ) : Type 0 where

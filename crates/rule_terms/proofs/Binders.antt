@@ -4,7 +4,6 @@ use native.Mathlib.Omega.{arith}
 use mathlib.Core.Path.{◌≡◌, refl, sym, ap, ◌∙◌, subst}
 use mathlib.Core.List.{List, [], ◌∷◌, ◌++◌}
 use lib.ListN.{length, get_or, length-append}
-use Rattle.eb3.specs.Editions.{edition_1}
 use Rattle.eb3.specs.Expressions.{Cond}
 use Rattle.eb3.specs.Spelling.{cond_words}
 use Rattle.eb3.specs.Scopes.{Scope, guard_scope, CondInScope}
@@ -24,7 +23,7 @@ use Rattle.expression_check.specs.Laws.Reading.{cond_ends}
 use Rattle.measures.specs.declared.Weight.{Weight}
 use Rattle.measures.specs.Weighing.{cap, measure}
 use Rattle.tables.specs.Layout.{domain_count, function_count}
-use Rattle.tables.specs.Tables.{declared, callee}
+use Rattle.tables.specs.Tables.{edition_in, declared, callee}
 use Rattle.tables.specs.Laws.Tables.{domains_length, guard_declared}
 use Rattle.rule_terms.specs.Weighed.{weighed, terms, answer, mask_if, copies_of, quantifier, weighed_copies, Answer, found}
 use Rattle.rule_terms.specs.Laws.Weighed.{weighed_in, refused_in}
@@ -43,9 +42,9 @@ words_taken P t C u e =
     omega (arith, ap length h.0, length-append (cond_words 1 C) u, cond_length 1 C, guard_size_one C)
 
 -- b is the number of functions, as the code has it
-pub condition_in : (T Γ t : List ℕ) (b : ℕ) (p : Checked) → b ≡ function_count T → p ≡ checked (read_cond 1 (record { edition = edition_1; arity = λ f. 1; now = b; before = 0; variables = length Γ }) t)
+pub condition_in : (T Γ t : List ℕ) (b : ℕ) (p : Checked) → b ≡ function_count T → p ≡ checked (read_cond 1 (record { edition = edition_in T; arity = λ f. 1; now = b; before = 0; variables = length Γ }) t)
     → p ≡ checked (read_cond 1 (guard_scope (attributes (declared T)) (length Γ)) t)
-condition_in T Γ t b p i e = e ∙ (λ j. checked (read_cond 1 (record { edition = edition_1; arity = λ f. 1; now = i j; before = 0; variables = length Γ }) t))
+condition_in T Γ t b p i e = e ∙ (λ j. checked (read_cond 1 (record { edition = edition_in T; arity = λ f. 1; now = i j; before = 0; variables = length Γ }) t))
     ∙ ap (λ P. checked (read_cond 1 P t)) (sym (guard_declared T (length Γ)))
 
 module _ (T Γ : List ℕ) where

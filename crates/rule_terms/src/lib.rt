@@ -13,22 +13,20 @@ ghost use Rattle.tables.specs.Tables.{declared, callee};
 ghost use Rattle.scan.specs.Checking.{checked};
 ghost use Rattle.rule_terms.specs.Weighed.{weighed, terms, answer, weighed_two, weighed_copies, mask_if, copies_of, quantifier};
 
-use tables::layout::{
-    BREADTH, LABEL_ROWS, LABEL_WORDS, PROCESS_ROWS, PROCESS_WORDS, REACH, SIZE,
-};
-use tables::{
-    Context, MASK_WORDS, check_arguments, check_mask, domains, entry, functions, labels, mask_zero,
-    processes, row_at, size_of, with,
-};
 use code_numbers::{
     ACTION, CHOICE, CHOICE_OVER, GUARD, INTERNAL, PARALLEL, PARALLEL_OVER, SEQUENCE, STAR,
 };
 use codes::{Due, code_due};
 use expression_check::{Scope, check_cond};
+use measures::{Joint, Weight, empty, guard, joined, single, stars};
 use refusals::Refusal;
 use scan::repeats::leading;
 use scan::{after, behind, first, last, number};
-use measures::{Joint, Weight, empty, guard, joined, single, stars};
+use tables::layout::{BREADTH, LABEL_ROWS, LABEL_WORDS, PROCESS_ROWS, PROCESS_WORDS, REACH, SIZE};
+use tables::{
+    Context, MASK_WORDS, check_arguments, check_mask, domains, entry, functions, labels, mask_zero,
+    processes, row_at, size_of, with,
+};
 
 // The most variables in scope: a process's parameters, and one for each quantifier around.
 const VARIABLES: usize = 8;

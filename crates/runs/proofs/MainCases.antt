@@ -32,7 +32,7 @@ use Rattle.expressions.specs.Stores.{now_place, store_length}
 use Rattle.cells.specs.Preparing.{Loaded}
 use Rattle.cells.specs.Laws.Memory.{held_words, written_loaded}
 use Rattle.declarations.specs.Directory.{Directory, row_width}
-use Rattle.unfold.specs.Unfolded.{Ready}
+use Rattle.unfold.specs.Unfolded.{Ready, MainUnfolded}
 use Rattle.steps.specs.Storing.{Stored, Ruled}
 use Rattle.steps.specs.Laws.Ruled.{ruled_there}
 use Rattle.steps.specs.Laws.Judging.{whole}
@@ -164,11 +164,6 @@ module _ (course : Course) (a : Scratch) {n : ℕ} {ws ws₂ M M₂ term memory 
       main_ended R well list e.0 e.0.after.held ec er (omega (arith, room.words_room)) (omega (arith, ec, e.0.after.stored.room)) at.term_room at.memory_room done el e.2 e.1
 
 -- ── main's unfolding and the cells of the start ──
-
--- What unfolding main says.
-abbrev pub MainUnfolded : (t T spare spare' : List ℕ) (n : ℕ) → Type 0
-MainUnfolded t T spare spare' n = (R : RuleSet) → Ready t T R → length (words R.edition.width (unfold_main R)) ≤ 65535 → 2 * length (words R.edition.width (unfold_main R)) ≤ length spare
-    → (n ≡ length (words R.edition.width (unfold_main R))) × (spare' ≡ written (words R.edition.width (unfold_main R)) spare)
 
 -- What making the cells of the start says, of a store with room for the most cells that there may be, twice.
 abbrev pub CellsStarted : (t D M' : List ℕ) (w functions c : ℕ) → Type 0

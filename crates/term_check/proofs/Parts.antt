@@ -7,7 +7,6 @@ use mathlib.Core.Path.{◌≡◌, refl, sym, ap, ◌∙◌, subst}
 use mathlib.Core.Bool.{Bool}
 use mathlib.Core.List.{List, ◌++◌}
 use lib.ListN.{length, take, length-append}
-use Rattle.eb3.specs.Editions.{edition_1}
 use Rattle.eb3.specs.Expressions.{Cond}
 use Rattle.eb3.specs.Spelling.{cond_words}
 use Rattle.eb3.specs.Scopes.{Scope, guard_scope, CondInScope}
@@ -29,7 +28,7 @@ use Rattle.scan.specs.Laws.Reading.{checked_refused, checked_taken, giving_refus
 use Rattle.expression_check.specs.Laws.Reading.{cond_ends}
 use Rattle.measures.specs.Weighing.{cap, parallel_by, joint_of}
 use Rattle.tables.specs.Layout.{label_count, function_count}
-use Rattle.tables.specs.Tables.{declared}
+use Rattle.tables.specs.Tables.{edition_in, declared}
 use Rattle.tables.specs.Laws.Tables.{labels_length, guard_declared, mask_ends, mask_read}
 use Rattle.measures.specs.declared.Joint.{Joint}
 use Rattle.measures.specs.declared.Joint.TheVariants.{Parallel}
@@ -141,7 +140,7 @@ words_taken P t C u e =
     omega (arith, ap length h.0, length-append (cond_words 1 C) u, cond_length 1 C)
 
 -- b is the number of functions, as the code has it
-module _ (T t : List ℕ) (b : ℕ) (p : Checked) (i : b ≡ function_count T) (e : p ≡ checked (read_cond 1 (record { edition = edition_1; arity = λ f. 1; now = b; before = 0; variables = 0 }) t)) where
+module _ (T t : List ℕ) (b : ℕ) (p : Checked) (i : b ≡ function_count T) (e : p ≡ checked (read_cond 1 (record { edition = edition_in T; arity = λ f. 1; now = b; before = 0; variables = 0 }) t)) where
   abbrev conditions : Reader Cond
   conditions = read_cond (declared T).edition.width (guard_scope (attributes (declared T)) 0)
 
@@ -150,7 +149,7 @@ module _ (T t : List ℕ) (b : ℕ) (p : Checked) (i : b ≡ function_count T) (
   width_one = refl
 
   in_scope : p ≡ checked (conditions t)
-  in_scope = e ∙ (λ j. checked (read_cond 1 (record { edition = edition_1; arity = λ f. 1; now = i j; before = 0; variables = 0 }) t))
+  in_scope = e ∙ (λ j. checked (read_cond 1 (record { edition = edition_in T; arity = λ f. 1; now = i j; before = 0; variables = 0 }) t))
       ∙ ap (λ P. checked (read_cond 1 P t)) (sym (guard_declared T 0)) ∙ ap checked width_one
 
   pub guarded_none : (k : Refusal) → p ≡ Err k → wrong ≡ weighed_running (term_by (declared T) (read_term (declared T)) TermKind.guard t)

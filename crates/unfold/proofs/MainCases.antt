@@ -16,7 +16,7 @@ use Rattle.eb3.specs.Unfolding.{unfold_main}
 use Rattle.tables.specs.Layout.{process_count, body_at}
 use Rattle.unfold.specs.declared.writer.Writer.{Writer}
 use Rattle.unfold.specs.Written.{written_from}
-use Rattle.unfold.specs.Unfolded.{Ready, RuleTermAt, unfolded_words, Unfolding, UnfoldedInto}
+use Rattle.unfold.specs.Unfolded.{MainUnfolded, Ready, RuleTermAt, unfolded_words, Unfolding, UnfoldedInto}
 use Rattle.unfold.specs.Laws.Puts.{from_start}
 use Rattle.unfold.proofs.RuleFacts.{processes_there, body_stands}
 
@@ -38,7 +38,7 @@ into_put t T n i σ a b y left z e u = record {
 -- k is the number of processes
 module _ (t T x : List ℕ) where
   abbrev Main : List ℕ → ℕ → Type 0
-  Main y w = (length y ≡ length x) × ((R : RuleSet) → Ready t T R → length (words R.edition.width (unfold_main R)) ≤ 65535 → 2 * length (words R.edition.width (unfold_main R)) ≤ length x → (w ≡ length (words R.edition.width (unfold_main R))) × (y ≡ written (words R.edition.width (unfold_main R)) x))
+  Main y w = (length y ≡ length x) × MainUnfolded t T x y w
 
   module _ (k : ℕ) (is_k : k ≡ process_count T) where
     counted : (R : RuleSet) → Ready t T R → k ≡ length R.processes

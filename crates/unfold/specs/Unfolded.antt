@@ -5,7 +5,7 @@ use Rattle.eb3.specs.Generic.Lists.{Within}
 use Rattle.eb3.specs.RuleSets.{RuleTerm, RuleSet, sizes_of}
 use Rattle.eb3.specs.RuleSpelling.{rule_words}
 use Rattle.eb3.specs.Spelling.{words}
-use Rattle.eb3.specs.Unfolding.{unfold_in}
+use Rattle.eb3.specs.Unfolding.{unfold_in, unfold_main}
 use Rattle.eb3.specs.WellFormedness.{Form, Allowed}
 use Rattle.eb3.specs.Bytes.{written}
 use Rattle.scan.specs.Checking.{last_of}
@@ -54,3 +54,11 @@ pub record UnfoldedInto (t T : List ℕ) (n i : ℕ) (σ x y : List ℕ) (r : Op
   pub same_length : length y ≡ length x
   pub unfolded : (R : RuleSet) (Γ : List ℕ) (E : RuleTerm) (rest : List ℕ) → Ready t T R → RuleTermAt t n R i Γ σ E rest
       → MatchOption r (length x < 2 * length (unfolded_words R i E σ)) (λ k. (k ≡ length (unfolded_words R i E σ)) × (y ≡ written (unfolded_words R i E σ) x))
+
+-- Main's words, at the front of the buffer x, which is y then, where there is room for them; n is how many they are.
+abbrev pub main_words : RuleSet → List ℕ
+main_words R = words R.edition.width (unfold_main R)
+
+abbrev pub MainUnfolded : (t T x y : List ℕ) (n : ℕ) → Type 0
+MainUnfolded t T x y n = (R : RuleSet) → Ready t T R → length (main_words R) ≤ 65535 → 2 * length (main_words R) ≤ length x
+    → (n ≡ length (main_words R)) × (y ≡ written (main_words R) x)

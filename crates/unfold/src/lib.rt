@@ -9,7 +9,7 @@ ghost use Rattle.eb3.specs.RuleSets.{RuleSet};
 ghost use Rattle.eb3.specs.Unfolding.{unfold_main};
 ghost use Rattle.eb3.specs.Spelling.{words};
 ghost use Rattle.eb3.specs.Bytes.{written};
-ghost use Rattle.unfold.specs.Unfolded.{Ready, Unfolding, UnfoldedInto, Here};
+ghost use Rattle.unfold.specs.Unfolded.{MainUnfolded, Unfolding, UnfoldedInto, Here};
 ghost use Rattle.unfold.specs.Joints.{code_of, mask_of};
 ghost use Rattle.unfold.specs.Puts.{Puts};
 ghost use Rattle.unfold.specs.Saying.{Guards, Stars, TwoTerms, Copy, Copies, Joins, Overs, Enters, Calls};
@@ -260,7 +260,7 @@ fn unfold_into(scope: &Scope, n: usize, out: &mut [u8]) -> Option<usize>
 // then, which no field of a struct holds.
 pub fn unfold_main(t: &[u16], tb: &[u32], out: &mut [u8]) -> usize
     requires { length t.now ≤ 65535 }
-    ensures { (length out.new ≡ length out.old) × ((R : RuleSet) → Ready t.now tb.now R → length (words R.edition.width (unfold_main R)) ≤ 65535 → 2 * length (words R.edition.width (unfold_main R)) ≤ length out.old → (result ≡ length (words R.edition.width (unfold_main R))) × (out.new ≡ written (words R.edition.width (unfold_main R)) out.old)) }
+    ensures { (length out.new ≡ length out.old) × MainUnfolded t.now tb.now out.old out.new result }
 {
     let count = processes(tb);
     if count == 0 || 32 < count {

@@ -15,9 +15,9 @@ use Rattle.expressions.specs.Stores.{stored, now_place, old_cells_place, row_wor
 use Rattle.writing.specs.Wrote.{Wrote}
 use Rattle.cells.specs.Laws.Turns.{stored_there, stored_else}
 use Rattle.cells.specs.Preparing.{Prepared, ready_word, Loaded, Saved}
+use Rattle.cells.specs.Preparing.{Loading}
 
 -- ── the words below the cells ──
-use Rattle.cells.specs.Preparing.{Loading}
 
 module _ (D : List ℕ) (w n c : ℕ) where
   pub ready_variable : (i : ℕ) → i < old_cells_place → 65535 ≡ ready_word D w n c i

@@ -18,9 +18,9 @@ use Rattle.expressions.specs.Answering.{Plain}
 use Rattle.cells.specs.Layout.{RowLaid, Laid, Holds}
 use Rattle.cells.specs.Laws.Cells.{cells_below, one_count, one_index}
 use Rattle.cells.specs.Agreement.{Agree, cond_agrees}
+use Rattle.cells.specs.Reads.{Begun}
 
 -- ── where cells stand ──
-use Rattle.cells.specs.Reads.{Begun}
 
 module _ (A : Attributes) (M : List ℕ) (f : ℕ) (row : RowLaid A M f) where
   pub row_cells : cell_count (domain A f) ≡ stored M (row_place f)

@@ -21,9 +21,9 @@ use Rattle.expressions.specs.Answering.{Plain}
 use Rattle.cells.specs.Layout.{Laid}
 use Rattle.cells.specs.Preparing.{Prepared}
 use Rattle.cells.specs.Laws.Cells.{offset_mono, one_count, next_offset}
+use Rattle.cells.specs.Readying.{OneDomain}
 
 -- ── the directory by numbers ──
-use Rattle.cells.specs.Readying.{OneDomain}
 
 -- Row j of rows that begin with row i; `begin` says where each function's cells begin.
 row_at : (width : ℕ) (domains t D : List ℕ) (w i : ℕ) (Fs : List Function) (begin : ℕ → ℕ) → ((j : ℕ) → j < length Fs → begin (suc j) ≡ begin j + cells_of domains (get_or Fs j no_rule))

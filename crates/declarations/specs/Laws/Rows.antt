@@ -12,9 +12,9 @@ use Rattle.scan.specs.Laws.Checking.{tail_at, number_ends}
 use Rattle.scan.specs.Laws.Rows.{counted_ends, count_ends}
 use Rattle.tables.specs.Tables.{row}
 use Rattle.declarations.specs.Entering.{put_row}
+use Rattle.declarations.specs.Rows.{One, RowAt}
 
 -- ── a reader of one word, which gives it back ──
-use Rattle.declarations.specs.Rows.{One, Shape, Row, RowAt}
 
 pub one_number : (k d : ℕ) → One (number_of k d)
 unfolding number_of
@@ -34,6 +34,14 @@ one_count lo hi = ((4, refl), λ w s. go w s (leb lo w) (leb w hi))
     go w s false b = inr (4, refl)
 
 -- ── the row at the front ──
+
+abbrev Shape : ℕ → List ℕ → Read (List ℕ) → Type 0
+Shape n s (refused j) = Unit {0}
+Shape n s (taken l u) = (s ≡ l ++ u) × (length l ≡ n)
+
+abbrev Row : ℕ → List ℕ → Read (List ℕ) → Type 0
+Row hi t (refused j) = Unit {0}
+Row hi t (taken l u) = (t ≡ length l ∷ (l ++ u)) × (length l ≤ hi)
 
 longer : (n w : ℕ) (s : List ℕ) (r : Read (List ℕ)) → Shape n s r → Shape (suc n) (w ∷ s) (giving {A = ℕ × List ℕ} (λ p. p.0 ∷ p.1) (giving (λ b. (w, b)) r))
 unfolding giving

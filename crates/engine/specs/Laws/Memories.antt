@@ -23,9 +23,9 @@ use Rattle.cells.specs.Filling.{Filling, Filled}
 use Rattle.cells.specs.Preparing.{Prepared, Saved}
 use Rattle.cells.specs.Laws.Memory.{held_words}
 use Rattle.cells.specs.Laws.ReadyingFills.{start_filling}
+use Rattle.engine.specs.Memories.{MemoryStarted, Begun}
 
 -- ── the start ──
-use Rattle.engine.specs.Memories.{MemoryStarted, Begun}
 
 -- From a store made ready, filled and saved.
 pub memory_started : (t T D M M₁ M₂ B B' : List ℕ) (w n c : ℕ) → w ≡ row_width (label_count T) → n ≡ function_count T → length M₁ ≡ length M → length M₂ ≡ length M₁

@@ -14,9 +14,9 @@ use Rattle.scan.specs.Laws.Checking.{last_behind}
 use Rattle.expressions.specs.Answering.{Plain, CondAt}
 use Rattle.actions.specs.Codes.{Closed, ActionAt}
 use Rattle.listing.specs.Listing.{Fits, TermAt}
+use Rattle.listing.specs.Positions.{code_in_front, TwoAt, MaskedAt, GuardedAt}
 
 -- ── the code at the front ──
-use Rattle.listing.specs.Positions.{code_in_front, TwoAt, MaskedAt, GuardedAt}
 
 pub words_begin : (w : ℕ) (E : Term) (rest : List ℕ) → get_or (words w E ++ rest) 0 0 ≡ code_in_front E
 unfolding words code_in_front

@@ -8,7 +8,6 @@ use mathlib.Core.List.{List, [], ◌∷◌, ◌++◌}
 use Rattle.std.proofs.Math.Decide.{dec_lt}
 use Rattle.std.proofs.Math.ListN.{get_or, length-replicate, get_or-replicate, get_or-eq_default}
 use Rattle.std.proofs.lemmas.List.{length-map}
-use Rattle.eb3.specs.Editions.{edition_1}
 use Rattle.eb3.specs.Generic.Lists.{concat_map}
 use Rattle.eb3.specs.Attributes.{number_of_functions}
 use Rattle.eb3.specs.Scopes.{arities, guard_scope}
@@ -110,9 +109,9 @@ module _ (T : List ℕ) where
           ∙ ap (λ (F : Function). length F.parameters) (function_declared f h)
       go (no h) = ap length (no_domain_beyond (attributes (declared T)) f (omega (arith, functions_declared)))
 
-  pub guard_declared : (n : ℕ) → guard_scope (attributes (declared T)) n ≡ record { edition = edition_1; arity = λ f. 1; now = function_count T; before = 0; variables = n }
+  pub guard_declared : (n : ℕ) → guard_scope (attributes (declared T)) n ≡ record { edition = edition_in T; arity = λ f. 1; now = function_count T; before = 0; variables = n }
   unfolding declared
-  guard_declared n = λ i. record { edition = edition_1; arity = λ f. arity_one f i; now = functions_declared i; before = 0; variables = n }
+  guard_declared n = λ i. record { edition = edition_in T; arity = λ f. arity_one f i; now = functions_declared i; before = 0; variables = n }
 
 -- ── masks ──
 
