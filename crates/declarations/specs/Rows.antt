@@ -1,15 +1,10 @@
 -- A count and as many words, each read by itself (`One`), are a row at the front of the words: what was read is that row (`RowAt`), and a copy of it
 -- into the tables enters it.
 -- Document 01, "Blocks and the rule stream", items 2 to 5; refusals 4 and 5.
-use Rattle.std.specs.Prelude.{ℕ, zero, suc, ◌+◌, ◌≤◌, ◌≡◌, refl, Bool, true, false, List, [], ◌∷◌, ◌++◌, ◌⊎◌, length, take, drop, get_or, leb, ltb, Ok}
-use Rattle.std.proofs.Common.{arith, sym, ap, ◌∙◌, inl, inr, ⊎_elim, length-append, leb-true}
-use Rattle.std.proofs.Math.Seq.{paste, take-append_seam, take-length}
-use Rattle.eb3.specs.Reading.{Read, refused, taken, Reader, pick, giving, then, both, number_of, count_of, repeat, counted}
-use Rattle.eb3.specs.RuleReading.{read_domains}
-use Rattle.scan.specs.Checking.{checked, last_of, Checked}
-use Rattle.scan.specs.Ends.{Ends, Fine}
-use Rattle.scan.specs.Laws.Checking.{tail_at, number_ends}
-use Rattle.scan.specs.Laws.Rows.{counted_ends, count_ends}
+use Rattle.std.specs.Prelude.{ℕ, ◌+◌, ◌≤◌, ◌≡◌, List, [], ◌∷◌, ◌⊎◌, length, get_or}
+use Rattle.std.proofs.Math.Seq.{paste}
+use Rattle.eb3.specs.Reading.{Read, refused, taken, Reader}
+use Rattle.scan.specs.Checking.{last_of}
 use Rattle.tables.specs.Tables.{row}
 use Rattle.declarations.specs.Entering.{put_row}
 

@@ -15,11 +15,11 @@ ghost use Rattle.declarations.specs.Entering.{Entered, CellsBound};
 ghost use Rattle.declarations.specs.Directory.{row_width};
 ghost use Rattle.declarations.specs.Noting.{LabelsNoted, ExpressionsNoted, FunctionNoted, FunctionsNoted};
 
-use tables::layout::{AT_LABELS, AT_START, FIRST_CELL, LABEL_ROWS, LABEL_WORDS};
-use tables::{domains, labels, row_at, size_of};
 use expression_check::{Scope, check_data};
 use refusals::Refusal;
 use scan::{count, first, last, number};
+use tables::layout::{AT_LABELS, AT_START, FIRST_CELL, LABEL_ROWS, LABEL_WORDS};
+use tables::{domains, labels, row_at, size_of};
 
 /// How many numbers a directory has: a row for each of up to 16 functions, of 3 numbers and one for each of up to 64 labels.
 pub const DIRECTORY: usize = 1072;

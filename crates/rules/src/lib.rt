@@ -11,16 +11,16 @@ ghost use Rattle.declarations.specs.Bounds.{Bounded};
 ghost use Rattle.rules.specs.Sections.{process_weighed};
 ghost use Rattle.rules.specs.Filling.{ProcessesRead, ProcessSectionRead, FunctionSectionRead, LabelSectionRead, RulesRead};
 
+use declarations::{check_domains, copy, enter_labels, functions, parameters};
+use measures::{Weight, empty};
+use refusals::Refusal;
+use rule_terms::{Weighed, check_term};
+use scan::{count, first, last};
 use tables::layout::{
     BODY, BREADTH, DOMAINS, FUNCTIONS, LABEL_ROWS, LABELS, PROCESS_ROWS, PROCESS_WORDS, PROCESSES,
     REACH, SIZE, TABLES,
 };
 use tables::{Context, domains};
-use declarations::{check_domains, copy, enter_labels, functions, parameters};
-use refusals::Refusal;
-use rule_terms::{Weighed, check_term};
-use scan::{count, first, last};
-use measures::{Weight, empty};
 
 // What a rule set comes to: how many words are left after it, its cells, and main's measures.
 #[derive(Clone, Copy)]

@@ -12,7 +12,7 @@ use Rattle.eb3.specs.Reading.{Read, refused, taken, giving, then, counted, numbe
 use Rattle.eb3.specs.RuleReading.{read_rule_term, read_process, with_process}
 use Rattle.eb3.proofs.Laws.Reading.{Sound, number_sound, counted_sound}
 use Rattle.eb3.proofs.Laws.Signatures.{Alike, read_alike, measure_alike}
-use Rattle.tables.specs.Layout.{functions_place, processes_place, process_place, domain_count, label_count, labels_place}
+use Rattle.tables.specs.Layout.{functions_place, processes_place, process_place, labels_place}
 use Rattle.tables.specs.Tables.{declared, callee}
 use Rattle.declarations.specs.Declaring.{Declares, entered_process}
 use Rattle.declarations.specs.Laws.Declaring.{entered_length, entered_before, process_entered, declared_alike}
