@@ -4,9 +4,6 @@ use Prim.Native.Nat.{ℕ, suc, ◌+◌, ◌-◌, ◌≤◌, ◌<◌}
 use native.Mathlib.Omega.{arith}
 use native.Mathlib.Decide.{dec_le}
 use mathlib.Core.Logic.{⊎_elim}
-use Rattle.std.proofs.Common.{inl, inr}
-use Rattle.std.specs.Prelude.{◌⊎◌}
-use Rattle.codes.specs.Table.{operands_after}
 use mathlib.Core.Path.{◌≡◌, refl, sym, ap, ◌∙◌}
 use mathlib.Core.List.{List, [], ◌∷◌}
 use mathlib.Core.Bool.{Bool, true, false}
@@ -250,18 +247,12 @@ module _ (P : Scope) (s : List ℕ) (at rest : ℕ) (few : rest ≤ at + 1) (due
   joined : (k : Cond → Cond → Cond) → cond_kind (w) ≡ CondKind.join k → CondFront P s at rest (Ok (On (at + 1) (rest + 2)))
   joined k e = (behind (rest + 2) (omega arith), by_cond (CondKind.join k) (both rc rc t) e (forget_giving _ (both rc rc t)) ∙ row_join rc rc rest t ∙ row_more rc (suc rest) t ∙ ap (λ n. checked (repeat n rc t)) two)
 
-  cond_and : w ≡ 10 → CondFront P s at rest (Ok (On (at + 1) (rest + 2)))
-  cond_and e = joined And (ap cond_kind e)
-
-  cond_or : w ≡ 11 → CondFront P s at rest (Ok (On (at + 1) (rest + 2)))
-  cond_or e = joined Or (ap cond_kind e)
-
-  cond_not : w ≡ 12 → CondFront P s at rest (Ok (On (at + 1) (rest + 1)))
+  pub cond_not : w ≡ 12 → CondFront P s at rest (Ok (On (at + 1) (rest + 1)))
   cond_not e = (behind (rest + 1) (omega arith), by_cond CondKind.negate (rc t) (ap cond_kind e) (forget_giving Not (rc t)) ∙ row_more rc rest t ∙ ap (λ n. checked (repeat n rc t)) one)
 
-  always : w ≡ 13 → CondFront P s at rest (Ok (On (at + 1) rest))
+  pub cond_always : w ≡ 13 → CondFront P s at rest (Ok (On (at + 1) rest))
   unfolding then
-  always e = (behind rest (omega arith), by_cond CondKind.always (taken True t) (ap cond_kind e) refl)
+  cond_always e = (behind rest (omega arith), by_cond CondKind.always (taken True t) (ap cond_kind e) refl)
 
 -- ── the last arms ──
 
@@ -273,34 +264,20 @@ data_high P s at rest w is o =
     let b : 6 ≤ w = omega (arith, a, o.0.0.0.0.1, o.0.0.0.1, o.0.0.1) in
     absurd (let z : ⊥ = omega (arith, u, b, o.0.1, o.1) in z)
 
-pub cond_code : (s : List ℕ) (at w : ℕ) → Ok w ≡ code_due DueCondition s at → w ≤ 30
-cond_code s at w is = omega (arith, (code_taken DueCondition s at w is).sort.1)
-
 module _ (P : Scope) (s : List ℕ) (at rest : ℕ) (few : rest ≤ at + 1) (w : ℕ) (is : Ok w ≡ code_due DueCondition s at) where
   sort : (8 ≤ w) × (w ≤ 13)
   sort = (code_taken DueCondition s at w is).sort
 
   -- no code of a condition is below 8
-  pub cond_low : (m : ℕ) → w < 8 → CondFront P s at rest (Ok (On (at + 1) m))
-  cond_low m l = absurd (let z : ⊥ = omega (arith, sort.0) in z)
+  pub cond_low : w < 8 → CondFront P s at rest (Ok (On (at + 1) (rest + 2)))
+  cond_low l = absurd (let z : ⊥ = omega (arith, sort.0) in z)
 
-  -- n is the number of operands that the table has; they are conditions
-  pub cond_high : (n : ℕ) → 10 ≤ w → n ≡ operands_after w → CondFront P s at rest (Ok (On (at + 1) (rest + n)))
-  unfolding operands_after
-  cond_high n l e = subst (λ k. CondFront P s at rest (Ok (On (at + 1) (rest + k)))) (sym e) (⊎_elim two ends (two_apart (dec_le w 11)))
-    where
-      of : (c : ℕ) → w ≡ c → CondFront P s at rest (Ok (On (at + 1) (rest + operands_after c))) → CondFront P s at rest (Ok (On (at + 1) (rest + operands_after w)))
-      of c i f = subst (λ v. CondFront P s at rest (Ok (On (at + 1) (rest + operands_after v)))) (sym i) f
-
-      two_apart : Dec (w ≤ 11) → (w ≤ 11) ⊎ (12 ≤ w)
-      two_apart (yes h) = inl h
-      two_apart (no h) = inr (omega arith)
-
-      two : w ≤ 11 → CondFront P s at rest (Ok (On (at + 1) (rest + operands_after w)))
-      two h = ⊎_elim (λ i. of 10 i (cond_and P s at rest few DueCondition w is i)) (λ i. of 11 i (cond_or P s at rest few DueCondition w is i)) (two_ways w 10 l (omega arith))
-
-      ends : 12 ≤ w → CondFront P s at rest (Ok (On (at + 1) (rest + operands_after w)))
-      ends h = ⊎_elim (λ i. of 12 i (cond_not P s at rest few DueCondition w is i)) (λ i. of 13 i (subst (λ k. CondFront P s at rest (Ok (On (at + 1) k))) (let z : rest ≡ rest + 0 = omega arith in z) (always P s at rest few DueCondition w is i))) (two_ways w 12 h (omega (arith, sort.1)))
+  -- and and or are the conditions that are left
+  pub cond_join : ((Unit {0} × (w ≡ 12 → ⊥)) × (w ≡ 13 → ⊥)) → 10 ≤ w → CondFront P s at rest (Ok (On (at + 1) (rest + 2)))
+  cond_join o l =
+      let u : w ≤ 12 = omega (arith, sort.1, o.1) in
+      let v : w ≤ 11 = omega (arith, u, o.0.1) in
+      ⊎_elim (λ e. joined P s at rest few DueCondition w is And (ap cond_kind e)) (λ e. joined P s at rest few DueCondition w is Or (ap cond_kind e)) (two_ways w 10 l (omega arith))
 
 pub ruleset fronts =
-    (data_refused, cond_refused, data_undefined, data_constant, data_variable, data_sum, data_difference, data_select, data_now, data_before, data_barred, data_high, cond_compare, cond_low, cond_high)
+    (data_refused, cond_refused, data_undefined, data_constant, data_variable, data_sum, data_difference, data_select, data_now, data_before, data_barred, data_high, cond_compare, cond_not, cond_always, cond_low, cond_join)

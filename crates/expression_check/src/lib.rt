@@ -11,8 +11,10 @@ ghost use Rattle.scan.specs.Checking.{checked};
 ghost use Rattle.expression_check.specs.Scoping.{scope};
 ghost use Rattle.expression_check.specs.Fronts.{Operand, DataFront, CondFront};
 
-use code_numbers::{BEFORE, CONSTANT, DIFFERENCE, EQUAL, IF, LESS, NOW, SUM, UNDEFINED, VARIABLE};
-use codes::{Due, code_due, operands_after};
+use code_numbers::{
+    BEFORE, CONSTANT, DIFFERENCE, EQUAL, IF, LESS, NOT, NOW, SUM, TRUE, UNDEFINED, VARIABLE,
+};
+use codes::{Due, code_due};
 use refusals::Refusal;
 use scan::number;
 
@@ -81,8 +83,10 @@ fn cond_front(s: &[u16], at: usize, rest: usize, c: Scope) -> Result<Front, Refu
     let b = at + 1;
     match w {
         EQUAL..=LESS => Ok(Front::Other(b)),
-        // and, or, not, true
-        _ => Ok(Front::On(b, rest + operands_after(w))),
+        NOT => Ok(Front::On(b, rest + 1)),
+        TRUE => Ok(Front::On(b, rest)),
+        // and, or
+        _ => Ok(Front::On(b, rest + 2)),
     }
 }
 
