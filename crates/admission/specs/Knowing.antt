@@ -1,17 +1,15 @@
 -- What is known where a file was admitted with a directory: the rule set, its form, its sizes, and where its parts are (document 01, "Operations": no call
 -- trusts an earlier one, so each operation begins so).
-use Rattle.std.specs.Prelude.{◌≡◌, List, ℕ, ◌*◌, ◌≤◌, length, drop, Ok, Err, Result}
-use Rattle.std.proofs.Math.Path.{sym}
-use Rattle.std.proofs.Common.{◌∙◌, arith, mul-le-mul}
+use Rattle.std.specs.Prelude.{◌≡◌, List, ℕ, drop}
 use Rattle.eb3.specs.RuleSets.{RuleSet}
 use Rattle.eb3.specs.Blocks.{stream}
 use Rattle.eb3.specs.Admission.{admission}
 use Rattle.eb3.specs.WellFormedness.{WellFormed}
-use Rattle.eb3.specs.Answers.{refused, answered}
-use Rattle.eb3.specs.Operations.{admit, sizes_needed}
-use Rattle.eb3.proofs.Laws.Admission.{admitted as admitted_form}
+use Rattle.eb3.specs.Answers.{answered}
+use Rattle.eb3.specs.Operations.{sizes_needed}
 use Rattle.measures.specs.declared.Limits.{Limits}
-use Rattle.declarations.specs.Directory.{Directory, row_width, directory_length}
+use Rattle.declarations.specs.Directory.{Directory}
+use Rattle.admission.specs.Answering.{limits}
 
 pub record Known (rules T D : List ℕ) (l : Limits) : Type 0 where
   pub rule_set : RuleSet

@@ -12,14 +12,14 @@ ghost use Rattle.eb3.specs.Judging.{judged};
 ghost use Rattle.admission.specs.Answering.{admitted, read_whole};
 ghost use Rattle.admission.specs.Admitting.{WordsAdmitted, FileAdmitted};
 
-use tables::layout::TABLES;
-use tables::zeros;
 use blocks::opened::Blocks;
 use blocks::{CONTENT_WORDS, WORDS_OF_8, WORDS_OF_64, join, open};
+use measures::{Limits, Weight};
 use refusals::Refusal;
 use rules::read;
 use scan::last;
-use measures::{Limits, Weight};
+use tables::layout::TABLES;
+use tables::zeros;
 
 // Refusal 7, then 8; else the sizes.
 fn judge(cells: u32, w: Weight) -> Result<Limits, Refusal>

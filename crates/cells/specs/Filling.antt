@@ -13,7 +13,6 @@ use Rattle.declarations.specs.Directory.{Stands}
 use Rattle.expressions.specs.Stores.{stored, now_place, before_place, variable_in, reading_in, argument_place, row_place}
 use Rattle.expressions.specs.Answering.{Plain}
 use Rattle.cells.specs.Layout.{Laid, Holds}
-use Rattle.cells.specs.declared.Functions.{Functions}
 
 abbrev pub arguments_of : Option VisibleAction → List ℕ
 arguments_of none = []
@@ -48,6 +47,6 @@ pub record Filled (A : Attributes) (o : Option VisibleAction) (b : Reading) (M M
   pub kept_below : (i : ℕ) → argument_place 0 ≤ i → i < now_place → stored M' i ≡ stored M i
   pub kept_above : (i : ℕ) → now_place + total_cells A ≤ i → stored M' i ≡ stored M i
 
--- Of the functions F: filling the store M by column j of their directory leaves M'.
-abbrev pub Fills : Functions → ℕ → List ℕ → List ℕ → Type 0
-Fills F j M M' = (A : Attributes) (o : Option VisibleAction) (b : Reading) → Filling A o b F.words.now F.directory.now M F.width j F.count → Filled A o b M M'
+-- Filling the store M, of n functions, by column j of their rows of w words in the directory D of the words t, leaves M'.
+abbrev pub Fills : (t D : List ℕ) (w j n : ℕ) (M M' : List ℕ) → Type 0
+Fills t D w j n M M' = (A : Attributes) (o : Option VisibleAction) (b : Reading) → Filling A o b t D M w j n → Filled A o b M M'

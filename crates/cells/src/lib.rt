@@ -63,7 +63,7 @@ impl<'a> Functions<'a> {
 // then, and a field of a struct holds facts of one moment.
 pub fn fill(functions: &Functions, m: &mut [u16], j: usize)
     requires { j ≤ 256 }
-    ensures { (length m.new ≡ length m.old) × Fills functions.now j m.old m.new }
+    ensures { (length m.new ≡ length m.old) × Fills functions.now.words.now functions.now.directory.now functions.now.width j functions.now.count m.old m.new }
 {
     for f in 0..functions.count {
         let left = entry(functions.directory, functions.width * f + j) as usize;

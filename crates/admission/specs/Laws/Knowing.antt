@@ -1,22 +1,19 @@
 -- What is known where a file was admitted with a directory: the rule set, its form, its sizes, and where its parts are (document 01, "Operations": no call
 -- trusts an earlier one, so each operation begins so).
-use Rattle.std.specs.Prelude.{◌≡◌, List, ℕ, ◌*◌, ◌≤◌, length, drop, Ok, Err, Result}
+use Rattle.std.specs.Prelude.{◌≡◌, List, ℕ, ◌*◌, ◌≤◌, length, Ok, Err, Result}
 use Rattle.std.proofs.Math.Path.{sym}
 use Rattle.std.proofs.Common.{◌∙◌, arith, mul-le-mul}
-use Rattle.eb3.specs.RuleSets.{RuleSet}
-use Rattle.eb3.specs.Blocks.{stream}
 use Rattle.eb3.specs.Admission.{admission}
 use Rattle.eb3.specs.WellFormedness.{WellFormed}
-use Rattle.eb3.specs.Answers.{refused, answered}
-use Rattle.eb3.specs.Operations.{admit, sizes_needed}
+use Rattle.eb3.specs.Answers.{refused}
+use Rattle.eb3.specs.Operations.{admit}
 use Rattle.eb3.proofs.Laws.Admission.{admitted as admitted_form}
 use Rattle.measures.specs.declared.Limits.{Limits}
-use Rattle.declarations.specs.Directory.{Directory, row_width, directory_length}
-use Rattle.admission.specs.Knowing.{Known}
-
+use Rattle.declarations.specs.Directory.{row_width, directory_length}
 pub use Rattle.blocks.specs.Files.{Opens}
-use Rattle.admission.specs.Answering.{limits, admitted}
+use Rattle.admission.specs.Answering.{admitted}
 use Rattle.admission.specs.Admitting.{FileAdmitted}
+use Rattle.admission.specs.Knowing.{Known}
 use Rattle.admission.specs.Laws.Admission.{admission_refused, admission_answered, admission_taken}
 use Rattle.admission.specs.Laws.Opening.{admit_read}
 use Rattle.refusals.specs.declared.Refusal.{Refusal}
