@@ -10,7 +10,7 @@ use Rattle.eb3.specs.RuleReading.{read_rules}
 use Rattle.eb3.specs.Answers.{Answer, refused, answered, and_then}
 use Rattle.eb3.specs.Blocks.{content_words, open_blocks}
 
--- The stream's last used word lies in the last block, so fewer words are left than a block has; and they are zero.
+-- The stream's last used word is in the last block, so fewer words are left than a block has; and they are zero.
 unfoldable pub all_zero : List ℕ → Bool
 all_zero [] = true
 all_zero (w ∷ ws) = eqb w 0 && all_zero ws

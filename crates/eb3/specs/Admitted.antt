@@ -31,7 +31,7 @@ concluded_source {R} x = record { action = x.action; target = situation (unfold_
 
 pub record Admitted (rules : List ℕ) (R : RuleSet) : Type 1 where
   -- It is what document 01 asks of a rule set, and the stream spells it and nothing else: zeros follow, fewer than a block has words, so that its last
-  -- used word lies in the last block.
+  -- used word is in the last block.
   pub well_formed : WellFormed R
   -- Its edition is document 01's: what is said below by the edition's numbers is said by 65,534 and by constants of one word.
   pub of_edition_1 : R.edition ≡ edition_1

@@ -26,6 +26,6 @@ double_words (n ∷ ns) = n % 65536 ∷ n / 65536 ∷ double_words ns
 abbrev pub word_count : List ℕ → ℕ
 word_count s = length s / 2
 
--- Words written at a buffer's front; what lies behind them is kept.
+-- Words written at the beginning of a buffer; the bytes after them are kept.
 unfoldable pub written : List ℕ → List ℕ → List ℕ
 written ws s = bytes_of ws ++ drop (2 * length ws) s

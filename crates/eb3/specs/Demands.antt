@@ -48,8 +48,8 @@ pub record Demand1Refusals (rules list table term memory event next_term next_me
   pub run_table_kept : (j : ℕ) → (run rules list table term memory spare_term spare_memory).written.answer ≡ refused j
       → (run rules list table term memory spare_term spare_memory).table ≡ table
 
--- The table's order: what admission refuses every operation refuses alike, whatever else is given; a wrong term comes before a wrong event, both before
--- space, and space before a move that is not offered and before Run's readers. (The order of 1 to 8 is said by Refuses in the crate demanded.)
+-- The table's order: what admission refuses every operation refuses by the same number, whatever else is given; a wrong term comes before a wrong event,
+-- both before space, and space before a move that is not offered and before Run's readers. (The order of 1 to 8 is said by Refuses in the crate demanded.)
 pub record Demand1Order (rules list table term memory event next_term next_memory spare_term spare_memory : List ℕ) (k : ℕ) : Type 0 where
   pub admission_first : (j : ℕ) → admission rules ≡ refused j
       → (admit rules ≡ refused j) × (start rules term memory ≡ unwritten term memory j) × (count rules term memory ≡ refused j)
@@ -153,7 +153,7 @@ move_result R h x next_term next_memory = record {
   memory = written (values_words R (state_after (Sem_T (attributes R)) (last_trace R h) x.action)) next_memory;
 }
 
--- A term buffer cut to so many words.
+-- A term buffer cut to n words.
 abbrev pub cut : ℕ → List ℕ → List ℕ
 cut n buffer = take (2 * n) buffer
 

@@ -32,7 +32,7 @@ use Rattle.eb3.specs.Admission.{all_zero, ended, within_limits, admission}
 use Rattle.eb3.specs.Operations.{admit, run}
 use Rattle.eb3.specs.KeyCabinet.{cabinet_of, cabinet, copies}
 
--- The key cabinet's stream behind its first two words: domains, labels, the function, main.
+-- The key cabinet's stream after its first two words: domains, labels, the function, main.
 pub cabinet_words : rules_words cabinet
     ≡ 1 ∷ 2 ∷
     2 ∷ 1 ∷ 0 ∷ 1 ∷ 0 ∷
@@ -84,8 +84,8 @@ pub record ExamplesOnBytes : Type 0 where
   pub block_header : take 6 cabinet_file ≡ 0 ∷ 0 ∷ 233 ∷ 33 ∷ 1 ∷ 0 ∷ []
   -- C 2, G 77, W 4, start size 41.
   pub figures : admit cabinet_file ≡ answered (record { cells = 2; reach = 77; breadth = 4; size = 41 })
-  -- One fault each: no whole block; a content byte changed; a later edition; a wrong count of blocks; a word behind the end; a domain of 65; a label that is not there;
-  -- an element outside the domain; main too large; main too broad.
+  -- One fault each: no whole block; a content byte changed; a later edition; a wrong count of blocks; a word after the end; a domain of 65;
+  -- a label that is not there; an element outside the domain; main too large; main too broad.
   pub length_fault : admit (drop 1 cabinet_file) ≡ refused Refusal.length
   pub block_fault : admit (set cabinet_file 100 9) ≡ refused Refusal.block
   pub edition_fault : admit (words_file (2 ∷ 1 ∷ rules_words cabinet)) ≡ refused Refusal.edition

@@ -7,7 +7,7 @@ use Rattle.eb3.specs.Expressions.{Data, Undefined, Constant, Variable, Add, Subt
 use Rattle.eb3.specs.Scopes.{Scope}
 use Rattle.eb3.specs.Reading.{refused, taken, Reader, pick, giving, then, both, number_of, by_number, number_in}
 
--- What a code is, where a scope says whether before may stand.
+-- What a code is; the scope says whether the code of `before` is allowed.
 pub data DataKind : Type 0 where
   undefined constant variable select wrong : DataKind
   pair : (Data → Data → Data) → DataKind

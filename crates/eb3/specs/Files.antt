@@ -1,4 +1,4 @@
--- The blocks that hold a rule set's stream: numbers, sums, contents, zeros behind the last used word (document 01, "Blocks and the rule stream").
+-- The blocks that hold a rule set's stream: numbers, sums, contents, zeros after the last used word (document 01, "Blocks and the rule stream").
 -- Every well-formed rule set that fits into 64 blocks is admitted from its file (Laws/Files).
 use Rattle.std.specs.Prelude.{List, [], ◌∷◌, ◌++◌, ℕ, zero, suc, ◌+◌, ◌-◌, ◌*◌, ◌/◌, length, take, drop, replicate}
 use Rattle.eb3.specs.RuleSets.{RuleSet}
@@ -18,7 +18,7 @@ unfoldable pub blocks_from : ℕ → ℕ → List ℕ → List ℕ
 blocks_from i zero bytes = []
 blocks_from i (suc n) bytes = block_of i (take content_bytes bytes) ++ blocks_from (suc i) n (drop content_bytes bytes)
 
--- The words that a rule set's stream uses, the two in front included, and the blocks that hold them.
+-- How many words a rule set's stream uses, with the first two, the edition and the number of blocks; and how many blocks hold them.
 abbrev pub words_used : RuleSet → ℕ
 words_used R = 2 + length (rules_words R)
 

@@ -15,6 +15,6 @@ sizes_of_measure cells m = record { cells = cells; reach = m.reach; breadth = m.
 abbrev pub judged : ℕ → Measure → Answer Sizes
 judged cells m = pick (leb m.reach 8192) (pick (leb m.breadth 65535) (answered (sizes_of_measure cells m)) (refused Refusal.breadth)) (refused Refusal.size)
 
--- Admit by its parts: blocks, then the words behind the first two.
+-- Admit by its parts: blocks, then the words after the first two.
 unfoldable pub whole_of : Read RuleSet → Answer Sizes
 whole_of r = and_then (and_then (ended r) within_limits) (λ R. answered (sizes_needed R))

@@ -10,7 +10,7 @@ pub mod Generic
 pub mod Refusal
 pub mod Limits
 pub mod Editions
--- "Values and conditions": values, expressions in one environment, where each may stand.
+-- "Values and conditions": values, expressions in one environment, where each is allowed.
 pub mod Values
 pub mod Expressions
 pub mod Scopes

@@ -1,4 +1,4 @@
--- The limits, alike in every edition (document 01, "Blocks and the rule stream", "Unfolding, size and breadth").
+-- The limits, the same in every edition (document 01, "Blocks and the rule stream", "Unfolding, size and breadth").
 use Rattle.std.specs.Prelude.{ℕ}
 
 -- Refusals 7 and 8 of main's unfolding, and 10 of a given term: the largest reach and breadth.

@@ -9,7 +9,7 @@ use Rattle.eb3.specs.Cells.{initial_cells, all_values}
 use Rattle.eb3.specs.TransitionSystems.{refused, taken, Configuration, initial, count, run, outcomes, on_target, Outcome}
 use Rattle.eb3.specs.Semantics.{concluded, Sem_T, Sem_M, Situation, situation, system}
 
--- A machine fed numbers, told over derivations and without a loop: a number below the count of moves takes the derivation of that number,
+-- A machine that is given numbers, defined by derivations and without a loop: a number below the count of moves takes the derivation of that number,
 -- any other is refused.
 abbrev pub Machine : DataState → Type 0
 Machine S = Configuration (system S)

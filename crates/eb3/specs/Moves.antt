@@ -39,7 +39,7 @@ parallel_moves Δ E F xs ys =
     ++ (map (right_move Δ E) (filter (outside_mask? Δ) ys)
     ++ concat_map (λ x. map (synchronised Δ x) (filter (synchronise? Δ x) ys)) xs)
 
--- `g` tells which conditions hold.
+-- `g` says which conditions hold.
 unfoldable pub moves : (Cond → Bool) → Term → List Move
 moves g Done = []
 moves g Internal = move internal Done ∷ []

@@ -1,4 +1,4 @@
--- Reading words from the front: what was read and the words behind it, or the number of a refusal; the first offending word decides
+-- Reading words from the first on: what was read and the words after it, or the number of a refusal; the first offending word decides
 -- (document 01, "Operations": 4, 5 and 6 by the first offending word of the stream). Generic over what is read.
 use Rattle.std.specs.Prelude.{Bool, true, false, List, [], ◌∷◌, ℕ, zero, suc, ◌+◌, ◌*◌, ltb, leb}
 use Rattle.eb3.specs.Refusal
@@ -19,12 +19,12 @@ unfoldable pub giving : {A B : Type 0} → (A → B) → Read A → Read B
 giving f (refused k) = refused k
 giving f (taken a t) = taken (f a) t
 
--- What was read, then more behind it.
+-- Reading goes on with the words after what was read; a refusal stays.
 unfoldable pub then : {A B : Type 0} → Read A → (A → Reader B) → Read B
 then (refused k) g = refused k
 then (taken a t) g = g a t
 
--- One thing and, behind it, another.
+-- One thing and, after it, another.
 unfoldable pub both : {A B : Type 0} → Reader A → Reader B → Reader (A × B)
 both f g t = then (f t) λ a u. giving (λ b. (a, b)) (g u)
 
@@ -59,7 +59,7 @@ unfoldable pub series : {A : Type 0} → ℕ → ℕ → (ℕ → Reader A) → 
 series zero i f t = taken [] t
 series (suc n) i f t = giving (λ p. p.0 ∷ p.1) (both (f i) (series n (i + 1) f) t)
 
--- A number of so many words, low first; its last word is where it is judged.
+-- A number written in a given number of words, low word first; it is judged at its last word.
 unfoldable pub number_in : ℕ → Reader ℕ
 number_in zero t = refused Refusal.form
 number_in (suc zero) [] = refused Refusal.form

@@ -26,7 +26,7 @@ read_parameter_counts L n t = pick L.counts_written (repeat n (count_of 1 L.func
 abbrev pub count_for : List ℕ → ℕ → ℕ
 count_for counts f = get_or counts f 1
 
--- What function i of those with these parameter counts may name: before may stand only where a label's expression does.
+-- What function i of those with these parameter counts may name: `before` is allowed only in a label's expression.
 abbrev pub at_start_scope : Edition → List ℕ → ℕ → Scope
 at_start_scope L counts i = record { edition = L; arity = count_for counts; now = i; before = 0; variables = count_for counts i }
 
@@ -47,7 +47,7 @@ read_functions L domains labels t =
     then (count_of 0 Limits.functions t) λ n u.
     then (read_parameter_counts L n u) λ counts. series n 0 (read_function L domains labels counts)
 
--- 5. Of a process, R holding what stands before it; Γ are the variables in scope, by their domains.
+-- 5. Of a process, R being the rule set as far as it was read before it; Γ are the variables in scope, by their domains.
 unfoldable pub argument_of : RuleSet → List ℕ → ℕ → Reader Argument
 argument_of R Γ d [] = refused Refusal.form
 argument_of R Γ d (c ∷ t) =
@@ -62,7 +62,7 @@ arguments_of R Γ (d ∷ ds) t = giving (λ p. p.0 ∷ p.1) (both (argument_of R
 unfoldable pub rule_action_of : RuleSet → List ℕ → Reader RuleTerm
 rule_action_of R Γ t = by_number Refusal.reference (length R.labels) (λ l u. giving (rule_perform l) (arguments_of R Γ (label R l) u)) t
 
--- A call names a lower process: one that stands before.
+-- A call names a lower process: an earlier one.
 unfoldable pub call_of : RuleSet → List ℕ → Reader RuleTerm
 call_of R Γ t = by_number Refusal.reference (length R.processes) (λ p u. giving (call p) (arguments_of R Γ (process R p).parameters u)) t
 
@@ -118,7 +118,7 @@ rule_terms R (suc n) Γ s = rule_step R (rule_terms R n) Γ s
 unfoldable pub read_rule_term : RuleSet → List ℕ → Reader RuleTerm
 read_rule_term R Γ s = rule_terms R (length s) Γ s
 
--- The parameters a process may have, with n processes behind it: the last is main, and has none.
+-- The parameters a process may have, with n processes after it: the last is main, and has none.
 abbrev pub parameter_limit : ℕ → ℕ
 parameter_limit zero = 0
 parameter_limit (suc n) = Limits.process_parameters

@@ -6,7 +6,7 @@ use Rattle.eb3.specs.RuleSets.{Argument, constant_argument, variable_argument, R
 use Rattle.eb3.specs.Reading.{pick}
 use Rattle.eb3.specs.Spelling.{number_words, data_words, cond_words}
 
--- One number in one word; and a count with as many entries behind it.
+-- One number in one word; and the words of a list, its length before its entries.
 abbrev pub one_word : ℕ → List ℕ
 one_word n = n ∷ []
 
@@ -34,7 +34,7 @@ module _ (width : ℕ) where
   unfoldable pub function_words : Function → List ℕ
   function_words F = concat_map one_word F.parameters ++ (data_words width F.at_start ++ concat_map (data_words width) F.at_label)
 
-  -- A process: its parameters' domains behind their count, its term.
+  -- A process: the number of its parameters, their domains, its term.
   unfoldable pub process_words : Process → List ℕ
   process_words P = counted_words one_word P.parameters ++ rule_words P.term
 

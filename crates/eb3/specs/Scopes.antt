@@ -1,11 +1,11 @@
--- What an expression may say where it stands (document 01, "Blocks and the rule stream", item 4, and the guards of item 5).
+-- What an expression may say at its place in a rule set (document 01, "Blocks and the rule stream", item 4, and the guards of item 5).
 use Rattle.std.specs.Prelude.{◌≡◌, ℕ, suc, ◌+◌, ◌≤◌, ◌<◌, length, get_or}
 use Rattle.eb3.specs.Expressions.{Data, Undefined, Constant, Variable, Add, Subtract, If, Now, Before, Args, Nil, Cons, Cond, Equal, Less, And, Or, Not, True}
 use Rattle.eb3.specs.Attributes.{Attributes, function, domain, number_of_functions}
 use Rattle.eb3.specs.Editions.{Edition}
 
--- The edition, which says the largest constant and how many words it has; each function's parameter count; the functions that now and before may name (those below these numbers),
--- and how many variables there are. Where before may name none, its code does not occur.
+-- The edition, which says the largest constant and how many words it has; each function's parameter count; the functions that now and before may name (those
+-- below these numbers), and how many variables there are. Where before may name none, its code does not occur.
 pub record Scope : Type 0 where
   pub edition : Edition
   pub arity : ℕ → ℕ
@@ -52,7 +52,7 @@ label_scope A f n = record { edition = A.edition; arity = arities A; now = f; be
 abbrev pub guard_scope : Attributes → ℕ → Scope
 guard_scope A n = record { edition = A.edition; arity = arities A; now = number_of_functions A; before = 0; variables = n }
 
--- All functions' expressions stand in their scopes; label l has `parameters l` parameters.
+-- All functions' expressions are in their scopes; label l has `parameters l` parameters.
 pub record ExpressionsInScope (A : Attributes) (parameters : ℕ → ℕ) : Type 0 where
   pub at_start : (f : ℕ) → f < number_of_functions A → DataInScope (function A f).at_start (start_scope A f)
   pub at_label : (f l : ℕ) → f < number_of_functions A → DataInScope (get_or (function A f).at_label l Undefined) (label_scope A f (parameters l))

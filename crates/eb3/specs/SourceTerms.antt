@@ -1,5 +1,5 @@
 -- Source terms and their rules, call included: source 000, figure 6 with S_M-11, before any unfolding.
--- A quantification stands for its copies, as the source says; calls stay calls until rule 11 opens them.
+-- A quantification means its copies, as the source says; calls stay calls until rule 11 opens them.
 use Rattle.std.specs.Prelude.{◌≡◌, not, ◌⊎◌, [], ◌∷◌, ◌++◌, map, ℕ, ◌<◌, T, length}
 use Rattle.eb3.specs.Expressions.{Cond}
 use Rattle.eb3.specs.Terms.{Term, Done, Internal, Perform, Sequence, Choice, Star, Parallel, Guard, Action, internal, visible, VisibleAction, Mask, in_mask}

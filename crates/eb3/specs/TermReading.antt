@@ -11,7 +11,7 @@ use Rattle.eb3.specs.RuleSets.{RuleSet, sizes_of, label, attributes}
 use Rattle.eb3.specs.Reading.{Read, refused, taken, Reader, pick, giving, then, both, number_of, by_number, number_in}
 use Rattle.eb3.specs.ExpressionReading.{read_cond}
 
--- So many mask words, with bits only of the n labels that are left.
+-- k mask words, with bits only of the n labels that are left.
 unfoldable pub mask_of : ℕ → ℕ → Reader Mask
 mask_of zero n t = taken [] t
 mask_of (suc k) n t = giving (λ p. p.0 ∷ p.1) (both (number_of Refusal.reference (2 ^ min n 16)) (mask_of k (n - 16)) t)

@@ -23,7 +23,7 @@ pub data Action : Type 0 where
   visible : VisibleAction → Action
   deriving IsSet as Action_set_over
 
--- A mask is its words, bit j of word i standing for label 16 × i + j (Laws/Masks).
+-- A mask is its words; bit j of word i is the bit of label 16 × i + j (Laws/Masks).
 abbrev pub Mask : Type 0
 Mask = List ℕ
 

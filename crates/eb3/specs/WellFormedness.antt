@@ -74,7 +74,7 @@ Allowed R i Γ (call p rs) = (p < i) × ArgumentsFit R Γ (process R p).paramete
 abbrev pub DomainsDefined : RuleSet → List ℕ → Type 0
 DomainsDefined R ds = All (λ d. d < length R.domains) ds
 
--- A function has parameters with domains; its expressions, one for each label, stand in their scopes.
+-- A function has parameters with domains; its expressions, one for each label, are in their scopes.
 pub record FunctionFits (R : RuleSet) (f : ℕ) : Type 0 where
   pub parameter_count : (1 ≤ length (function_rule R f).parameters) × (length (function_rule R f).parameters ≤ R.edition.function_parameters)
   pub parameters : DomainsDefined R (function_rule R f).parameters

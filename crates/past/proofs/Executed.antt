@@ -1,6 +1,6 @@
--- Request K10 (document 02) on bytes, executed. The key cabinet: two histories of different lengths and events that end alike, and the same list after
--- both, with what the tables then hold (request K1). Then, that what the request asks of two histories is needed: with equal values and another term, or with
--- an equal term and another value, later moves differ.
+-- Request K10 (document 02) on bytes, executed. The key cabinet: two histories of different lengths and events with the same end, and the same list
+-- after both, with what the tables then hold (request K1). Then, that what the request asks of two histories is needed: with equal values and another term,
+-- or with an equal term and another value, later moves differ.
 use Rattle.std.specs.Prelude.{◌≡◌, refl, T, replicate}
 use Rattle.std.proofs.Math.Path.{sym}
 use Rattle.std.proofs.Common.{◌∙◌}
@@ -43,7 +43,7 @@ use Rattle.eb3.proofs.Laws.Machines.{history_chain}
 use Rattle.past.specs.PastInCells.{SameEnd, PastInCells, followed_by, Lent, run_in}
 use Rattle.past.proofs.Laws.PastInCells.{past_in_cells_holds}
 
--- ── two histories of the key cabinet that end alike ──
+-- ── two histories of the key cabinet with the same end ──
 
 abbrev cabinet_file : List ℕ
 cabinet_file = file_of cabinet
@@ -177,7 +177,7 @@ pub record Executed : Type 0 where
   pub no_event_memory : (ran (0 ∷ 0 ∷ 4 ∷ 0 ∷ [])).memory ≡ (ran []).memory
   pub no_event_count : count cabinet_file (cut 24 (ran (0 ∷ 0 ∷ 4 ∷ 0 ∷ [])).term) (ran (0 ∷ 0 ∷ 4 ∷ 0 ∷ [])).memory ≡ answered 2
   pub start_count : count cabinet_file (cut 41 (ran []).term) (ran []).memory ≡ answered 4
-  -- Nor do Take 0, Bring 0 lead back to the start: the values are the start's, but key 0's star now stands in a sequence after done, two words more than
+  -- Nor do Take 0, Bring 0 lead back to the start: the values are the start's, but key 0's star is now in a sequence after done, two words more than
   -- the start's 41.
   pub round_memory : (ran (1 ∷ 0 ∷ 4 ∷ 0 ∷ 0 ∷ 0 ∷ 4 ∷ 0 ∷ [])).memory ≡ (ran []).memory
   pub round_answer : (ran (1 ∷ 0 ∷ 4 ∷ 0 ∷ 0 ∷ 0 ∷ 4 ∷ 0 ∷ [])).answer ≡ answered (record { size = 43; visible = 2; internal = 0; refusals = 0 })

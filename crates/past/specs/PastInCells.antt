@@ -97,7 +97,7 @@ pub record PastInCells (rules list list' : List ℕ) (S : Sizes) (R : RuleSet) (
   pub same_runs : (further : List ℕ) → T (all_read (words_in further)) → (b b' : Lent S)
       → SameRuns rules S (run_in rules b list) (run_in rules b (followed_by list further)) (run_in rules b' list') (run_in rules b' (followed_by list' further))
 
--- Of every rule set that is admitted, and any two lists whose histories end alike.
+-- Of every rule set that is admitted, and any two lists whose histories have the same end.
 abbrev pub K10Holds : Type 0
 K10Holds = (rules list list' : List ℕ) (S : Sizes) (R : RuleSet) (h h' : Machine (Sem_T (attributes R)))
     → admit rules ≡ answered S → admission rules ≡ answered R → T (all_read (words_in list)) → T (all_read (words_in list')) → EndsWith R (numbers_in list) h → EndsWith R (numbers_in list') h'

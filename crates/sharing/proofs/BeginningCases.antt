@@ -1,5 +1,5 @@
--- A case for each way that the beginning of a successor returns, but for a parallel's (document 01, "Moves, in order"). The premises have the form of what the code tells
--- there.
+-- A case for each way in which writing a successor's words returns, except for a parallel's (document 01, "Moves, in order"). The premises have the form of
+-- the facts that the code gives there.
 use mathlib.Core.Path.{◌≡◌, refl, sym, ap, ◌∙◌, subst}
 use mathlib.Core.Bool.{true, false, cond}
 use mathlib.Core.List.{List, ◌++◌}
@@ -147,7 +147,7 @@ module _ (s p t : List ℕ) (behind : t ≡ drop 1 s) where
         } in
         subst (λ z. BeganRight u P z at x y r) (sym f) (begun m u P (words P.edition.width F ++ rest) E given (subst (λ z. at + size P.edition.width z.successor ≤ length x) f k)))
 
-    -- The right operand stands where the path says.
+    -- The right operand begins after n words, n being the number that the path gives.
     module _ (n : ℕ) (d : get_or p 0 0 ≡ 0 → ⊥) (is : n ≡ get_or p 1 0) where
       pub choice_short : length t < n → Beginning s p at x x 0
       choice_short h =

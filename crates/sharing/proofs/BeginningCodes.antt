@@ -1,4 +1,4 @@
--- The actions of running terms have numbers below 1,048,576, so that three numbers stand in one (document 01, "Moves, in order").
+-- The actions of running terms have numbers below 1,048,576, so that three numbers fit into one (document 01, "Moves, in order").
 use mathlib.Core.Path.{◌≡◌}
 use mathlib.Core.List.{List}
 use Prim.Native.Nat.{ℕ, ◌+◌, ◌*◌, ◌/◌, ◌%◌, ◌≤◌, ◌<◌}
@@ -13,7 +13,7 @@ unfolding action_code
 small_number internal h = omega arith
 small_number (visible a) h = omega (arith, h.0, few_arguments a.arguments h.1 h.2)
 
--- An action behind its code has no number that large.
+-- No action after its code has a number of 1,048,576 or more.
 pub never_large : (t : List ℕ) (r : ℕ) → ActionNumber t r → 1048576 ≤ r → ActionNumber t 0
 never_large t r f h a rest i = absurd (omega (arith, h, f a rest i, small_number (visible a) i.small))
 

@@ -1,5 +1,5 @@
--- Words that are the last ones of the unfolding, and what stands at the front of them: the place of a part is the number of these words (document 01, "Unfolding, size
--- and breadth").
+-- Words that are the last ones of the unfolding, and the term that they begin with: the place of a part is the number of these words (document 01,
+-- "Unfolding, size and breadth").
 use mathlib.Core.Path.{◌≡◌, refl, sym, ap, ◌∙◌, subst}
 use mathlib.Core.Bool.{Bool, true, false, ◌&&◌, cond}
 use mathlib.Core.List.{List, [], ◌∷◌}
@@ -40,7 +40,7 @@ pub last_tail : (n : ℕ) (s v : List ℕ) → v ≡ last_of n s → Tail v s
 unfolding last_of
 last_tail n s v e = (length s - n, e)
 
--- What is lent from the k-th word on.
+-- A slice lent from word k to the end has as many words as follow the first k.
 pub lent_length : (k : ℕ) (s : List ℕ) → length (take (length s - k) (drop k s)) ≡ length s - k
 lent_length k s = ap length (part k s) ∙ length-drop k s
 
@@ -49,7 +49,7 @@ lent_length k s = ap length (part k s) ∙ length-drop k s
 pub part_at : {u v : List ℕ} {P : Scope} {F : Term} {rest : List ℕ} → Under u v → TermAt v P F rest → Unmasked F → PartAt u P (length v) F
 part_at {u} {v} {P} {F} {rest} h t b = record { rest = rest; within = h.fewer; there = subst (λ z. TermAt z P F rest) h.end t; unmasked = b }
 
--- What stands at the front of v, held in one word: done is spelled out.
+-- The term that v begins with, held in one word; done is spelled out.
 pub record OneWord (u : List ℕ) (P : Scope) (F : Term) (w : ℕ) : Type 0 where
   pub shared : Shared
   pub stands : Stands u P shared

@@ -1,5 +1,5 @@
--- What a successor's beginning is asked of: a term at the front of the last words of the unfolding, and a path; and the term known by its first word. Then what is made of an
--- operand's successor: done, a sequence (document 01, "Moves, in order").
+-- What a successor is written from: a term that the last words of the unfolding begin with, and a path; and the term known by its first word. Then what is
+-- made of an operand's successor: done, a sequence (document 01, "Moves, in order").
 use mathlib.Core.Path.{◌≡◌, refl, sym, ap, ◌∙◌}
 use mathlib.Core.Bool.{true}
 use mathlib.Core.List.{List, [], ◌∷◌}
@@ -21,15 +21,15 @@ use Rattle.sharing.specs.Beginning.{began, BeganRight, Beginning, EndPut}
 use Rattle.sharing.proofs.BeginningPuts.{put_two, put_behind}
 use Rattle.sharing.proofs.BeginningEnds.{Under}
 
--- What skipping a term answers.
+-- Skipping the term that s begins with answers r, the number of words after it.
 abbrev pub Skipped : List ℕ → ℕ → Type 0
 Skipped s r = (r ≤ length s) × ((P : Scope) (E : Term) (rest : List ℕ) → TermAt s P E rest → r ≡ length rest)
 
--- A part as it is lent.
+-- The slice of x from word a to the end, in the form in which the code lends it.
 abbrev pub lent : ℕ → List ℕ → List ℕ
 lent a x = take (length x - a) (drop a x)
 
--- What is known of the term at the front of s, the last words of u, and of a path p.
+-- What is known of the term that s begins with, s being the last words of u, and of a path p.
 pub record Given (u s : List ℕ) (P : Scope) (E : Term) (rest p : List ℕ) : Type 0 where
   pub few : length u ≤ 65503
   pub under : Under u s
@@ -87,7 +87,7 @@ ended {u} {P} {at} {x} {y} {left} {a} {r} ρ rest m k e f =
     let w = m.right k in
     record { shared = Ended; stands = tt; is_successor = refl; written = w.0; answered = w.1 ∙ (ap (λ l. began (at + 1) l a) e ∙ ap (began (at + 1) (length rest)) f) }
 
--- What an operand becomes, and then F, where it stands.
+-- What an operand becomes, and then F, which stays in the unfolding and is held as its place l.
 pub then_began : {u : List ℕ} {P : Scope} {at : ℕ} {x y : List ℕ} {r : ℕ} (f : Followed) (l : ℕ) (F : Term) → at + 2 ≤ length x → PartAt u P l F
     → BeganRight u P f (at + 2) (set (set x at 22) (at + 1) (32 + l)) y r → BeganRight u P (within (λ X. Sequence X F) f) at x y r
 unfolding term_of shared_words

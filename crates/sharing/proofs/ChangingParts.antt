@@ -1,4 +1,4 @@
--- The successor of a part begun in one array and put in its place in another (document 01, "Moves, in order").
+-- The successor of a part, written into one array and put in its place in another (document 01, "Moves, in order").
 use mathlib.Core.Path.{◌≡◌, refl, sym, ap, ◌∙◌, subst}
 use mathlib.Core.Bool.{true}
 use mathlib.Core.List.{List, [], ◌∷◌, ◌++◌}
@@ -22,7 +22,7 @@ use Rattle.sharing.specs.Splicing.{Spliced}
 use Rattle.sharing.proofs.BeginningCodes.{began_at, began_action}
 use Rattle.sharing.specs.Changing.{RoomFor, ChangedRight, Joined, PartChanged}
 
--- The words at the front of an array where others were put there.
+-- The first words of an array into which others were put.
 pub put_front : (ws entry exit : List ℕ) → exit ≡ put_at 0 ws entry → take (length ws) exit ≡ ws
 put_front ws entry exit e = ap (take (length ws)) e ∙ take-append_seam ws (drop (0 + length ws) entry)
 
@@ -84,7 +84,7 @@ join_unplaced {mid = mid} within enough some s = record {
   right = λ u P h room. absurd (s.made (omega arith) h within (room.whole Ended refl) (omega (arith, room.moved Ended refl, length-set mid 0 30)));
 }
 
--- The words end before, or there is no room.
+-- The words end before the parallel's three words do, or the scratch array has no room.
 pub join_short : {d : List ℕ} {n i : ℕ} {mid : List ℕ} {r : ℕ} → n < i + 3 → Joined d n i mid d mid r
 join_short h = record { same_length = refl; mid_same_length = refl; right = λ u P g room. absurd (omega arith) }
 
@@ -177,7 +177,7 @@ module _ (d : List ℕ) {u : List ℕ} {n i e w : ℕ} {p mid mid1 s : List ℕ}
     part_made : PartChanged u d n i e w p mid d' mid2 (k + 65536 * (r / 4294967296))
     part_made = record { same_length = c.same_length; mid_same_length = c.mid_same_length ∙ b.same_length; right = λ P l E ρ T g a f m room. part_right P l E ρ T g a f m room c }
 
-  -- Nothing was begun.
+  -- No successor was written.
   pub part_lost : {z : ℕ} {mid2 : List ℕ} → r ≡ 0 → mid2 ≡ mid1 → PartChanged u d n i e w p mid d mid2 z
   part_lost z same = record { same_length = refl; mid_same_length = ap length same ∙ b.same_length; right = λ P l E ρ T g a f m room. absurd (something P l E ρ T g a f m room z) }
 

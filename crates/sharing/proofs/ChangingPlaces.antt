@@ -1,4 +1,4 @@
--- The words at a place of a shared term and those behind it; each way of changing the place (document 01, "Moves, in order").
+-- The words at a place of a shared term and those after it; each way of changing the place (document 01, "Moves, in order").
 use mathlib.Core.Path.{◌≡◌, refl, sym, ap, ◌∙◌, subst}
 use mathlib.Core.Bool.{true}
 use mathlib.Core.List.{List, [], ◌∷◌, ◌++◌}
@@ -28,12 +28,12 @@ module _ (d : List ℕ) (n i : ℕ) (within : n ≤ length d) (here : i < n) (ws
       let z : i + 0 ≡ i = omega arith in
       ap (λ j. get_or d j 0) (sym z) ∙ word_at 0 (omega arith)
 
--- The same room, by other names.
+-- `RoomFor` of an equal term and an equal number of words.
 room_as : {width : ℕ} {T T' : Term} {i m m' space room : ℕ} → T' ≡ T → m' ≡ m → RoomFor width T i m space room → RoomFor width T' i m' space room
 room_as {width} {T} {T'} {i} {m} {m'} {space} {room} t e h = subst (λ k. RoomFor width T' i k space room) (sym e) (subst (λ z. RoomFor width z i m space room) (sym t) h)
 
 module _ (u d : List ℕ) (n i : ℕ) (p : List ℕ) (within : n ≤ length d) (here : i < n) (f : get_or d i 0 ≡ 22) where
-  -- What is behind done.
+  -- Where the place begins with a sequence's code, its left operand is done and the part after done changes.
   then_words : (P : Scope) (z : Shared) (after : List ℕ) (ρ : Action) (T : Term) → slice i n d ≡ shared_words z ++ after → Changes u P p z ρ T
       → (l : ℕ) × (E : Term) × (slice i n d ≡ (22 ∷ part_word l ∷ 30 ∷ []) ++ after) × PartAt u P l E × (follow E p ≡ followed ρ T []) × (marked P.edition.width E p ≡ true)
   unfolding shared_words
@@ -45,7 +45,7 @@ module _ (u d : List ℕ) (n i : ℕ) (p : List ℕ) (within : n ≤ length d) (
       let s : slice i n d ≡ (25 ∷ 30 ∷ 30 ∷ []) ++ after = e ∙ ap (λ y. shared_words y ++ after) q in
       absurd (omega (arith, f, word_here d n i within here (25 ∷ 30 ∷ 30 ∷ []) after s))
 
--- The words end before.
+-- The words end before the third word of a sequence's place, so there is no such place.
 pub then_short : {u d : List ℕ} {n i : ℕ} {p mid : List ℕ} {r : ℕ} → n ≤ length d → i < n → get_or d i 0 ≡ 22 → n < i + 3 → Changed u d n i p mid d mid r
 then_short {u} {d} {n} {i} {p} within here f g = record {
   same_length = refl;
@@ -56,7 +56,7 @@ then_short {u} {d} {n} {i} {p} within here f g = record {
 }
 
 module _ {u d : List ℕ} {n i : ℕ} {p mid d' mid' : List ℕ} {r : ℕ} (within : n ≤ length d) (here : i < n) where
-  -- A part moves in the place of the words ws.
+  -- A part's successor replaces the words ws.
   by_part : {e w : ℕ} → PartChanged u d n i e w p mid d' mid' r → (P : Scope) (l : ℕ) (E : Term) (ρ : Action) (T : Term) (ws after : List ℕ) → slice i n d ≡ ws ++ after → e ≡ i + length ws
       → w ≡ part_word l → PartAt u P l E → follow E p ≡ followed ρ T [] → marked P.edition.width E p ≡ true → RoomFor P.edition.width T i (length after) (length d) (length mid) → ChangedRight u P ρ T (take i d) after d' r
   by_part {e} {w} h P l E ρ T ws after s f g a b c room =
@@ -64,7 +64,7 @@ module _ {u d : List ℕ} {n i : ℕ} {p mid d' mid' : List ℕ} {r : ℕ} (with
       let q : slice e n d ≡ after = ap (λ k. slice k n d) f ∙ words_behind d n i within here ws after s in
       subst (λ z. ChangedRight u P ρ T (take i d) z d' r) q (h.right P l E ρ T g a b c (room_as refl m room))
 
-  -- A word above the codes.
+  -- The first word is none of the codes 22 and 25, so it is a part's.
   pub part_changed : {w : ℕ} → w ≡ get_or d i 0 → (w ≡ 25 → ⊥) → (w ≡ 22 → ⊥) → PartChanged u d n i (i + 1) w p mid d' mid' r → Changed u d n i p mid d' mid' r
   unfolding shared_words
   part_changed {w} f no_beside no_then h = record { same_length = h.same_length; mid_same_length = h.mid_same_length; right = go }

@@ -63,20 +63,20 @@ done_made left at entry h = record {
   right = λ room. (refl, put_one entry at 30 h);
 }
 
--- ── a shared term by its front ──
+-- ── a shared term by its first word ──
 
 pub expand_front : (s t u entry exit : List ℕ) (w k at r : ℕ) → w ≡ get_or s 0 0 → t ≡ drop 1 s → w ≡ k → 0 < k → Expanded (k ∷ t) u at entry exit r → Expanded s u at entry exit r
 expand_front s t u entry exit w k at r a b e z h = subst (λ v. Expanded v u at entry exit r) (sym (front_form s t w k a b e z)) h
 
--- No term has no words.
+-- Where the array has no place left, nothing is written: every term has at least one word.
 pub expand_none : (s u entry : List ℕ) (at : ℕ) → length entry ≤ at → Expanded s u at entry entry 0
 expand_none s u entry at h = record { same_length = refl; right = λ P S rest e st room. absurd (omega (arith, words_some P.edition.width (term_of S))) }
 
--- Two numbers of an answer, the first of which is small, are known by it.
+-- Equal answers have equal numbers, where the first number of each is at most 65,535.
 pub answered_same : (left left' n n' : ℕ) → answer left n ≡ answer left' n' → left ≤ 65535 → left' ≤ 65535 → (left ≡ left') × (n ≡ n')
 answered_same left left' n n' e h k = (omega (arith, e, answer_is left n, answer_is left' n'), omega (arith, e, answer_is left n, answer_is left' n'))
 
--- What is said of a shared term, spelled out from `at` on where there is room: the answer r, and what the array is then.
+-- The result for a shared term S, spelled out from `at` on where there is room: the answer r, and what the array is then.
 abbrev pub Tells : ℕ → List ℕ → List ℕ → ℕ → ℕ → Shared → List ℕ → Type 0
 Tells width entry exit at r S rest = at + length (words width (term_of S)) ≤ length entry → (r ≡ answer (length rest) (at + length (words width (term_of S)))) × (exit ≡ put_at at (words width (term_of S)) entry)
 
@@ -91,7 +91,7 @@ module _ (entry exit t : List ℕ) (at r : ℕ) where
   pub done_expanded : (u : List ℕ) → DoneExpanded (length t) at entry exit r → Expanded (30 ∷ t) u at entry exit r
   done_expanded u h = record { same_length = h.same_length; right = λ P S rest e st. done_tells P.edition.width h S rest e }
 
--- What is known of a word after the cases of what has begun: it is none of their codes.
+-- What is known of a word once the codes of terms that have started are excluded: it is none of 22, 25 and 30.
 abbrev pub NotBegun : ℕ → Type 0
 NotBegun w = ((Unit {0} × (w ≡ 22 → ⊥)) × (w ≡ 25 → ⊥)) × (w ≡ 30 → ⊥)
 

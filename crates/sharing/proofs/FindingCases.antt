@@ -25,7 +25,7 @@ pub record Sound (left k l r : ℕ) : Type 0 where
   pub place_bounded : r < passed → r ≤ answer left l
   pub passed_bounded : passed ≤ r → r < full → r ≤ passed + answer left k
 
--- What is shown of every term that may stand there.
+-- What is shown of each shared term S that the words searched may begin with, rest being the words after it.
 abbrev pub Told : List ℕ → List ℕ → ℕ → List ℕ → List ℕ → ℕ → ℕ → Scope → Shared → List ℕ → Type 0
 Told u M k entry exit n r P S rest = Stands u P S → length u ≤ length entry → length u ≤ n
     → (k < move_count M (term_of S) → FoundRight u P M S rest k exit r) × (move_count M (term_of S) ≤ k → r ≡ passed + answer (length rest) (k - move_count M (term_of S)))
@@ -116,7 +116,7 @@ module _ (u t v : List ℕ) (isv : v ≡ drop 1 t) (M : List ℕ) (k : ℕ) (ent
         λ z. h.none_found P S rest e st.0 x y (omega (arith, c)) ∙ ap (λ m. passed + answer (length rest) (k - m)) (sym c),
       )))
 
--- ── the code in front ──
+-- ── the first code ──
 
 pub at_front : (u s t M : List ℕ) (k : ℕ) (entry exit : List ℕ) (n w j r : ℕ) → w ≡ get_or s 0 0 → t ≡ drop 1 s → w ≡ j → 0 < j → Found u (j ∷ t) M k entry exit n r → Found u s M k entry exit n r
 at_front u s t M k entry exit n w j r a b e z h = subst (λ x. Found u x M k entry exit n r) (sym (front_form s t w j a b e z)) h

@@ -1,4 +1,4 @@
--- The forms of a shared term, told by the first of its words; it is done where that word says so (document 01, "Moves, in order").
+-- The forms of a shared term, known by the first of its words; it is done where that word says so (document 01, "Moves, in order").
 use mathlib.Core.Path.{◌≡◌, refl, ap, ◌∙◌}
 use mathlib.Core.Bool.{false}
 use mathlib.Core.List.{List, ◌∷◌, ◌++◌, append_assoc}

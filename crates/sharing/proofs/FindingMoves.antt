@@ -1,4 +1,4 @@
--- The moves of a term that is spelled out where it has begun: of a sequence, and of a parallel without a mask, whose moves are its left side's and then its
+-- The moves of a term that has started, and so is spelled out: of a sequence, and of a parallel without a mask, whose moves are its left side's and then its
 -- right side's (document 01, "Moves, in order").
 use mathlib.Core.Path.{◌≡◌, refl, ap, ◌∙◌}
 use mathlib.Core.Bool.{Bool, true, false, not, ◌&&◌, cond}

@@ -1,4 +1,4 @@
--- A part of the unfolding, in which a move is looked for: there is room for its path, and what was answered of it is answered of the word that stands for it
+-- A part of the unfolding, in which a move is looked for: there is room for its path, and what was answered of it is the answer for the word that it is held as
 -- (document 01, "Moves, in order").
 use mathlib.Core.Path.{◌≡◌, refl, sym, ap, ◌∙◌, subst}
 use mathlib.Core.List.{List}

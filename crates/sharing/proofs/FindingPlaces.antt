@@ -54,7 +54,7 @@ module _ {u : List ℕ} {P : Scope} {M p : List ℕ} {S : Shared} {k : ℕ} (a :
     move_here = λ X x e f. entry_sequence (holding M) (term_of S) F d k (move x.action (term_of (a.around X))) (a.move_here X x e f);
   }
 
-  -- three pieces, and a fourth behind the last
+  -- three pieces, and a fourth after the last
   regroup : (x y z w : List ℕ) → (x ++ (y ++ z)) ++ w ≡ x ++ (y ++ (z ++ w))
   regroup x y z w = append_assoc x (y ++ z) w ∙ ap (λ t. x ++ t) (append_assoc y z w)
 

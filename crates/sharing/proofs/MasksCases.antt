@@ -1,4 +1,4 @@
--- Whether a label stands in a mask of a term, told of the operands and then of the whole (document 01, "Moves, in order").
+-- Whether a label is in a mask of a term: known of the operands, and then of the whole (document 01, "Moves, in order").
 use mathlib.Core.Path.{◌≡◌, sym, ap, ◌∙◌, subst}
 use mathlib.Core.Bool.{true}
 use mathlib.Core.List.{List, ◌∷◌, ◌++◌}
@@ -22,14 +22,14 @@ use Rattle.listing.specs.Laws.CasesByCode.{perform_cases, sequence_cases, choice
 use Rattle.sharing.specs.Shared.{Unmasked}
 use Rattle.sharing.specs.Masks.{Bare}
 
--- ── what is told of a term by its code ──
+-- ── what is known of a term by its code ──
 
--- `Bare`, of two operands.
+-- As `Bare`, for two operands one after the other.
 pub record TwoBare (t : List ℕ) (n : ℕ) : Type 0 where
   pub shorter : n ≤ length t
   pub right : (P : Scope) (E F : Term) (rest : List ℕ) → TwoAt t P E F rest → (n ≡ length rest) × Unmasked E × Unmasked F
 
--- The loop has passed over what stands in front of x: what holds of x holds of s.
+-- The loop has passed over the words of s before x: what holds of x holds of s.
 pub record Passing (s x : List ℕ) : Type 0 where
   pub shorter : length x ≤ length s
   pub carries : (n : ℕ) → Bare x n → Bare s n
@@ -37,11 +37,11 @@ pub record Passing (s x : List ℕ) : Type 0 where
 pub passing_none : (s : List ℕ) → Passing s s
 passing_none s = record { shorter = omega arith; carries = λ n h. h }
 
--- From the code in front on, what is shown of the words by that code.
+-- Where x begins with the code k: what is shown of words that begin with k holds of s.
 pub at_front : (s x t : List ℕ) (w k : ℕ) → Passing s x → w ≡ get_or x 0 0 → t ≡ drop 1 x → w ≡ k → 0 < k → (n : ℕ) → Bare (k ∷ t) n → Bare s n
 at_front s x t w k p a b e z n h = p.carries n (subst (λ u. Bare u n) (sym (front_form x t w k a b e z)) h)
 
--- What is left at the last operand is gone through next.
+-- The loop goes on with the words y, which begin with the last operand of the term at x.
 pub goes_on : (s x t y : List ℕ) (w k : ℕ) → Passing s x → w ≡ get_or x 0 0 → t ≡ drop 1 x → w ≡ k → 0 < k → length y ≤ length t → ((n : ℕ) → Bare y n → Bare (k ∷ t) n) → Passing s y
 goes_on s x t y w k p a b e z l h = record { shorter = omega (arith, l, p.shorter, behind_len x t b); carries = λ n g. at_front s x t w k p a b e z n (h n g) }
 
@@ -87,7 +87,7 @@ module _ (t : List ℕ) where
           let q : u ≡ words P.edition.width E ++ rest = e ∙ ap (λ m. last_of m t) n ∙ ap (last_of (length (words P.edition.width E ++ rest))) k.condition.spelled ∙ last_behind (cond_words P.edition.width C) (words P.edition.width E ++ rest) in
           subst (λ v. TermAt v P E rest) (sym q) k.guarded
 
--- What is known of a code behind the cases from 21 to 26.
+-- What is known of a code after the cases from 21 to 26: it is none of these.
 abbrev pub NoOperands : ℕ → Type 0
 NoOperands w = (((((Unit {0} × (w ≡ 21 → ⊥)) × (w ≡ 22 → ⊥)) × (w ≡ 23 → ⊥)) × (w ≡ 24 → ⊥)) × (w ≡ 25 → ⊥)) × (w ≡ 26 → ⊥)
 

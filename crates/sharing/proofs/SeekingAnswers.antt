@@ -33,7 +33,7 @@ bounded_single k l r f g a b = by_order k 1
 
 -- ── the whole ──
 
--- What is shown of every term that may stand there.
+-- What is shown of each term E that the words searched may begin with, rest being the words after it.
 abbrev pub Told : List ℕ → ℕ → List ℕ → List ℕ → ℕ → ℕ → Scope → Term → List ℕ → Type 0
 Told M k entry exit n r P E rest =
     Unmasked E → (size P.edition.width E ≤ length entry → room (holding M) E ≤ n → r < full) × (r < full → Outcome (move_count M E) (path P.edition.width 0 (holding M) E k) k exit r)
@@ -59,7 +59,7 @@ outcome_as {count} {k} {r} count' p' a e h = record {
 pub outcome_early : {count k r : ℕ} {p exit : List ℕ} (count' : ℕ) → k < count → count ≤ count' → Outcome count p k exit r → Outcome count' p k exit r
 outcome_early count' l m h = record { found = λ z. h.found l; none_found = λ z. absurd (omega arith) }
 
--- a moves stand before
+-- a moves come before
 pub outcome_later : {count j r : ℕ} {p exit : List ℕ} (a k : ℕ) → a ≤ k → j ≡ k - a → Outcome count p j exit r → Outcome (a + count) p k exit r
 outcome_later {count} {j} a k l e h = record {
   found = λ z. h.found (omega arith);
@@ -82,7 +82,7 @@ outcome_single k r entry f g l = record {
   none_found = λ z. g (omega arith);
 }
 
--- ── a decision in front ──
+-- ── a decision before the rest of the path ──
 
 module _ {o : List ℕ} {r q : ℕ} {mid exit : List ℕ} (h : Decided o r mid exit q) where
   pub decided_bounds : {k : ℕ} (l : ℕ) → Bounded k l r → Bounded k l q
@@ -100,7 +100,7 @@ module _ {o : List ℕ} {r q : ℕ} {mid exit : List ℕ} (h : Decided o r mid e
     none_found = λ l. h.kept (omega (arith, e.none_found l)) ∙ e.none_found l;
   }
 
--- there is room in front of the path of a term that is so much shorter than the array
+-- where a term is shorter than the array by w or more, there is room for w words before its path
 pub outcome_room : (width : ℕ) (M entry exit : List ℕ) (k r : ℕ) (E : Term) → Outcome (move_count M E) (path width 0 (holding M) E k) k exit r → Bounded k (length entry) r → length exit ≡ length entry
     → (w : ℕ) → w + size width E ≤ length entry → r < passed → w ≤ r
 outcome_room width M entry exit k r E h b e w l z =

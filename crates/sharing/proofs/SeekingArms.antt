@@ -210,7 +210,7 @@ module _ (t M u : List ℕ) (c : ℕ) (judged : Judged t M c) (isu : u ≡ last_
         λ z. outcome_as _ _ (count_guard M C E b) (λ y. path_guard M P.edition.width C E k) (h.right P E rest v w z),
       )))
 
--- ── the code in front ──
+-- ── the first code ──
 
 pub at_front : (s t M : List ℕ) (k : ℕ) (entry exit : List ℕ) (n w j r : ℕ) → w ≡ get_or s 0 0 → t ≡ drop 1 s → w ≡ j → 0 < j → Sought (j ∷ t) M k entry exit n r → Sought s M k entry exit n r
 at_front s t M k entry exit n w j r a b e z h = subst (λ u. Sought u M k entry exit n r) (sym (front_form s t w j a b e z)) h

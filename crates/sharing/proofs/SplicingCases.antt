@@ -24,13 +24,13 @@ copy_last T T₀ s at i h a e =
 
 -- ── replacing ──
 
--- A part in the middle, cut the other way round.
+-- The words from e to n, cut at the beginning first instead of at the end.
 pub slice_cut : (e n : ℕ) (d : List ℕ) → e ≤ n → n ≤ length d → take (n - e) (drop e d) ≡ slice e n d
 slice_cut e n d h k =
     let m : n ≡ e + (n - e) = omega arith in
     sym (ap (λ j. drop e (take j d)) m ∙ ap (drop e) (take-add e (n - e) d) ∙ drop_at (take e d) (take (n - e) (drop e d)) e (length-take-le e d (omega arith)))
 
--- What stands in front once words are put, and more behind them.
+-- The first words of d once the words w are put in at `at`: those before `at`, then w, and then m of those after.
 pub put_front : (at m : ℕ) (w d : List ℕ) → at + length w ≤ length d → take (at + (length w + m)) (put_at at w d) ≡ take at d ++ (w ++ take m (drop (at + length w) d))
 put_front at m w d h =
     ap (λ j. take (j + (length w + m)) (put_at at w d)) (sym (length-take-le at d (omega arith)))
@@ -42,17 +42,17 @@ put_whole at w d h =
     sym (ap (take (at + length w)) (append_assoc (take at d) w (drop (at + length w) d)))
     ∙ take_at (take at d ++ w) (drop (at + length w) d) (at + length w) (omega (arith, length-append (take at d) w, length-take-le at d (omega arith)))
 
--- The scratch words once what stands behind is put there.
+-- The scratch array keeps its length when the words of d from e to n are put into it.
 pub back_length : (d mid mid' : List ℕ) (n e k : ℕ) → mid' ≡ put_at k (take (n - e) (drop e d)) mid → e ≤ n → n ≤ length d → k + (n - e) ≤ length mid → length mid' ≡ length mid
 back_length d mid mid' n e k g h j l = ap length g ∙ put_length k (take (n - e) (drop e d)) mid (omega (arith, length-take-le (n - e) (drop e d) (omega (arith, length-drop e d))))
 
 module _ (d mid : List ℕ) (n i e k : ℕ) where
-  -- A test failed that all together are what is asked for.
+  -- A test failed, so that not all the conditions of `made` hold.
   pub splice_none : ((i ≤ e → e ≤ n → n ≤ length d → i + (k + (n - e)) ≤ length d → k + (n - e) ≤ length mid → ⊥)) → Spliced d mid n i e k d mid None
   splice_none never = record { same_length = refl; mid_same_length = refl; bounded = tt; made = λ a b c f g. absurd (never a b c f g) }
 
   module _ (ie : i ≤ e) (en : e ≤ n) (nd : n ≤ length d) (room : i + (k + (n - e)) ≤ length d) (fit : k + (n - e) ≤ length mid) where
-    -- As many words as were there: nothing moves.
+    -- As many words are put in as were there, so the words after them stay in place.
     pub splice_same : (w d' : List ℕ) → w ≡ take k mid → e ≡ i + k → d' ≡ put_at i w d → Spliced d mid n i e k d' mid (Some n)
     splice_same w d' f g h =
         let l : length w ≡ k = ap length f ∙ length-take-le k mid (omega arith) in
@@ -71,7 +71,7 @@ module _ (d mid : List ℕ) (n i e k : ℕ) where
           );
         }
 
-    -- What stands behind goes behind the words that are put, and both come back.
+    -- The words of d from e to n are put after the new words in the scratch array, and both are copied back into d.
     pub splice_moved : (b mid' w d' : List ℕ) → b ≡ slice e n d → mid' ≡ put_at k b mid → w ≡ take (k + (n - e)) mid' → d' ≡ put_at i w d → Spliced d mid n i e k d' mid' (Some (i + (k + (n - e))))
     splice_moved b mid' w d' f g h j =
         let l : length b ≡ n - e = ap length f ∙ length-slice e n d nd in

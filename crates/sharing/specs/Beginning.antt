@@ -1,5 +1,6 @@
--- The successor of a part along a path, held in few words: what is begun is spelled out, what stands in the unfolding is told by its place (document 01, "Moves, in
--- order"). One number is the answer: the words of the lent array that are written, 65,536 times the words left of the path, and above them the action's number.
+-- The successor of a part along a path, held in few words: what has started is spelled out, what is in the unfolding is held as its place (document 01,
+-- "Moves, in order"). One number is the answer: the place after the words written, 65,536 times the number of words left of the path, and 65,536 times
+-- 65,536 times the action's number.
 use Rattle.std.specs.Prelude.{◌≡◌, true, List, [], ◌∷◌, ◌++◌, ℕ, ◌+◌, ◌*◌, ◌≤◌, ◌<◌, length, take, drop}
 use Rattle.eb3.specs.Scopes.{Scope}
 use Rattle.eb3.specs.Terms.{Term, VisibleAction, Action, visible}
@@ -11,7 +12,7 @@ use Rattle.actions.specs.Codes.{action_code, ActionAt}
 use Rattle.paths.specs.Paths.{Followed, follow, marked}
 use Rattle.sharing.specs.Shared.{Shared, term_of, shared_words, Unmasked, Stands}
 
--- So many words are written, so many words of the path are left, and a is the action's number.
+-- The answer where `at` is the place after the words written, `left` words of the path are left, and a is the action's number.
 unfoldable pub began : ℕ → ℕ → ℕ → ℕ
 began at left a = at + 65536 * (left + 65536 * a)
 
@@ -27,7 +28,7 @@ pub record BeganRight (u : List ℕ) (P : Scope) (f : Followed) (at : ℕ) (entr
   pub written : exit ≡ put_at at (shared_words shared) entry
   pub answered : r ≡ began (at + length (shared_words shared)) (length f.rest) (action_code f.action)
 
--- Of the words s, which are the last ones of the unfolding u, and a path p.
+-- What writing the successor along the path p gives for the words s, the last ones of the unfolding u.
 pub record Beginning (s p : List ℕ) (at : ℕ) (entry exit : List ℕ) (r : ℕ) : Type 0 where
   pub same_length : length exit ≡ length entry
   pub bounded : r < 4503599627370496
@@ -36,7 +37,7 @@ pub record Beginning (s p : List ℕ) (at : ℕ) (entry exit : List ℕ) (r : �
 
 -- ── its parts ──
 
--- Of an action behind its code.
+-- r is the number of the action whose words, after its code, t begins with.
 abbrev pub ActionNumber : List ℕ → ℕ → Type 0
 ActionNumber t r = (a : VisibleAction) (rest : List ℕ) → ActionAt t a rest → r ≡ action_code (visible a)
 
@@ -57,7 +58,7 @@ pub record TwoRight (u : List ℕ) (P : Scope) (E F : Term) (ρ : Action) (rest 
   pub written : exit ≡ put_at at (shared_words X ++ shared_words Y) entry
   pub answered : r ≡ began (at + length (shared_words X ++ shared_words Y)) (length rest) (action_code ρ)
 
--- The left one moves.
+-- The left operand moves, the right one stays.
 pub record LeftBegun (e p : List ℕ) (at : ℕ) (entry exit : List ℕ) (r : ℕ) : Type 0 where
   pub same_length : length exit ≡ length entry
   pub bounded : r < 4503599627370496
@@ -65,7 +66,7 @@ pub record LeftBegun (e p : List ℕ) (at : ℕ) (entry exit : List ℕ) (r : �
       → marked P.edition.width E p ≡ true → length p ≤ 65535 → at + size P.edition.width (follow E p).successor + 1 ≤ length entry
       → TwoRight u P (follow E p).successor F (follow E p).action (follow E p).rest at entry exit r
 
--- Both move; the right one stands behind n words.
+-- Both move; the right one begins after n words.
 pub record BothBegun (e : List ℕ) (n : ℕ) (p : List ℕ) (at : ℕ) (entry exit : List ℕ) (r : ℕ) : Type 0 where
   pub same_length : length exit ≡ length entry
   pub bounded : r < 4503599627370496

@@ -1,4 +1,4 @@
--- One place of a shared term changed: what stands there gives way to its successor, between the words in front of it and those behind it (document 01, "Moves, in
+-- One place of a shared term changed: the term there is replaced by its successor, between the words before it and those after it (document 01, "Moves, in
 -- order"). The answer is the number of words that there are then, and the action's number: r has both in one number.
 use Rattle.std.specs.Prelude.{◌≡◌, true, List, [], ◌++◌, ℕ, ◌+◌, ◌-◌, ◌*◌, ◌≤◌, ◌<◌, length, take, Option, None, Some}
 use Rattle.std.proofs.Math.Seq.{slice}
@@ -16,19 +16,21 @@ abbrev pub told : Option Moved → ℕ
 told None = passed
 told (Some x) = x.words + 65536 * x.action
 
--- What stands at the place performs ρ along the path p, which ends there, and is T then: a part of the unfolding, alone or behind done; or done and done in parallel.
+-- The term at the place performs ρ along the path p, which ends there, and becomes T: it is a part of the unfolding, alone or after done; or done and done in
+-- parallel.
 pub data Changes (u : List ℕ) (P : Scope) (p : List ℕ) (here : Shared) (ρ : Action) (T : Term) : Type 0 where
   part : (l : ℕ) (E : Term) → here ≡ Part l E → PartAt u P l E → follow E p ≡ followed ρ T [] → marked P.edition.width E p ≡ true → Changes u P p here ρ T
   resumed : (l : ℕ) (E : Term) → here ≡ Then Ended l E → PartAt u P l E → follow E p ≡ followed ρ T [] → marked P.edition.width E p ≡ true → Changes u P p here ρ T
   joined : here ≡ Beside Ended Ended → ρ ≡ internal → T ≡ Done → Changes u P p here ρ T
 
--- T spelled out has room in an array of `room` words; so has every form in which it is shared, with the words behind it; and all of them have room in `space` words.
+-- T spelled out has room in an array of `room` words; so has every form in which it is shared, with the words after it; and all of them have room in `space`
+-- words.
 pub record RoomFor (width : ℕ) (T : Term) (front behind space room : ℕ) : Type 0 where
   pub spelled : size width T ≤ room
   pub moved : (X : Shared) → term_of X ≡ T → length (shared_words X) + behind ≤ room
   pub whole : (X : Shared) → term_of X ≡ T → front + (length (shared_words X) + behind) ≤ space
 
--- The words of d' are then the words in front, those of T in a shared form, and those behind.
+-- The first words of d' are then the words before the place, those of T in a shared form, and those after the place.
 pub record ChangedRight (u : List ℕ) (P : Scope) (ρ : Action) (T : Term) (before after d' : List ℕ) (r : ℕ) : Type 0 where
   pub shared : Shared
   pub stands : Stands u P shared
@@ -37,20 +39,20 @@ pub record ChangedRight (u : List ℕ) (P : Scope) (ρ : Action) (T : Term) (bef
   pub answered : r ≡ length (before ++ (shared_words shared ++ after)) + 65536 * action_code ρ
   pub low : r < passed
 
--- Of the first n words of d, at the place that begins in word i.
+-- What the change does to the first n words of d at the place that begins at word i; d' and mid' are what d and mid are then.
 pub record Changed (u d : List ℕ) (n i : ℕ) (p mid d' mid' : List ℕ) (r : ℕ) : Type 0 where
   pub same_length : length d' ≡ length d
   pub mid_same_length : length mid' ≡ length mid
   pub right : (P : Scope) (here : Shared) (after : List ℕ) (ρ : Action) (T : Term) → slice i n d ≡ shared_words here ++ after → Changes u P p here ρ T
       → RoomFor P.edition.width T i (length after) (length d) (length mid) → ChangedRight u P ρ T (take i d) after d' r
 
--- Of a parallel of done and done.
+-- The same for a parallel of done and done, which is replaced by done.
 pub record Joined (d : List ℕ) (n i : ℕ) (mid d' mid' : List ℕ) (r : ℕ) : Type 0 where
   pub same_length : length d' ≡ length d
   pub mid_same_length : length mid' ≡ length mid
   pub right : (u : List ℕ) (P : Scope) → i + 3 ≤ n → RoomFor P.edition.width Done i (n - (i + 3)) (length d) (length mid) → ChangedRight u P internal Done (take i d) (slice (i + 3) n d) d' r
 
--- Of the part with the word w, in the place of the words from i to e.
+-- The same for the part with the word w, whose successor replaces the words from i to e.
 pub record PartChanged (u d : List ℕ) (n i e w : ℕ) (p mid d' mid' : List ℕ) (r : ℕ) : Type 0 where
   pub same_length : length d' ≡ length d
   pub mid_same_length : length mid' ≡ length mid

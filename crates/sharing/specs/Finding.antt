@@ -1,5 +1,5 @@
--- Where move k of a shared term takes place: in a part, in a part behind done, or at a parallel of done and done (document 01, "Moves, in order"). One number is the
--- answer. Below `passed`: the words left where that place begins, and 65,536 times where the part's path begins. From `passed` on: the words left behind the
+-- Where move k of a shared term takes place: in a part, in a part after done, or at a parallel of done and done (document 01, "Moves, in order"). One number is
+-- the answer. Below `passed`: the words left where that place begins, and 65,536 times where the part's path begins. From `passed` on: the words left after the
 -- term, and 65,536 times what is left of k.
 use Rattle.std.specs.Prelude.{◌≡◌, List, ◌++◌, ℕ, ◌+◌, ◌-◌, ◌≤◌, ◌<◌, length, drop}
 use Rattle.std.proofs.Math.Option.{some}
@@ -14,13 +14,13 @@ use Rattle.paths.specs.Paths.{path}
 use Rattle.derivation.specs.Derived.{passed, full, move_count}
 use Rattle.sharing.specs.Shared.{Shared, Ended, Part, Then, Beside, term_of, part_word, shared_words, PartAt, Stands}
 
--- What moves: move j of a term that stands in the unfolding, whose path is p, where it stands alone or behind done; or a parallel of done and done.
+-- What moves: move j, whose path is p, of a part of the unfolding that is alone at the place or after done; or a parallel of done and done.
 pub data Moving (u : List ℕ) (P : Scope) (M : List ℕ) (p : List ℕ) (here : Shared) (j : ℕ) : Type 0 where
   part : (l : ℕ) (E : Term) → here ≡ Part l E → PartAt u P l E → j < move_count M E → p ≡ path P.edition.width 0 (holding M) E j → Moving u P M p here j
   resumed : (l : ℕ) (E : Term) → here ≡ Then Ended l E → PartAt u P l E → j < move_count M E → p ≡ path P.edition.width 0 (holding M) E j → Moving u P M p here j
   joined : here ≡ Beside Ended Ended → j ≡ 0 → Moving u P M p here j
 
--- Move k of S is move j of what stands at a place of it, with the words `before` in front and `after` behind.
+-- Move k of S is move j of the term `here` at a place of S; `before` are the words of S before that place, `after` those after it.
 pub record Place (u : List ℕ) (P : Scope) (M : List ℕ) (p : List ℕ) (S : Shared) (k : ℕ) : Type 0 where
   pub here : Shared
   pub j : ℕ
@@ -35,7 +35,7 @@ pub record Place (u : List ℕ) (P : Scope) (M : List ℕ) (p : List ℕ) (S : S
   pub move_here : (X : Shared) (x : Move) → get_elem? (moves (holding M) (term_of here)) j ≡ some x → x.successor ≡ term_of X
       → get_elem? (moves (holding M) (term_of S)) k ≡ some (move x.action (term_of (around X)))
 
--- Of the words s, behind which rest stands, r was answered; the path array is `exit` then.
+-- For a shared term S with the words rest after it, r was answered; the path array is `exit` then.
 pub record FoundRight (u : List ℕ) (P : Scope) (M : List ℕ) (S : Shared) (rest : List ℕ) (k : ℕ) (exit : List ℕ) (r : ℕ) : Type 0 where
   pub low : r < passed
   pub q : ℕ
@@ -52,7 +52,7 @@ pub record Found (u s M : List ℕ) (k : ℕ) (entry exit : List ℕ) (n r : ℕ
   pub none_found : (P : Scope) (S : Shared) (rest : List ℕ) → s ≡ shared_words S ++ rest → Stands u P S → length u ≤ length entry → length u ≤ n → move_count M (term_of S) ≤ k
       → r ≡ passed + answer (length rest) (k - move_count M (term_of S))
 
--- In a part with the word w, which moves in the place of the words between where `here` are left and where `left` are.
+-- The same in a part with the word w, whose place begins where `here` words are left and ends where `left` words are left.
 pub record PartFound (u : List ℕ) (w here left : ℕ) (M : List ℕ) (k : ℕ) (entry exit : List ℕ) (n r : ℕ) : Type 0 where
   pub same_length : length exit ≡ length entry
   pub bounded : r ≤ full

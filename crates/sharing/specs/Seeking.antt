@@ -1,4 +1,4 @@
--- The path of move k of a part of the unfolding, whose end nobody asks for (document 01, "Moves, in order"; paths: crate paths). One number is the answer. Below
+-- The path of move k of a part of the unfolding, whose end is not needed (document 01, "Moves, in order"; paths: crate paths). One number is the answer. Below
 -- `passed`: the place where the path begins; it goes to the array's end. From `passed` on: there is no move k, and what is left of k once the part's moves are
 -- passed. `full`: there was no room.
 use Rattle.std.specs.Prelude.{◌≡◌, List, ℕ, ◌+◌, ◌-◌, ◌≤◌, ◌<◌, length, drop}
@@ -22,14 +22,14 @@ pub record Outcome (count : ℕ) (p : List ℕ) (k : ℕ) (exit : List ℕ) (r :
   pub found : k < count → (r < passed) × (drop r exit ≡ p)
   pub none_found : count ≤ k → r ≡ passed + (k - count)
 
--- Of the words s, a store M, a number k, a path array that was `entry` and is `exit`, and a scratch array of n numbers.
+-- What the search gives for the words s, a store M, a number k, a path array that was `entry` and is `exit`, and a scratch array of n numbers.
 pub record Sought (s M : List ℕ) (k : ℕ) (entry exit : List ℕ) (n r : ℕ) : Type 0 where
   pub same_length : length exit ≡ length entry
   pub bounds : Bounded k (length entry) r
   pub has_room : (P : Scope) (E : Term) (rest : List ℕ) → TermAt s P E rest → Unmasked E → size P.edition.width E ≤ length entry → room (holding M) E ≤ n → r < full
   pub right : (P : Scope) (E : Term) (rest : List ℕ) → TermAt s P E rest → Unmasked E → r < full → Outcome (move_count M E) (path P.edition.width 0 (holding M) E k) k exit r
 
--- Two operands, the second's moves behind the first's; c is the decision for the first.
+-- Two operands, the second's moves after the first's; c is the decision for the first.
 pub record TwoSought (c : ℕ) (t M : List ℕ) (k : ℕ) (entry exit : List ℕ) (n r : ℕ) : Type 0 where
   pub same_length : length exit ≡ length entry
   pub bounds : Bounded k (length entry) r

@@ -16,13 +16,13 @@ pub record Spliced (d mid : List ℕ) (n i e k : ℕ) (d' mid' : List ℕ) (r : 
   pub made : i ≤ e → e ≤ n → n ≤ length d → i + (k + (n - e)) ≤ length d → k + (n - e) ≤ length mid
       → MatchOption r ⊥ (λ m. (m ≡ i + (k + (n - e))) × (take m d' ≡ take i d ++ (take k mid ++ slice e n d)))
 
--- The term of s, behind which rest stands, spelled out from `at` on: the words left behind it, and 65,536 times the words written.
+-- The term that s begins with, spelled out from `at` on; r is the number of words left after it, and 65,536 times the place after the words written.
 pub record Expanded (s u : List ℕ) (at : ℕ) (entry exit : List ℕ) (r : ℕ) : Type 0 where
   pub same_length : length exit ≡ length entry
   pub right : (P : Scope) (S : Shared) (rest : List ℕ) → s ≡ shared_words S ++ rest → Stands u P S → at + length (words P.edition.width (term_of S)) ≤ length entry
       → (r ≡ answer (length rest) (at + length (words P.edition.width (term_of S)))) × (exit ≡ put_at at (words P.edition.width (term_of S)) entry)
 
--- A part with the word w, behind which so many words are left.
+-- A part with the word w, after which `left` words are left.
 pub record PartExpanded (u : List ℕ) (w left at : ℕ) (entry exit : List ℕ) (r : ℕ) : Type 0 where
   pub same_length : length exit ≡ length entry
   pub right : (P : Scope) (l : ℕ) (E : Term) → w ≡ part_word l → PartAt u P l E → at + length (words P.edition.width E) ≤ length entry

@@ -10,7 +10,7 @@ use Rattle.listing.specs.Listing.{holding}
 use Rattle.derivation.specs.Derived.{passed}
 use Rattle.sharing.specs.Shared.{Shared, term_of, shared_words, Stands}
 
--- The successor is held in the first words of d'; r is how many words these are, and 65,536 times the action's number (`told` of what is answered).
+-- The successor is held in the first words of d'; r is the number of these words plus 65,536 times the action's number (`told` of the answer).
 pub record StepTaken (u : List ℕ) (P : Scope) (x : Move) (d' : List ℕ) (r : ℕ) : Type 0 where
   pub shared : Shared
   pub stands : Stands u P shared
@@ -19,7 +19,8 @@ pub record StepTaken (u : List ℕ) (P : Scope) (x : Move) (d' : List ℕ) (r : 
   pub answered : r ≡ length (shared_words shared) + 65536 * action_code x.action
   pub low : r < passed
 
--- Of the unfolding u, the first n words of d, a store M and a number k, with lent arrays for a path, for numbers and for words, of these lengths.
+-- What a step gives for the unfolding u, the first n words of d, a store M and a number k, with lent arrays of these lengths for a path, for numbers and for
+-- words.
 pub record Stepped (u d : List ℕ) (n : ℕ) (M : List ℕ) (k paths numbers room : ℕ) (d' : List ℕ) (r : ℕ) : Type 0 where
   pub same_length : length d' ≡ length d
   pub taken : (P : Scope) (S : Shared) → n ≤ length d → take n d ≡ shared_words S → Stands u P S → length u ≤ paths → length u ≤ numbers

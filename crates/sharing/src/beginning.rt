@@ -1,4 +1,4 @@
-// The successor of a part of the unfolding along a path (document 01, "Moves, in order"). Only what has begun is spelled out: an operand that moves, the code
+// The successor of a part of the unfolding along a path (document 01, "Moves, in order"). Only what has started is spelled out: an operand that moves, the code
 // before it, done in the place of an action. What is beside or after it stays in the unfolding, and its place is written.
 // Stays: that words are at most 65,535 is a clause of each function here, for the reason in successors (docs/DESIGN-PASS.md, "A struct for words").
 // Stays beside successors' functions of the same codes: those write words as they are and say how many go on, these write places and end nothing. One
@@ -16,7 +16,7 @@ use scan::{behind, first, last};
 use successors::conditions::behind_condition;
 use successors::unchanged::{behind_size, size_word};
 
-// The word for the part at the front of s; done is spelled out.
+// The word for the part that s begins with; done is spelled out.
 // Stays: one word says either a code, below 32, or from 32 on the place of a part. The term is held in an array of words, in which an enum would take two.
 pub fn part_word(s: &[u16]) -> u16
     requires { length s.now ≤ 65503 }
@@ -41,7 +41,7 @@ fn action_number(t: &[u16]) -> usize
 
 // Stays: that s begins with a code is a fact of its own for each function of a code: a type for it would be one for each code.
 // Stays: s and path are two parameters: a call for an operand is handed another s, with the same path or another, so a struct of both would be made anew there.
-// Stays: that the array stays the same (`Kept`), and what decision a path does not begin with, which the test before the call tells, are facts that no field
+// Stays: that the array stays the same (`Kept`), and what decision a path does not begin with, which the test before the call shows, are facts that no field
 // of a struct holds.
 // Stays: that s has at most 65,503 words is a clause, here and in the other files of this crate: 32 and a number of words must make a word (part_word). A
 // struct for it would cost what one for words costs (docs/DESIGN-PASS.md, "A struct for words").

@@ -4,7 +4,7 @@ ghost use Rattle.std.specs.Prelude.{◌≤◌, length};
 
 #[derive(Drop)]
 pub struct Expansion<'a> {
-    // The words of the unfolding, in which the parts stand.
+    // The words of the unfolding, which hold the parts.
     pub unfolding: &'a [u16],
     // What is written into.
     pub out: &'a mut [u16],

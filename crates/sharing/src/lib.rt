@@ -1,5 +1,5 @@
 // The term of a run held in few words over the start's unfolding, and moved (document 01, "Moves, in order"; "Memory and the history machine"). Parts that
-// have not begun are held by their places in the unfolding, so that a move neither passes over them nor copies them: that is what a run over many
+// have not started are held by their places in the unfolding, so that a move neither passes over them nor copies them: that is what a run over many
 // numbers costs. It serves terms without masks; whether the unfolding is one is asked once.
 // Stays: that words are at most 65,535 is a clause of each function here, for the reason in successors (docs/DESIGN-PASS.md, "A struct for words").
 #![tactic(auto)]
@@ -33,7 +33,7 @@ use writer::Writer;
 // is one of them, are facts of two values.
 
 // The place that begins in word i of the first n gives way to the successor: of a part, of a part after done, or done where two that are done
-// stood in parallel.
+// were in parallel.
 fn change(
     u: &[u16],
     d: &mut [u16],

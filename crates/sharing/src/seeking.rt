@@ -1,5 +1,5 @@
-// The path of move k of a part of the unfolding (document 01, "Moves, in order"). Where the part ends nobody asks, so that the right operand of a sequence, or
-// what stands under a guard that does not hold, is not passed over; only a left operand's end is looked for, by the walk of `derivation`.
+// The path of move k of a part of the unfolding (document 01, "Moves, in order"). Where the part ends is not needed, so that the right operand of a sequence,
+// or a term under a guard that does not hold, is not passed over; only a left operand's end is looked for, by the walk of `derivation`.
 // Stays: that words are at most 65,535 is a clause of each function here, for the reason in successors (docs/DESIGN-PASS.md, "A struct for words").
 ghost use Rattle.std.specs.Prelude.{◌≡◌, ◌+◌, ◌-◌, ◌≤◌, ◌<◌, [], ◌∷◌, length};
 ghost use Rattle.derivation.specs.Derived.{passed};
@@ -14,7 +14,7 @@ use listing::{behind_mask, both_done};
 use paths::{BOTH_DONE, CHOOSE_LEFT, END, LEFT_MOVES, ROUND};
 use scan::{behind, first, last};
 
-// The answers here are those of derivation, but that nobody asks how many words are left after a term without move k.
+// The answers here are those of derivation, except that the number of words left after a term without move k is not needed.
 // Stays beside the walk of `derivation`, which has the same codes: it must answer where the term ends, by skipping what did not move, and here that is
 // saved at every level. One function of both would be handed a flag for it; with a const parameter there is no proof, since a call of the walk would be
 // one of the same cycle at another instance, which the check does not cover.

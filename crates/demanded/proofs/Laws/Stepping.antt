@@ -77,7 +77,7 @@ module _ (A : Attributes) (c : Machine (Sem_T A)) where
   taken_refused internal t = refl
   taken_refused (visible a) t = refl
 
--- ── what was written in front is read back ──
+-- ── what was written at the beginning is read back ──
 
 front_written : (ws s : List ℕ) → take (2 * length ws) (written ws s) ≡ bytes_of ws
 unfolding written

@@ -1,4 +1,4 @@
--- An admitted rule set is well-formed, and the stream is exactly its spelling with zeros behind it, so nothing is read as something else
+-- An admitted rule set is well-formed, and the stream is exactly its spelling followed by zeros, so nothing is read as something else
 -- (document 01, "Blocks and the rule stream", refusals 1 to 8).
 use Rattle.std.specs.Prelude.{◌≡◌, refl, ◌&&◌, List, [], ◌∷◌, ◌++◌, ℕ, zero, suc, ◌*◌, ◌%◌, ◌≤◌, ◌<◌, T, eqb, leb, ltb, take}
 use Rattle.std.proofs.Math.Path.{ap, subst}

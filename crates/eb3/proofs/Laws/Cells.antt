@@ -94,7 +94,7 @@ module _ (A : Attributes) where
   unfolding cell_at
   cell_at_none g v = apply_undefined (domain A g) v
 
-  -- The cells below function i hold what it may read now.
+  -- The cells of the functions below i hold the values that function i reads by now.
   cell_at_now : (o : Option VisibleAction) (b : Reading) (i g : ℕ) (v : List Value) → cell_at A (cells_up_to A o b i) g v ≡ now_below A o b i g v
   unfolding cells_up_to now_below
   cell_at_now o b zero g v = cell_at_none g v
@@ -111,7 +111,7 @@ module _ (A : Attributes) where
           cell_at_other i g (cells_up_to A o b i) (tabulate (domain A i) (evaluate A o (cell_at A (cells_up_to A o b i)) b i)) (length_cells o b i) (length_tabulate (domain A i) _) n v
           ∙ (ih g v ∙ sym (cond_false _ _ (eqb g i) (λ t. n (eqb→eq g i t))))
 
-  -- Cells filled from the past are the values.
+  -- Cells filled from the last label and the values before it are the values over the trace.
   cells_values : (H : Trace) (i : ℕ) → cells_up_to A (last_action H) (before_values A H) i ≡ values_up_to A H i
   unfolding cells_up_to values_up_to attribute_value
   cells_values H zero = refl
@@ -152,7 +152,7 @@ module _ (A : Attributes) (o : Option VisibleAction) (b : Reading) where
   cell_value i f xs l w = sym (apply_numbers (domain A f) (λ ys. get_or (cells_up_to A o b i) (offset A f + cell_index (domain A f) ys) undefined) xs w)
       ∙ (cell_at_now A o b i f (map number xs) ∙ (now_below_is A o b i f l (map number xs) ∙ apply_numbers (domain A f) (evaluate A o (now_below A o b f) b f) xs w))
 
-  -- A buffer that holds the rows below f right, whatever stands behind them, reads right below f.
+  -- A buffer whose cells below f's offset are those of `cells_up_to` gives, for every function below f, the value of `now_below`, whatever follows them.
   pub prefix_cells : (f : ℕ) (cells : List Value) → ((c : ℕ) → c < offset A f → get_or cells c undefined ≡ get_or (cells_up_to A o b f) c undefined)
       → (g : ℕ) → g < f → (v : List Value) → cell_at A cells g v ≡ now_below A o b f g v
   unfolding cell_at
@@ -196,7 +196,7 @@ module _ (A : Attributes) (arity : ℕ → ℕ) (scoped : ExpressionsInScope A a
   renewed_cell cells a =
       finished_cell A (some a) (cell_at A cells) (number_of_functions A) f xs defined w (label_scope A f (arity a.label)) (omega arith) (scoped.at_label f a.label defined)
 
--- Where a value stands.
+-- The value of function f at xs is stored at f's offset plus the cell index of xs.
 pub value_cell : (A : Attributes) (H : Trace) (f : ℕ) → f < number_of_functions A → (xs : List ℕ) → Within (domain A f) xs
     → get_or (all_values A H) (offset A f + cell_index (domain A f) xs) undefined ≡ attribute_value A H f xs
 unfolding attribute_value

@@ -1,4 +1,4 @@
--- Elements of domains: as many as there are parameters, also those that arguments stand for, and in edition 1 each below 64 and at most two behind
+-- Elements of domains: as many as there are parameters, also those that arguments denote, and in edition 1 each below 64 and at most two after
 -- a label (document 01, "Blocks and the rule stream", items 2, 3 and 5).
 use Rattle.std.specs.Prelude.{◌≡◌, refl, List, [], ◌∷◌, ◌++◌, map, ℕ, zero, suc, ◌≤◌, ◌<◌, length, get_or}
 use Rattle.std.proofs.Common.{ap, ◌∙◌, arith}

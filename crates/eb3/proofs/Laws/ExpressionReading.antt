@@ -1,4 +1,4 @@
--- The readers of data expressions and conditions are sound and complete: what they take is exactly a spelling of what stands in the scope.
+-- The readers of data expressions and conditions are sound and complete: what they accept is exactly a spelling of an expression in its scope.
 use Rattle.std.specs.Prelude.{◌≡◌, ltb, length}
 use Rattle.std.proofs.Math.Path.{refl, ap}
 use Rattle.std.proofs.Common.{◌∙◌, subst, arith, lt→ltb, length-append}
@@ -40,7 +40,7 @@ module _ (w : ℕ) (P : Scope) where
       (λ a rs. refl) (λ a rs p q. (n, refl, p, q)) t
 
   module _ (e : Readers) (d : Sounds (data_words w) DataScope e.datum) (c : Sounds (cond_words w) CondScope e.condition) (t : List ℕ) where
-    -- What stands behind a code that is this kind's.
+    -- After code n, read as of kind k, reading the rest t is sound for the words n ∷ t.
     abbrev DataAt : ℕ → DataKind → Type 0
     DataAt n k = Sound (data_words w) DataScope (n ∷ t) (data_by w P e k t)
 

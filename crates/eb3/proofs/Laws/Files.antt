@@ -1,5 +1,5 @@
 -- Every well-formed rule set that fits into 64 blocks is admitted from its file, as itself (document 01, "Blocks and the rule stream");
--- so no admission that refuses too much would do.
+-- so admission refuses no file that it should admit.
 use Rattle.std.specs.Prelude.{◌≡◌, refl, List, [], ◌∷◌, ◌++◌, ℕ, zero, suc, ◌+◌, ◌-◌, ◌*◌, ◌/◌, ◌%◌, ◌≤◌, ◌<◌, eqb, leb, ltb, length, take, replicate}
 use Rattle.std.proofs.Math.Path.{ap, sym}
 use Rattle.std.proofs.Common.{◌∙◌, subst, arith, le→leb, lt→ltb, length-append, length-drop, take-append-drop, drop_of_length-le, take_at, drop_at, length-take-le}
@@ -38,7 +38,7 @@ block_length : (i : ℕ) (c : List ℕ) → length (block_of i c) ≡ 4 + length
 unfolding block_of bytes_of
 block_length i c = omega arith
 
--- Its number reads back, and its sums are those of the bytes that are summed.
+-- A block made by `block_of` passes the tests of a block: its number is i and its sums are right.
 block_good : (i : ℕ) (c : List ℕ) → i < 65536 → T (block_right i (block_of i c))
 unfolding block_right block_of bytes_of
 block_good i c h =
@@ -97,7 +97,7 @@ blocks_contents i (suc n) bytes l =
 
 -- ── the stream ──
 
--- The blocks of words us behind the edition and the number of blocks.
+-- The blocks of a stream of the edition, the number n of blocks, and then the words us.
 module _ (L : Edition) (defined : Defined L) (n : ℕ) (us : List ℕ) (small : Small us) (l : 2 + length us ≡ content_words * n) (few : n ≤ 64) where
   abbrev all_words : List ℕ
   all_words = L.number ∷ n ∷ us
@@ -150,7 +150,7 @@ unfolding all_zero
 zeros_good zero = tt
 zeros_good (suc m) = zeros_good m
 
--- What is left behind the last used word is less than a block's content, and zero.
+-- The words after the last used word are fewer than a block's content has, and zero.
 pub ends_good : (m : ℕ) → m < content_words → T (ends_right (replicate m 0))
 ends_good m h = T_and (ltb (length (replicate m 0)) content_words) (all_zero (replicate m 0)) (lt→ltb (length (replicate m 0)) content_words (omega (arith, length-replicate {A = ℕ} m 0))) (zeros_good m)
 

@@ -17,7 +17,7 @@ module _ (rules term memory : List ℕ) (R : RuleSet) (E : Term) (p : Demand2 ru
   pub demand_2_number : (q : Demand2 rules term memory R E) → (p.derivations.numbers.fun d).0 ≡ (q.derivations.numbers.fun d).0
   demand_2_number q = same_number p.derivations q.derivations d
 
-  -- and it is the number that the machines' chains are told with.
+  -- and it is the number that the machines' chains use.
   pub demand_2_number_of : (p.derivations.numbers.fun d).0 ≡ number_of (Sem_M (attributes R)) (situation E (cells_now rules term memory R E)) d
   demand_2_number_of = same_number p.derivations (demand_2 (Sem_M (attributes R)) (situation E (cells_now rules term memory R E))) d
 

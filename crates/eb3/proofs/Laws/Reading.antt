@@ -1,5 +1,5 @@
 -- Laws of readers, for any reader. Soundness: what is taken is spelled by the words taken, and has a property (`Sound`).
--- Completeness: a spelling in front is taken, whatever stands behind it (`Takes`).
+-- Completeness: a spelling at the beginning of the words is taken, whatever follows it (`Takes`).
 use Rattle.std.specs.Prelude.{◌≡◌, Bool, true, false, T, eqb, ltb, leb, length}
 use Rattle.std.proofs.Math.Path.{refl, ap, sym, subst}
 use Rattle.std.proofs.Common.{◌∙◌, arith, eqb→eq, ltb→lt, lt→ltb, leb→le, le→leb}
@@ -12,7 +12,7 @@ use Rattle.eb3.specs.RuleSpelling.{one_word, counted_words}
 use Rattle.eb3.specs.Reading.{Read, refused, taken, Reader, pick, giving, then, both, number_of, count_of, repeat, counted, for_each, series, number_in}
 use Rattle.eb3.specs.Generic.AllLists.{All, AllFor, AllFrom}
 
--- Tests.
+-- `pick` where its test holds, and where it does not.
 pub pick_true : {A : Type 0} (x y : A) (b : Bool) → T b → pick b x y ≡ x
 pick_true x y true t = refl
 pick_true x y false t = absurd t
@@ -21,12 +21,12 @@ pub pick_false : {A : Type 0} (x y : A) (b : Bool) → (T b → ⊥) → pick b 
 pick_false x y true n = absurd (n tt)
 pick_false x y false n = refl
 
--- A property that holds at one answer under the test, and at the other.
+-- A property that holds of x where the test holds, and of y, holds of what `pick` gives.
 pub picked : {A : Type 0} (P : A → Type 0) (b : Bool) (x y : A) → (T b → P x) → P y → P (pick b x y)
 picked P true x y p q = p tt
 picked P false x y p q = q
 
--- By a code c: of the answer at code n, and of the rest.
+-- A choice by the code c: what holds of x at code n, and of y at code c, holds of what is picked at c.
 pub by_code : {K : Type 0} (P : ℕ → K → Type 0) (c n : ℕ) (x y : K) → P n x → P c y → P c (pick (eqb c n) x y)
 by_code P c n x y p q = picked (P c) (eqb c n) x y (λ t. subst (λ m. P m x) (sym (eqb→eq c n t)) p) q
 
@@ -40,7 +40,7 @@ abbrev pub Sounds : {A : Type 0} → (A → List ℕ) → (A → Type 0) → Rea
 Sounds spell P f = (s : List ℕ) → Sound spell P s (f s)
 
 module _ {A B : Type 0} (spell : A → List ℕ) (P : A → Type 0) (spell' : B → List ℕ) (Q : B → Type 0) where
-  -- Behind words that are read already.
+  -- After words that are read already.
   pub giving_sound : (pre t : List ℕ) (f : A → B) (r : Read A) → ((a : A) → spell' (f a) ≡ pre ++ spell a) → ((a : A) → P a → Q (f a)) → Sound spell P t r → Sound spell' Q (pre ++ t) (giving f r)
   unfolding giving
   giving_sound pre t f (refused k) e q h = tt
@@ -145,7 +145,7 @@ module _ {A : Type 0} (spell : A → List ℕ) (P : ℕ → A → Type 0) (f : �
 
 -- ── completeness ──
 
--- The spelling of a thing with the property is taken, whatever stands behind.
+-- The spelling of a thing with the property is taken, whatever follows it.
 abbrev pub Takes : {A : Type 0} → (A → List ℕ) → (A → Type 0) → Reader A → Type 0
 Takes {A} spell P f = (a : A) (rest : List ℕ) → P a → f (spell a ++ rest) ≡ taken a rest
 
@@ -179,7 +179,7 @@ pub number_in_takes : (n : ℕ) → 1 ≤ n → Takes (number_words n) (λ v. Un
 number_in_takes zero h v rest p = let z : ⊥ = omega arith in absurd z
 number_in_takes (suc n) h v rest p = some_takes n v rest tt
 
--- One in front of a row.
+-- One thing, and then the rest of a row.
 row_takes : {A : Type 0} (f : Reader A) (g : Reader (List A)) (us vs rest : List ℕ) (x : A) (xs : List A) → f (us ++ (vs ++ rest)) ≡ taken x (vs ++ rest) → g (vs ++ rest) ≡ taken xs rest
     → giving (λ (p : A × List A). p.0 ∷ p.1) (both f g ((us ++ vs) ++ rest)) ≡ taken (x ∷ xs) rest
 unfolding both then giving
@@ -213,7 +213,7 @@ module _ {A : Type 0} (spell : A → List ℕ) (P : ℕ → A → Type 0) (f : �
   series_takes i [] rest p = refl
   series_takes i (x ∷ xs) rest p = row_takes (f i) (series (length xs) (i + 1) f) (spell x) (concat_map spell xs) rest x xs (h i x (concat_map spell xs ++ rest) p.0) (series_takes (i + 1) xs rest p.1)
 
--- What stands in front, then more behind it.
+-- Where f reads a from the words us, `then` goes on with g a on the words after us.
 pub then_takes : {A B : Type 0} (f : Reader A) (g : A → Reader B) (us vs rest : List ℕ) (a : A) → f (us ++ (vs ++ rest)) ≡ taken a (vs ++ rest) → then (f ((us ++ vs) ++ rest)) g ≡ g a (vs ++ rest)
 unfolding then
 then_takes f g us vs rest a h = ap (λ s. then (f s) g) (append_assoc us vs rest) ∙ ap (λ r. then r g) h

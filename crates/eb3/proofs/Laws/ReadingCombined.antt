@@ -1,4 +1,4 @@
--- Laws of readers that recur: two operands behind a code, a number that says what follows, a number that is judged.
+-- Laws of readers that recur: two operands after a code, a number that says what follows, a number that is judged.
 use Rattle.std.specs.Prelude.{◌≡◌, Bool, List, [], ◌∷◌, ◌++◌, ℕ, ◌≤◌, ◌<◌, T}
 use Rattle.std.proofs.Math.Path.{ap}
 use Rattle.std.proofs.Common.{sym, ◌∙◌, append_assoc}
@@ -7,7 +7,7 @@ use Rattle.eb3.specs.RuleSpelling.{one_word}
 use Rattle.eb3.specs.Reading.{refused, taken, Reader, pick, giving, then, both, number_of, by_number, number_in}
 use Rattle.eb3.proofs.Laws.Reading.{picked, pick_true, Sound, Sounds, giving_sound, then_sound, both_sound, spell_both, Both, number_sound, number_in_sound, Takes, both_takes, number_takes, number_in_takes}
 
--- Two operands behind what is read already.
+-- Two operands after the words pre, which are read already.
 module _ {A B C : Type 0} (spell : A → List ℕ) (P : A → Type 0) (spell' : B → List ℕ) (Q : B → Type 0) where
   pub two_sound : (spell'' : C → List ℕ) (S : C → Type 0) (k : A → B → C) (pre : List ℕ) (f : Reader A) (g : Reader B) → Sounds spell P f → Sounds spell' Q g
       → ((a : A) (b : B) → spell'' (k a b) ≡ pre ++ (spell a ++ spell' b)) → ((a : A) (b : B) → P a → Q b → S (k a b))
@@ -35,7 +35,7 @@ module _ {A C : Type 0} (spell : A → List ℕ) (P : ℕ → A → Type 0) (k :
   unfolding by_number then giving
   by_number_takes n h a rest l p = ap (λ r. then r λ n u. giving (k n) (g n u)) (number_takes kind limit n (spell a ++ rest) l) ∙ ap (giving (k n)) (h a rest p)
 
--- A number of so many words that is judged by a test, behind what is read already.
+-- A number of w words that is judged by a test, after words that are read already.
 abbrev pub judged : ℕ → (ℕ → Bool) → ℕ → Reader ℕ
 judged w test kind t = then (number_in w t) λ v u. pick (test v) (taken v u) (refused kind)
 

@@ -39,7 +39,7 @@ DomainsRead ns = ((1 ≤ length ns) × (length ns ≤ Limits.domains)) × All (�
 domains_sound : Sounds (counted_words one_word) (DomainsRead) read_domains
 domains_sound = counted_sound one_word (λ n. (1 ≤ n) × (n ≤ Limits.domain_size)) (count_of 1 Limits.domain_size) (count_sound 1 Limits.domain_size) 1 Limits.domains
 
--- The parameters of a label or a process: so many at most, each a domain that is there.
+-- The parameters of a label or a process: at most `limit`, each a domain that is defined.
 abbrev HeadRead : ℕ → ℕ → List ℕ → Type 0
 HeadRead limit domains ds = ((0 ≤ length ds) × (length ds ≤ limit)) × All (λ d. d < domains) ds
 
@@ -54,7 +54,7 @@ labels_sound domains = counted_sound (counted_words one_word) (HeadRead Limits.l
 
 -- ── functions ──
 
--- Function i as it is read behind `domains` many domains and these labels, of functions with these parameter counts.
+-- Function i as it is read where `domains` domains and these labels are defined and the functions have these parameter counts.
 abbrev ParametersRead : ℕ → List ℕ → ℕ → List ℕ → Type 0
 ParametersRead domains counts i ds = (length ds ≡ count_for counts i) × All (λ d. d < domains) ds
 
@@ -195,7 +195,7 @@ module _ (R : RuleSet) (ps : List Process) where
       let below : p < i = h.0 in let there : p < length R.processes = omega arith in
       (below, subst (λ (P : Process). ArgumentsFit (with_processes R ps) Γ P.parameters rs) (sym (get_or-append R.processes ps no_process p there)) (arguments_stay Γ (process R p).parameters rs h.1))
 
--- A process of at most `limit` parameters, over the rule set as it stands when it is read.
+-- A process of at most `limit` parameters, over the rule set as far as it was read before the process.
 abbrev ProcessRead : RuleSet → ℕ → Process → Type 0
 ProcessRead R limit P = (length P.parameters ≤ limit) × DomainsDefined R P.parameters × Allowed R (length R.processes) P.parameters P.term
 
@@ -206,7 +206,7 @@ process_sound R limit t = then_sound (counted_words one_word) (HeadRead limit (l
     (λ ds u h. giving_sound (rule_words R.edition.width) (Allowed R (length R.processes) ds) (process_words R.edition.width) (ProcessRead R limit) (counted_words one_word ds) u (λ E. record { parameters = ds; term = E }) (read_rule_term R ds u)
     (λ E. refl) (λ E q. (h.0.1, h.1, q)) (rule_term_sound R ds u))
 
--- Process i of the whole rule set R.
+-- What process i of the whole rule set R must satisfy.
 abbrev ProcessFits : RuleSet → ℕ → Process → Type 0
 ProcessFits R i P =
     (length P.parameters ≤ Limits.process_parameters) × DomainsDefined R P.parameters × Allowed R i P.parameters P.term
@@ -221,7 +221,7 @@ module _ where
   within_limit zero m h = omega arith
   within_limit (suc n) m h = h
 
-  -- The process with none behind it is main, and has none.
+  -- The process with no process after it is main, and has no parameters.
   last_empty : (n : ℕ) (ds : List ℕ) → length ds ≤ parameter_limit n → n ≡ 0 → ds ≡ []
   last_empty zero ds h e = no_parameters ds h
   last_empty (suc n) ds h e = let z : ⊥ = omega arith in absurd z
@@ -234,7 +234,7 @@ module _ where
     λ e. last_empty (length ps) P.parameters h.0 (omega (arith, e, length-append R.processes (P ∷ ps))),
   )
 
-  -- Read behind R's processes: R with n more, each as the whole asks.
+  -- What is read after R's processes: R with n processes more, each of which fits the whole rule set.
   abbrev Added : ℕ → RuleSet → List ℕ → Read RuleSet → Type 0
   Added n R s (refused k) = Unit
   Added n R s (taken R' u) =
@@ -293,11 +293,11 @@ form_of R defined ds ls fs count ps = record {
     fits : (p : ℕ) → p < length R.processes → ProcessFits R p (process R p)
     fits p l = let e : 0 + p ≡ p = omega arith in subst (λ i. ProcessFits R i (process R p)) e (all_from_at (ProcessFits R) 0 R.processes ps p no_process l)
 
--- Of a given edition.
+-- A rule set of the required form and of the edition L.
 abbrev pub FormOf : Edition → RuleSet → Type 0
 FormOf L R = Form R × (R.edition ≡ L)
 
--- One section behind another, what was read so far kept as an equation.
+-- One section after another; what was read so far is kept as an equation.
 then_reads : {A B : Type 0} (spell : A → List ℕ) (P : A → Type 0) (Q : Read B → Type 0) → ((k : ℕ) → Q (refused k)) → (t : List ℕ) (g : A → Reader B) (r : Read A) → Sound spell P t r
     → ((a : A) (u : List ℕ) → t ≡ spell a ++ u → P a → Q (g a u)) → Q (then r g)
 unfolding then

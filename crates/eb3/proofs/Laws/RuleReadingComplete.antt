@@ -1,5 +1,5 @@
--- Every rule set of the required form is read back from its spelling, whatever stands behind it (document 01, "Blocks and the rule stream");
--- so no reader that refuses too much would do.
+-- Every rule set of the required form is read back from its spelling, whatever follows it (document 01, "Blocks and the rule stream");
+-- so the reader refuses no spelling that it should take.
 use Rattle.std.specs.Prelude.{◌≡◌, eqb, ltb, leb, get_or}
 use Rattle.std.proofs.Math.Path.{refl, ap, sym, subst}
 use Rattle.std.proofs.Common.{◌∙◌, lt→ltb, le→leb, length-append}
@@ -85,14 +85,14 @@ module _ (R : RuleSet) (positive : 1 ≤ R.edition.width) (small : (d : ℕ) →
     abbrev words : RuleTerm → List ℕ
     words E = rule_words R.edition.width E
 
-    -- A term of the process behind those of R; and one of at most n words.
+    -- A term of the process that comes after those of R; and such a term of at most n words.
     abbrev Here : List ℕ → RuleTerm → Type 0
     Here Γ E = Allowed R (length R.processes) Γ E
 
     abbrev Bounded : ℕ → List ℕ → RuleTerm → Type 0
     Bounded n Γ E = Here Γ E × (length (words E) ≤ n)
 
-    -- A code, given what its operands' reader takes.
+    -- Each code's reader takes the spellings of its terms, given that e takes those of the operands.
     module _ (n : ℕ) (e : List ℕ → Reader RuleTerm) (operand : (Γ : List ℕ) → Takes words (Bounded n Γ) (e Γ)) where
       pair_takes : (k : RuleTerm → RuleTerm → RuleTerm) (Γ : List ℕ) (E F : RuleTerm) (rest : List ℕ) → Here Γ E × Here Γ F → length (words E ++ words F) ≤ n
           → giving (λ (p : RuleTerm × RuleTerm). k p.0 p.1) (both (e Γ) (e Γ) ((words E ++ words F) ++ rest)) ≡ taken (k E F) rest
@@ -100,7 +100,7 @@ module _ (R : RuleSet) (positive : 1 ≤ R.edition.width) (small : (d : ℕ) →
           two_takes words (Bounded n Γ) words (Bounded n Γ) k (e Γ) (e Γ) (operand Γ) (operand Γ) E F rest
           (a.0, front_within (words E) (words F) n h) (a.1, back_within (words E) (words F) n h)
 
-      -- A quantifier's code stands only where one variable more is allowed.
+      -- A quantifier's code is allowed only where one variable more is.
       quantifier_takes : (k : RuleKind) (Γ t : List ℕ) → length Γ < Limits.variables → rule_by R e Γ (pick (ltb (length Γ) Limits.variables) k RuleKind.wrong) t ≡ rule_by R e Γ k t
       quantifier_takes k Γ t h = ap (λ k. rule_by R e Γ k t) (pick_true k RuleKind.wrong (ltb (length Γ) Limits.variables) (lt→ltb (length Γ) Limits.variables h))
 
@@ -136,7 +136,7 @@ module _ (R : RuleSet) (positive : 1 ≤ R.edition.width) (small : (d : ℕ) →
           by_number_takes (concat_map (argument_words R.edition.width)) (λ p. ArgumentsFit R Γ (process R p).parameters) call Refusal.reference (length R.processes) (λ p. arguments_of R Γ (process R p).parameters)
           p (arguments_takes Γ (process R p).parameters) rs rest h.0.0 h.0.1
 
-    -- Every code lies one level deeper, so a depth of as many codes as there are words is enough.
+    -- Every level of nesting has a code of its own, so a depth of as many levels as there are words is enough.
     terms_take : (n : ℕ) (Γ : List ℕ) → Takes words (Bounded n Γ) (rule_terms R n Γ)
     unfolding rule_terms
     terms_take zero Γ E rest h = let z : ⊥ = omega (arith, some_word R.edition.width E) in absurd z
@@ -148,7 +148,7 @@ module _ (R : RuleSet) (positive : 1 ≤ R.edition.width) (small : (d : ℕ) →
 
     -- ── processes ──
 
-    -- The process behind those of R, its parameters at most so many.
+    -- The process that comes after those of R, with at most `limit` parameters.
     abbrev Next : ℕ → Process → Type 0
     Next limit P = ((0 ≤ length P.parameters) × (length P.parameters ≤ limit)) × All (λ d. d < length R.domains) P.parameters × Here P.parameters P.term
 
@@ -160,12 +160,12 @@ module _ (R : RuleSet) (positive : 1 ≤ R.edition.width) (small : (d : ℕ) →
         (counted_takes one_word (λ d. d < length R.domains) f (number_takes Refusal.reference (length R.domains)) 0 limit P.parameters (words P.term ++ rest) (h.0, h.1))
         ∙ ap (giving {B = Process} (λ E. record { parameters = P.parameters; term = E })) (term_takes P.parameters P.term rest h.2)
 
--- The process behind ps.
+-- The process that comes after ps.
 at_middle : (ps qs : List Process) (P : Process) → get_or (ps ++ (P ∷ qs)) (length ps) no_process ≡ P
 at_middle [] qs P = refl
 at_middle (Q ∷ ps) qs P = at_middle ps qs P
 
--- A rule set of the edition, by its lists: what is read of one so far has its first processes.
+-- A rule set of the edition, made of its lists; while it is read, it has its first processes only.
 module _ (L : Edition) (domains : List ℕ) (labels : List (List ℕ)) (functions : List Function) where
   abbrev rules : List Process → RuleSet
   rules ps = record { edition = L; domains = domains; labels = labels; functions = functions; processes = ps }
@@ -174,7 +174,7 @@ module _ (L : Edition) (domains : List ℕ) (labels : List (List ℕ)) (function
   defined_all ps [] h = tt
   defined_all ps (d ∷ ds) h = (h.0, defined_all ps ds h.1)
 
-  -- Calls name processes that stand before, so those behind do not matter.
+  -- Calls name earlier processes only, so later ones do not matter.
   same_arguments : (ps qs : List Process) (Γ ds : List ℕ) (rs : List Argument) → ArgumentsFit (rules ps) Γ ds rs → ArgumentsFit (rules qs) Γ ds rs
   same_arguments ps qs Γ [] [] h = tt
   same_arguments ps qs Γ [] (r ∷ rs) h = h
@@ -347,7 +347,7 @@ module _ (L : Edition) (domains : List ℕ) (labels : List (List ℕ)) (function
         from_labels : List ℕ → List (List ℕ) → Reader RuleSet
         from_labels domains labels t = then (read_functions L (length domains) labels t) (from_functions domains labels)
 
--- A rule set of the edition is one of these.
+-- Every rule set of the required form and of the edition L is read back from its spelling.
 pub rules_takes : (L : Edition) → Takes rules_words (FormOf L) (read_rules L)
 rules_takes L R rest h =
     subst (λ R. Form R → read_rules L (rules_words R ++ rest) ≡ taken R rest) (sym (λ i. record { edition = h.1 i; domains = R.domains; labels = R.labels; functions = R.functions; processes = R.processes }))

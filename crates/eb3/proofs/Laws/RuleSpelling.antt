@@ -19,7 +19,7 @@ use Rattle.eb3.proofs.Laws.Spelling.{Small, small_append, number_small, mask_sma
 use Rattle.eb3.specs.Generic.AllLists.{All, at_all}
 use Rattle.eb3.proofs.Laws.Editions.{form_proper}
 
--- Rows of small spellings, behind their count.
+-- The words of a list of small spellings are small, also with its length before them.
 module _ {A : Type 0} (spell : A → List ℕ) where
   row_small : (xs : List A) → All (λ x. Small (spell x)) xs → Small (concat_map spell xs)
   row_small [] h = tt
@@ -95,7 +95,7 @@ module _ (R : RuleSet) (form : Form R) where
   abbrev spelled : RuleTerm → List ℕ
   spelled E = rule_words R.edition.width E
 
-  -- Process i is one of the rule set's; a quantifier stands only where one variable more is allowed.
+  -- Process i is one of the rule set's; a quantifier is allowed only where one variable more is.
   term_small : (i : ℕ) → i < length R.processes → (Γ : List ℕ) (E : RuleTerm) → length Γ ≤ 8 → Allowed R i Γ E → Small (spelled E)
   unfolding rule_words
   term_small i m Γ rule_internal l h = (omega arith, tt)

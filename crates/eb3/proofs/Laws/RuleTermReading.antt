@@ -59,13 +59,13 @@ module _ (R : RuleSet) where
   abbrev W : RuleTerm → List ℕ
   W = rule_words R.edition.width
 
-  -- In the process that is read, calls name those that stand before it: all of R.
+  -- In the process that is read, calls name earlier processes: all of R's.
   abbrev Ok : List ℕ → RuleTerm → Type 0
   Ok Γ = Allowed R (length R.processes) Γ
 
   -- Operands read by e.
   module _ (e : List ℕ → Reader RuleTerm) (h : (Γ : List ℕ) → Sounds W (Ok Γ) (e Γ)) (Γ : List ℕ) (t : List ℕ) where
-    -- What stands behind a code that is this kind's.
+    -- After code c, read as of kind k, reading the rest t is sound for the words c ∷ t.
     abbrev At : ℕ → RuleKind → Type 0
     At c k = Sound W (Ok Γ) (c ∷ t) (rule_by R e Γ k t)
 

@@ -101,7 +101,7 @@ module _ (R : RuleSet) where
   unfolding history_run
   history_well_formed E ks w = (run_keeps (system (Sem_T (attributes R))) Good kept _ ks (w, tt)).1
 
--- A well-formed rule set's expressions stand in their scopes: so `value_empty` and `value_last` hold of it.
+-- A well-formed rule set's expressions are in their scopes: so `value_empty` and `value_last` hold of it.
 module _ (R : RuleSet) (good : Form R) where
   pub expressions_in_scope : ExpressionsInScope (attributes R) (λ l. length (label R l))
   expressions_in_scope = record {

@@ -1,4 +1,5 @@
--- A process term is read and measured by what comes before it and by no more: the edition, domains, labels, what a guard may name, and the processes' parameters (`read_alike`); appended processes change nothing of the measures before them (`rows_kept`).
+-- A process term is read and measured by what comes before it and by no more: the edition, domains, labels, what a guard may name, and the processes'
+-- parameters (`read_alike`); appended processes change nothing of the measures before them (`rows_kept`).
 use Rattle.std.specs.Prelude.{◌≡◌, cond, eqb, ltb, leb, length}
 use Rattle.std.proofs.Math.Path.{refl, fun_ext}
 use Rattle.std.proofs.Common.{ap, sym, ◌∙◌, arith}
@@ -22,7 +23,7 @@ use Rattle.eb3.specs.RuleReading.{argument_of, arguments_of, rule_action_of, cal
 abbrev pub parameter_lists : RuleSet → List (List ℕ)
 parameter_lists R = map (λ (P : Process). P.parameters) R.processes
 
--- What stands before a process term, as far as reading it goes.
+-- R and Q are equal in what comes before a process term, as far as reading the term depends on it.
 pub record Alike (R Q : RuleSet) : Type 0 where
   pub same_edition : R.edition ≡ Q.edition
   pub same_domains : R.domains ≡ Q.domains
@@ -73,7 +74,7 @@ module _ (R Q : RuleSet) (a : Alike R Q) where
       ∙ (ap by a.same_parameters
       ∙ (λ i. by_number Refusal.reference (sym (process_count Q) i) (λ p u. giving (call p) (arguments_of Q Γ (sym (parameters_at Q p) i) u)) t)))
 
-  -- One code, the operands being read alike.
+  -- One code, the operands being read by the same reader e for R and for Q.
   module _ (e : List ℕ → Reader RuleTerm) (Γ t : List ℕ) where
     by_alike : (k : RuleKind) → rule_by R e Γ k t ≡ rule_by Q e Γ k t
     unfolding choice_over_of parallel_over_of
@@ -128,7 +129,7 @@ module _ (cut : ℕ → ℕ) (R : RuleSet) (P : Process) where
   pub rows_kept : (i : ℕ) → i ≤ length R.processes → row_of cut (with_process R P) i ≡ row_of cut R i
   rows_kept i h = ap (λ (l : List Measure). λ p. get_or l p (nothing cut)) (tables_kept i h)
 
-  -- Its own row, and the whole of the rows with it.
+  -- The appended process is the last one; its row of measures, and the rows with it.
   own_process : process (with_process R P) (length R.processes) ≡ P
   own_process = get_or-append_seam R.processes P [] no_process
 

@@ -38,7 +38,7 @@ module _ (S : DataState) (M : S.State) where
   abbrev carried : {E F G : Term} {ρ : Action} {M' : S.State} → E ≡ F → Step S M E ρ G M' → Step S M F ρ G M'
   carried {G = G} {ρ = ρ} {M' = M'} q d = subst (λ E. Step S M E ρ G M') q d
 
-  -- Equal terms order their derivations alike.
+  -- The derivations of equal terms are in the same order.
   earlier_carried : {E F G H : Term} {ρ σ : Action} {M' M'' : S.State} (q : E ≡ F) (d : Step S M E ρ G M') (e : Step S M E σ H M'') → EarlierStep d e ≡ EarlierStep (carried q d) (carried q e)
   earlier_carried {E} {F} {G} {H} {ρ} {σ} {M'} {M''} q d e = path_j (λ (F : Term) (q : E ≡ F). EarlierStep d e ≡ EarlierStep (carried q d) (carried q e))
       (λ i. EarlierStep (sym (subst_refl (λ E. Step S M E ρ G M') d) i) (sym (subst_refl (λ E. Step S M E σ H M'') e) i)) q
@@ -53,7 +53,7 @@ module _ (R : RuleSet) (low : Lower R) (S : DataState) (M : S.State) where
       let i : Invertible (forward R low S M s) = source_derivations R low S M s b in
       (λ p. ap (forward R low S M s) p, λ p. sym (i.left x) ∙ (ap i.inverse p ∙ i.left y))
 
-  -- A call's derivations stand as its body's do: two uses of rule 11 may differ in their proofs of p < n, but those are equal.
+  -- A call's derivations are in the order of its body's: two uses of rule 11 may differ in their proofs of p < n, but those are equal.
   call_order : (p : ℕ) (ts : Valuation) (h k : p < length R.processes) {G H : Term} {ρ σ : Action} {M' M'' : S.State}
       (d : Step S M (unfold_source R (substituted R (process R p).term ts)) ρ G M') (e : Step S M (unfold_source R (substituted R (process R p).term ts)) σ H M'')
       → EarlierStep d e ≡ EarlierStep (carried S M (unfold_call R low p h ts) d) (carried S M (unfold_call R low p k ts) e)

@@ -29,7 +29,7 @@ use Rattle.eb3.proofs.Laws.DemandThree.{admit_reports, run_is, h}
 
 module _ (rules : List ℕ) (S : Sizes) (R : RuleSet) (a : admission rules ≡ answered R) (s : sizes_needed R ≡ S) (table term memory spare_term spare_memory : List ℕ)
     (room : Roomy S term memory) (spare : Roomy S spare_term spare_memory) (through : T (lets_through [] table)) where
-  -- A buffer that main's unfolding was written to, cut to its size, whatever was written behind it.
+  -- A buffer at whose beginning main's unfolding was written, cut to its size, is that unfolding, whatever was written after it.
   main_cut : (vs : List ℕ) → cut S.size (written (words R.edition.width (unfold_main R) ++ vs) term) ≡ bytes_of (words R.edition.width (unfold_main R))
   main_cut vs =
       let good : WellFormed R = (admitted rules R a).good in

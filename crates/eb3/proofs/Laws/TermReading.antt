@@ -99,7 +99,7 @@ module _ (R : RuleSet) where
   guard = read_cond R.edition.width (guard_scope (attributes R) 0)
 
   module _ (e : Reader Term) (h : Sounds spelled (WellFormedTerm R) e) (t : List ℕ) where
-    -- What stands behind a code that is this kind's.
+    -- After code n, read as of kind k, reading the rest t is sound for the words n ∷ t.
     abbrev TermAt : ℕ → TermKind → Type 0
     TermAt n k = Sound spelled (WellFormedTerm R) (n ∷ t) (term_by R e k t)
 
@@ -184,7 +184,7 @@ pub term_takes : (R : RuleSet) → 1 ≤ R.edition.width → Takes (words R.edit
 unfolding read_term
 term_takes R p E rest h = terms_take R p (length (words R.edition.width E ++ rest)) E rest (h, omega (arith, length-append (words R.edition.width E) rest, words_length R E h))
 
--- With nothing behind it.
+-- A term's words with nothing after them are read as that term.
 pub alone_taken : (R : RuleSet) → 1 ≤ R.edition.width → (E : Term) → WellFormedTerm R E → read_term R (words R.edition.width E) ≡ taken E []
 alone_taken R p E h = ap (read_term R) (sym (append-nil (words R.edition.width E))) ∙ term_takes R p E [] h
 

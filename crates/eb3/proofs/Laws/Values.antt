@@ -87,7 +87,7 @@ module _ (top mark : ℕ) (above : top < mark) where
   decode_encode undefined h = cond_false _ _ (leb mark top) (λ t. let l = leb→le mark top t in omega arith)
   decode_encode (number n) h = cond_true _ _ (leb n top) (le→leb n top h)
 
-  -- So no two values at most `top` are stored alike.
+  -- So two different values at most `top` are stored as different words.
   pub encode_injective : (v w : Value) → AtMost top v → AtMost top w → encode mark v ≡ encode mark w → v ≡ w
   encode_injective v w h k e = sym (decode_encode v h) ∙ (ap (decode top) e ∙ decode_encode w k)
 

@@ -13,7 +13,7 @@ pub optional_id : {D E : Type 0} (f : D → E) (g : E → D) → ((d : D) → g 
 optional_id f g h none = refl
 optional_id {D} f g h (some d) = ap {B = Option D} some (h d)
 
--- Sums stand one after the other.
+-- One thing added before the first type of a sum is one thing added before the whole sum: the maps in both directions.
 abbrev in_first : {D E : Type 0} → Option D ⊎ E → Option (D ⊎ E)
 in_first (inl none) = none
 in_first (inl (some d)) = some (inl d)
@@ -116,7 +116,7 @@ module _ {X : Type 0} where
     front_reflects (some d) none h = omega arith
     front_reflects (some d) (some e) h = o.reflects d e (le_of_suc-le-suc h)
 
-    -- One thing more, in front.
+    -- One thing more, before all others.
     pub one_more : OrderIsomorphism (Option D) (Front R) (or_else x f) (x ∷ l)
     one_more = record {
       position = optional o.position;

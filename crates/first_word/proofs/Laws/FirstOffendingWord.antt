@@ -1,4 +1,5 @@
--- The readers of expressions (document 01, "Values and conditions") follow the verdict word by word: whatever is due after them, and however many zeros may stand at the end.
+-- The readers of expressions (document 01, "Values and conditions") follow the verdict word by word: whatever is due after them, and however many
+-- zeros are allowed at the end.
 use Rattle.std.specs.Prelude.{◌≡◌, Bool, T, eqb, ltb, leb, length}
 use Rattle.std.proofs.Math.Path.{refl, ap, sym}
 use Rattle.std.proofs.Common.{◌∙◌, arith}
@@ -15,12 +16,12 @@ use Rattle.eb3.specs.Reading.{Read, refused, taken, Reader, pick, giving, then, 
 use Rattle.eb3.specs.ExpressionReading.{DataKind, CondKind, Readers, data_kind, cond_kind, constant_of, args_of, data_by, cond_by, data_step, cond_step, readers, read_data, read_cond}
 use Rattle.first_word.specs.FirstOffendingWord.{Declared, Due, data_code, condition_code, constant, variable_number, function_number, data_operands, condition_operands, is_code, operands, by_form, with_last, judge, padding, verdict}
 
--- A verdict by which some word offends.
+-- The verdict is that some word offends.
 abbrev pub Offends : Option ℕ → Type 0
 Offends none = ⊥
 Offends (some k) = Unit
 
--- What was read, then the verdict on the words after it; a refusal is the verdict.
+-- The verdict g on the words after what was read; where reading was refused, that refusal is the verdict.
 unfoldable pub followed : {A : Type 0} → Read A → (A → List ℕ → Option ℕ) → Option ℕ
 followed (refused k) g = some k
 followed (taken a u) g = g a u
@@ -55,7 +56,7 @@ nothing_due allowed_zeros L D [] = refl
 nothing_due allowed_zeros L D (w ∷ t) = refl
 
 module _ (L : Edition) (D : Declared) where
-  -- On at most n words, the reader says what the verdict says with these dues in front of any others.
+  -- On at most n words, the reader f says what the verdict says where what f reads is due first (F puts it before all else that is due).
   abbrev pub Follows : {A : Type 0} → ℕ → Reader A → (List Due → List Due) → Type 0
   Follows {A} n f F = (allowed_zeros : ℕ) (gs : List Due) (g : A → List ℕ → Option ℕ) (s : List ℕ) → length s ≤ n → ((a : A) (u : List ℕ) → length u ≤ n → verdict allowed_zeros L u D gs ≡ g a u) → verdict allowed_zeros L s D (F gs) ≡ followed (f s) g
 
@@ -91,7 +92,7 @@ module _ (L : Edition) (D : Declared) where
   number_follows n limit d e allowed_zeros gs g (w ∷ t) l h =
       e allowed_zeros w t gs ∙ (under (ltb w limit) _ _ _ (λ b. h w t (omega arith)) ∙ sym (followed_pick (ltb w limit) (taken w t) (refused Refusal.reference) g))
 
-  -- A code: what is due after it, if it is one.
+  -- The verdict after a code: where it is no code, a refusal; else the verdict on t with its operands due first.
   unfoldable pub coded : (allowed_zeros : ℕ) → Option (List Due) → List ℕ → List Due → Option ℕ
   coded allowed_zeros none t gs = some Refusal.form
   coded allowed_zeros (some ds) t gs = verdict allowed_zeros L t D (ds ++ gs)
@@ -114,7 +115,7 @@ unfolding with_last
 with_last_after [] w v = refl
 with_last_after (x ∷ vs) w v = ap (λ m. x + 65536 * m) (with_last_after vs w v)
 
--- What is judged by the whole number: with the words in front put in before, or after.
+-- Where a number is judged as a whole: its word w may be joined to the words vs before it or to the number read after it, with the same result.
 shifted : {A : Type 0} (k : ℕ → Reader A) (g : A → List ℕ → Option ℕ) (vs : List ℕ) (w : ℕ) (r : Read ℕ)
     → followed (then r λ v. k (with_last (vs ++ (w ∷ [])) v)) g ≡ followed (then (giving (λ m. w + 65536 * m) r) λ v. k (with_last vs v)) g
 unfolding followed then giving
@@ -221,7 +222,7 @@ module _ (L : Edition) (D : Declared) (P : Scope) where
     condition_step_follows allowed_zeros gs g [] l h = refl
     condition_step_follows allowed_zeros gs g (w ∷ t) l h = code_judged L D allowed_zeros (condition_operands P w) t gs ∙ condition_at allowed_zeros gs t (omega arith) g (λ a u m. h a u (omega arith)) w
 
-  -- So as many codes deep as there are words is enough, also for a refusal.
+  -- So a depth of as many codes as there are words is enough, also for a refusal.
   readers_follow : (n : ℕ) → Follows L D n (readers L.width P n).datum (λ gs. data_code P ∷ gs) × Follows L D n (readers L.width P n).condition (λ gs. condition_code P ∷ gs)
   unfolding readers
   readers_follow zero = (no_words L D (data_code P), no_words L D (condition_code P))

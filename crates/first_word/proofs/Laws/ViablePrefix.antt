@@ -1,6 +1,6 @@
--- The first offending word (document 01, "Operations") is found as early as can be: where some word may stand at a place, the words before it begin an accepted stream
--- (`viable`), so a well-formed rule set's spelling (`spelled`). It is not so where none may: a code whose number has nothing to name passes
--- (Laws/StreamRefusals, `no_variable_after`). For constants of one word.
+-- The first offending word (document 01, "Operations") is found as early as can be: where some word is allowed at a place, the words before it
+-- begin an accepted stream (`viable`), so a well-formed rule set's spelling (`spelled`). It is not so where none is: a code whose number has nothing to name
+-- passes (Laws/StreamRefusals, `no_variable_after`). For constants of one word.
 use Rattle.std.specs.Prelude.{◌≡◌, Bool, ◌&&◌, eqb, get_or}
 use Rattle.std.proofs.Math.Path.{refl}
 use Rattle.std.proofs.Common.{sym, ◌∙◌, subst, inl, inr, arith, ltb→lt, lt→ltb, le→leb, pow_pos}
@@ -117,7 +117,7 @@ module _ (L : Edition) (one : L.width ≡ 1) where
     complete [] D s o t = ([], refl)
     complete (d ∷ gs) D s o t = finish D d gs t.0.0 t.0.1 s o (λ E q l g. complete gs E q (opened E gs l) (tail_grows D E g gs t.1))
 
-    -- ── where some word may stand ──
+    -- ── where some word is allowed ──
 
     rest_of : (D : Declared) (ds : List Due) → Tail D ds → Rest D ds
     rest_of D ds t = λ E q l g. complete ds E q (opened E ds l) (tail_grows D E g ds t)

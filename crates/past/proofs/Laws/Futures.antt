@@ -1,4 +1,4 @@
--- Equal values of all functions are equal cells, and the reverse; so two histories that end alike have the same moves, values and outcomes after every
+-- Equal values of all functions are equal cells, and the reverse; so two histories with the same end have the same moves, values and outcomes after every
 -- further list of numbers (request K10 of document 02; `future`, `begins`).
 use Rattle.std.specs.Prelude.{◌≡◌, length, get_or, take}
 use Rattle.std.proofs.Math.Path.{refl, ap, sym}

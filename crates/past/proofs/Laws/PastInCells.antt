@@ -244,7 +244,7 @@ module _ (rules : List ℕ) (S : Sizes) (R : RuleSet) (a : admission rules ≡ a
     whole_counted r j = (λ i. counted r j (readers_followed i) (did_followed i))
         ∙ counted_append r j (readers_in list) (readers_in further) (did list) did_on (one_outcome_each (system (Sem_T (attributes R))) (situation (unfold_main R) []) (words_in list))
 
-  -- Two lists whose histories end alike, in words of bytes.
+  -- Two lists, as words of bytes, whose histories have the same end.
   module _ (list list' : List ℕ) (read : T (all_read (words_in list))) (read' : T (all_read (words_in list'))) (h h' : Machine (Sem_T (attributes R)))
       (c : EndsWith R (numbers_in list) h) (c' : EndsWith R (numbers_in list') h') (same : SameEnd (attributes R) h.state h'.state)
       (further : List ℕ) (read_on : T (all_read (words_in further))) (b b' : Lent S) where
@@ -321,7 +321,7 @@ module _ (rules : List ℕ) (S : Sizes) (R : RuleSet) (a : admission rules ≡ a
           (memory_has_room all all_readers g chain b ∙ sym (memory_has_room all' all_readers' g' chain' b'));
     }
 
-  -- Equal words and cells left behind are equal terms and values.
+  -- Where two runs leave equal words and equal cells, they end with equal terms and equal values.
   module _ (list list' : List ℕ) (b b' : Lent S) where
     abbrev history : List ℕ → Machine (Sem_T (attributes R))
     history ns = history_run (attributes R) (unfold_main R) (numbers_in ns)

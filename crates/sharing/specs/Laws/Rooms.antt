@@ -1,5 +1,5 @@
--- A term none of whose parallels has a label in its mask has at most as many moves as words, and listing them takes at most so much room: no move of it is
--- made by two sides together (document 01, "Moves, in order"; "Unfolding, size and breadth").
+-- A term none of whose parallels has a label in its mask has at most as many moves as words, and listing them takes room for at most as many numbers: no
+-- move of it is made by two sides together (document 01, "Moves, in order"; "Unfolding, size and breadth").
 use Rattle.std.specs.Prelude.{◌≡◌, Bool, true, ◌&&◌, cond, ℕ, ◌+◌, ◌≤◌, max, length}
 use Rattle.std.proofs.Common.{sym, subst}
 use native.Mathlib.Omega.{arith}
@@ -40,7 +40,7 @@ module _ (width : ℕ) (g : Cond → Bool) where
   unfolding codes
   codes_below E u = omega (arith, length-map (moves g E) code_of, unmasked_count width g E u)
 
-  -- without a mask one side's list stands behind the other's
+  -- without a mask one side's list comes after the other's
   beside_below : (d z : Bool) (l r c m n q : ℕ) → z ≡ true → l ≤ m → r ≤ n → c ≤ m → cond d 1 (cond z (max l (c + r)) q) ≤ 5 + m + n
   beside_below d z l r c m n q e h k b =
       subst (λ x. cond d 1 (cond x (max l (c + r)) q) ≤ 5 + m + n) (sym e) (either_below (5 + m + n) d 1 (max l (c + r)) (omega arith) (omega arith))

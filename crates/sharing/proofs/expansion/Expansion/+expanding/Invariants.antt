@@ -1,5 +1,5 @@
--- A shared term is spelled out by its front, its parts one behind the other (document 01, "Operations": Run writes the last term). The measure is twice the words
--- at hand, and one more behind the front.
+-- A shared term is spelled out by its first word, its parts one after the other (document 01, "Operations": Run writes the last term). The measure is twice
+-- the number of words given, and one more where these are the words after the first.
 use lib.ListN.{length}
 use Prim.Native.Nat.{◌+◌, ◌*◌}
 use Rattle.sharing.proofs.expansion.Expansion.+expanding.Given as goal
