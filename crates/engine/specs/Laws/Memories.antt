@@ -1,5 +1,5 @@
--- The memory at the start, made of a store (document 01, "Memory and the history machine":
--- at start the empty-trace expressions fill the cells, function by function).
+-- A store that was made ready and filled, and then saved, is the memory at the start.
+-- Document 01, "Memory and the history machine": at start the empty-trace expressions fill the cells, function by function.
 use Rattle.std.specs.Prelude.{◌≡◌, List, ℕ, ◌+◌, ◌≤◌}
 use Rattle.std.proofs.Common.{ap, sym, ◌∙◌, subst, arith}
 use Rattle.std.proofs.Math.Option.{none}
