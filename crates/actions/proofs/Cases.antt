@@ -1,4 +1,4 @@
--- A case for each way that these functions return; the premises have the form of what the code tells there, so that `search` finds them.
+-- A case for each way that these functions return; the premises have the form of the facts known there, so that `search` finds them.
 use mathlib.Core.Path.{◌≡◌, refl, sym, ap, ◌∙◌, subst}
 use mathlib.Core.Bool.{Bool, true, false, not}
 use mathlib.Core.List.{List, [], ◌∷◌, ◌++◌}
@@ -19,9 +19,9 @@ use Rattle.actions.specs.Codes.{arguments_code, action_code, Small, Closed, Acti
 use Rattle.actions.specs.Laws.Codes.{label_in, label_back, arguments_back}
 use Rattle.actions.specs.Sets.{in_set, mask_word, mask_set}
 
--- ── how many arguments stand behind a label ──
+-- ── the number of arguments after a label ──
 
--- what the tests of a word, and of how many there are, tell
+-- what follows from the tests of a word, and of the number of words
 apart : (b : Bool) → b ≡ true → b ≡ false → ⊥
 apart b e f = subst T (sym e ∙ f) tt
 

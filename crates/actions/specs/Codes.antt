@@ -19,7 +19,7 @@ abbrev pub Small : Action → Type 0
 Small internal = Unit
 Small (visible a) = (a.label < 64) × (length a.arguments ≤ 2) × All (λ x. x < 64) a.arguments
 
--- What stands behind an action does not go on with an argument: it is the end, or a term, whose code is 20 or above.
+-- What comes after an action is no further argument of it: it is the end of the words, or a term, whose code is 20 or above.
 abbrev pub Closed : List ℕ → Type 0
 Closed rest = get_or rest 0 0 ≡ 1 → ⊥
 

@@ -1,5 +1,5 @@
--- Sets of labels as numbers: bit n stands for label n. A mask's four words make one number, so that masks within one another are joined in one
--- step (document 01, "Blocks and the rule stream": bit j of mask word i is label 16 × i + j; "Moves, in order").
+-- Sets of labels as numbers: label n is in the set if bit n is 1. A mask's four words make one number, so that the masks of nested parallels are joined in
+-- one step (document 01, "Blocks and the rule stream": bit j of mask word i is label 16 × i + j; "Moves, in order").
 use Rattle.std.specs.Prelude.{◌≡◌, refl, Bool, true, false, ◌||◌, cond, ℕ, zero, suc, ◌+◌, ◌-◌, ◌*◌, ◌/◌, ◌%◌, ◌^◌, ◌≤◌, ◌<◌, T, eqb}
 use Rattle.std.proofs.Common.{sym, ◌∙◌, subst, mul_assoc, div-add-mod', eqb→eq, pow_pos, pow-add, shr-shr}
 use Rattle.std.proofs.Math.Path.{ap}

@@ -1,4 +1,4 @@
--- What the code answers, in the specification's words.
+-- What opening a file answers, in the specification's words.
 -- Document 01, "Blocks and the rule stream"; refusals 1 to 3.
 use Rattle.std.specs.Prelude.{Bool, ◌&&◌, List, ℕ, ◌+◌, ◌*◌, ◌≤◌, ◌≡◌, eqb, get_or, Result, Ok, Err}
 use Rattle.eb3.specs.Answers.{Answer, refused, answered}
@@ -11,7 +11,7 @@ use Rattle.blocks.specs.declared.opened.Blocks.{Blocks}
 abbrev pub as_sums : Pair → Sums
 as_sums p = record { a = p.a; b = p.b }
 
--- What eight bytes in a row add: to a, and to b besides eight times the a before them.
+-- What eight bytes, one after the other, add to the sums a and b: b also gets eight times the a before them.
 pub record Eight (x : List ℕ) (p : Pair) : Type 0 where
   pub all : p.a ≡ get_or x 0 0 + get_or x 1 0 + get_or x 2 0 + get_or x 3 0 + get_or x 4 0 + get_or x 5 0 + get_or x 6 0 + get_or x 7 0
   pub weighed : p.b ≡ 8 * get_or x 0 0 + 7 * get_or x 1 0 + 6 * get_or x 2 0 + 5 * get_or x 3 0 + 4 * get_or x 4 0 + 3 * get_or x 5 0 + 2 * get_or x 6 0 + get_or x 7 0

@@ -18,7 +18,7 @@ abbrev pub arguments_of : Option VisibleAction → List ℕ
 arguments_of none = []
 arguments_of (some a) = a.arguments
 
--- Function f's expression stands where the directory says, in column j of its row of w words; in its scope now names functions below f only.
+-- Function f's expression is at the place that the directory gives in column j of its row of w words; it may name, with now, only functions below f.
 pub record Ready (A : Attributes) (o : Option VisibleAction) (b : Reading) (t D M : List ℕ) (w j f : ℕ) : Type 0 where
   pub scope : Scope
   pub plain : Plain scope

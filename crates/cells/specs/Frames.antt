@@ -33,30 +33,30 @@ pub record AsksOne (d : Data) : Type 0 where
   pub no_value : Data
   pub asked : d ≡ If (Equal (Variable 0) (naming named)) yes_value no_value
 
--- r says whether it is so of the expression at the front of s.
+-- r says whether Q holds of the expression at the beginning of s.
 abbrev pub Tells : Bool → List ℕ → (Data → Type 0) → Type 0
 Tells r s Q = (P : Scope) (d : Data) (rest : List ℕ) → DataAt s P d rest → (r ≡ true) ↔ Q d
 
 -- ── cells ──
 
--- The k words from one place on are as those of m from another, where these are read no earlier than written; all other words are kept.
+-- The k words from `at` on are those of m from `from` on, where `at` isn't after `from`; all other words are kept.
 pub record Copied (m m' : List ℕ) (from at k : ℕ) : Type 0 where
   pub same_length : length m' ≡ length m
   pub copies : at ≤ from → (x : ℕ) → x < k → stored m' (at + x) ≡ stored m (from + x)
   pub kept_below : (i : ℕ) → i < at → stored m' i ≡ stored m i
   pub kept_above : (i : ℕ) → at + k ≤ i → stored m' i ≡ stored m i
 
--- The same, and so they are where all that is read lies before what is written.
+-- `Copied`, and the k words are also right where every word that is read is before every word that is written.
 pub record CopiedApart (m m' : List ℕ) (from at k : ℕ) : Type 0 where
   pub copied : Copied m m' from at k
   pub copies_up : from + k ≤ at → (x : ℕ) → x < k → stored m' (at + x) ≡ stored m (from + x)
 
--- Function f's expression is at the front of s, and in m it has k cells, which begin at a place.
+-- Function f's expression is at the beginning of s, and m holds its k cells from `at` on.
 pub record Placed (t : List ℕ) (f left : ℕ) (s m : List ℕ) (at k : ℕ) : Type 0 where
   pub expression_at : s ≡ last_of left t
   pub size : k ≡ stored m (row_place f)
   pub begin : at ≡ now_place + stored m (begin_place f)
 
--- Its cells are new, whatever stream the words are the last of.
+-- After this, the cells of `Placed` are new, in whichever stream t the words s are the last words.
 abbrev pub NewCells : ℕ → List ℕ → ℕ → ℕ → List ℕ → List ℕ → Type 0
 NewCells f s at k m m' = (t : List ℕ) (left : ℕ) → Placed t f left s m at k → FunctionFilled t f left m m'

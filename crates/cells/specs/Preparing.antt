@@ -20,7 +20,7 @@ use Rattle.writing.specs.Wrote.{Wrote}
 use Rattle.cells.specs.Laws.Turns.{stored_there, stored_else}
 use Rattle.cells.specs.Preparing.{Prepared, ready_word, Loaded, Saved}
 
--- No variables, the old cells behind c new ones, and the rows of n functions by the directory's rows of w words; functions that are not there have no cell.
+-- No variables; the old cells begin after c new ones; the rows of n functions are as in the directory's rows of w words; any other function has no cell.
 pub record Prepared (D M M' : List ℕ) (w n c : ℕ) : Type 0 where
   pub no_variables : (i : ℕ) → i < old_cells_place → stored M' i ≡ 65535
   pub old_cells : before_place M' ≡ now_place + c
@@ -33,14 +33,14 @@ pub record Prepared (D M M' : List ℕ) (w n c : ℕ) : Type 0 where
 unfoldable pub ready_word : List ℕ → ℕ → ℕ → ℕ → ℕ → ℕ
 ready_word D w n c i = cond (ltb i old_cells_place) 65535 (cond (ltb i (row_place 0)) (now_place + c) (cond (ltb ((i - row_place 0) / row_words) n) (get_or D (w * ((i - row_place 0) / row_words) + i % row_words) 0 % 65536) 0))
 
--- Of a memory B, the first c words put into the store from a place on, as far as there is room; 0 where the memory has no word.
+-- The first c words of a memory B were put into the store from a place on, as far as there is room; 0 where the memory has no word.
 pub record Loaded (B M M' : List ℕ) (at c : ℕ) : Type 0 where
   pub same_length : length M' ≡ length M
   pub there : (i : ℕ) → i < c → at + i < length M → stored M' (at + i) ≡ get_or (words_in B) i 0
   pub kept_below : (i : ℕ) → i < at → stored M' i ≡ stored M i
   pub kept_above : (i : ℕ) → at + c ≤ i → stored M' i ≡ stored M i
 
--- The c cells of a store written at the front of a lent memory, which is B' now.
+-- The c cells of a store were written at the beginning of a lent memory, which is B' then.
 pub record Saved (M B B' : List ℕ) (c : ℕ) : Type 0 where
   pub same_length : length B' ≡ length B
   pub right : now_place + c ≤ length M → 2 * c ≤ length B → B' ≡ written (take c (drop now_place M)) B

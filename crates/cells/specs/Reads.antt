@@ -1,4 +1,4 @@
--- The first k cells hold their values, as numbers up to the largest.
+-- The first k cells are in a store, one word each, from a place on (`Begun`): 65,535 for undefined, any other value up to 65,534 as itself.
 -- Document 01, "Memory and the history machine".
 use Rattle.std.specs.Prelude.{◌≡◌, List, [], ◌∷◌, ℕ, zero, suc, ◌+◌, ◌≤◌, ◌<◌, length}
 use Rattle.std.proofs.Common.{sym, ◌∙◌, arith, lit<}
@@ -19,7 +19,7 @@ use Rattle.cells.specs.Layout.{RowLaid, Laid, Holds}
 use Rattle.cells.specs.Laws.Cells.{cells_below, one_count, one_index}
 use Rattle.cells.specs.Agreement.{Agree, cond_agrees}
 
--- The first k cells stand at a place.
+-- The first k of the cells are stored from `at` on.
 pub record Begun (M : List ℕ) (at : ℕ) (cells : List Value) (k : ℕ) : Type 0 where
   pub words : (c : ℕ) → c < k → stored M (at + c) ≡ encode 65535 (get_or cells c undefined)
   pub small : (c : ℕ) → c < k → AtMost 65534 (get_or cells c undefined)

@@ -10,14 +10,14 @@ use Rattle.expressions.specs.Stores.{stored, now_place, argument_place}
 use Rattle.cells.specs.Filling.{Filling}
 use Rattle.cells.specs.Reads.{Begun}
 
--- Of M, the store at the beginning, with its first k cells new: M'.
+-- M' is M, the store at the beginning, with its first k cells new.
 pub record Partly (A : Attributes) (o : Option VisibleAction) (b : Reading) (M M' : List ℕ) (k : ℕ) : Type 0 where
   pub same_length : length M' ≡ length M
   pub begun : Begun M' now_place (cells_up_to A o b (number_of_functions A)) k
   pub kept_below : (i : ℕ) → argument_place 0 ≤ i → i < now_place → stored M' i ≡ stored M i
   pub kept_above : (i : ℕ) → now_place + total_cells A ≤ i → stored M' i ≡ stored M i
 
--- It is function f's turn, whose expression stands where so many words of t are left.
+-- The cells of function f are filled next; its expression begins where `left` words of t are left.
 pub record Turn (t : List ℕ) (f left : ℕ) : Type 0 where
   pub A : Attributes
   pub o : Option VisibleAction

@@ -26,7 +26,7 @@ pub struct Functions<'a> {
     pub words: &'a [u16],
     /// The directory, with a row of `width` words for each function: how many cells it has, where they begin among all cells, and
     /// where each of its expressions is.
-    // Stays: columns 0 and 1 are read at i % row_words in `ready_word`: in a store's row the same two numbers stand in the same order.
+    // Stays: columns 0 and 1 are read at i % row_words in `ready_word`: a store's row has the same two numbers in the same order.
     pub directory: &'a [u32],
     /// How many words a row of the directory has.
     pub width: usize,
@@ -148,7 +148,7 @@ pub fn load(memory: &[u8], m: &mut [u16], at: usize, c: usize)
     m[at + k..at + n].fill(0);
 }
 
-// The c cells at the front of a lent memory, if there is room.
+// The c cells are written at the beginning of a lent memory, if there is room.
 pub fn save(m: &[u16], memory: &mut [u8], c: usize)
     ensures { Saved m.now memory.old memory.new c }
 {

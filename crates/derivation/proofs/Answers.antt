@@ -39,7 +39,7 @@ sound_passed n k l left j r e a b c d = record {
 pub sound_of : {x : ℕ} {s M : List ℕ} {k : ℕ} {entry exit : List ℕ} {n r : ℕ} → DerivedShown x s M k entry exit n r → Sound (length s) k (length entry) r
 sound_of h = record { bounded = h.bounded; place_bounded = h.place_bounded; passed_bounded = h.passed_bounded }
 
--- of what is known of every term that may stand there
+-- from what is known of every term that may be at the beginning of s
 pub derived_of : {x : ℕ} {s M : List ℕ} {k : ℕ} {entry exit : List ℕ} {n r : ℕ} → Sound (length s) k (length entry) r
     → ((P : Scope) (E : Term) (rest : List ℕ) → TermAt s P E rest
     → (size P.edition.width E ≤ length entry → room (holding M) E ≤ n → r < full) × (r < full → Outcome (shown_count x M E) (path P.edition.width x (holding M) E k) (length rest) k exit r))
@@ -74,7 +74,7 @@ outcome_as {count} {left} {k} {r} count' left' p' a b e h = record {
 pub outcome_early : {count left k r : ℕ} {p exit : List ℕ} (count' left' : ℕ) → k < count → count ≤ count' → Outcome count p left k exit r → Outcome count' p left' k exit r
 outcome_early count' left' l m h = record { found = λ z. h.found l; none_found = λ z. absurd (omega arith) }
 
--- a moves stand before
+-- a moves come before these
 pub outcome_later : {count left j r : ℕ} {p exit : List ℕ} (a k : ℕ) → a ≤ k → j ≡ k - a → Outcome count p left j exit r → Outcome (a + count) p left k exit r
 outcome_later {count} {left} {j} a k l e h = record {
   found = λ z. h.found (omega arith);
@@ -102,7 +102,7 @@ sound_single n k left r l f g a b c d = by_order k 1
     (λ z. let e : r ≡ l = f (omega arith) in record { bounded = omega arith; place_bounded = λ y. omega arith; passed_bounded = λ y w. absurd (omega arith) })
     (λ z. sound_passed n k l left (k - 1) r (g z) b (omega arith) c d)
 
--- ── a decision in front ──
+-- ── a decision written before a path ──
 
 module _ {o : List ℕ} {r q : ℕ} {mid exit : List ℕ} (h : Decided o r mid exit q) where
   pub decided_sound : {n k : ℕ} (l : ℕ) → Sound n k l r → Sound n k l q
@@ -120,7 +120,7 @@ module _ {o : List ℕ} {r q : ℕ} {mid exit : List ℕ} (h : Decided o r mid e
     none_found = λ l. h.kept (omega (arith, e.none_found l)) ∙ e.none_found l;
   }
 
--- there is room in front of the path of a term that is so much shorter than the array
+-- before the path of a term whose size is at least w less than the array's length, at least w words are free
 pub derived_room : {x : ℕ} {s M : List ℕ} {k : ℕ} {entry exit : List ℕ} {n r : ℕ} → DerivedShown x s M k entry exit n r → length exit ≡ length entry → (P : Scope) (E : Term) (rest : List ℕ) → TermAt s P E rest
     → (w : ℕ) → w + size P.edition.width E ≤ length entry → r < passed → w ≤ r
 derived_room {x} {s} {M} {k} {entry} {exit} {n} {r} h e P E rest t w l z =

@@ -31,7 +31,7 @@ use Rattle.derivation.specs.Laws.Answers.{by_order, never_full, before_full, dec
 use Rattle.derivation.proofs.Answers.{sound_lost, sound_more, sound_passed, sound_of, derived_of, outcome_of, outcome_as, outcome_early, outcome_later, outcome_place, outcome_passed, outcome_single, sound_single, decided_sound, decided_outcome, derived_room}
 use Rattle.derivation.proofs.Counts.{count_moves, count_done, count_internal, count_hidden, count_shows, count_after_done, count_sequence, count_choice, count_star, count_guard, count_shut, path_after_done, path_sequence, path_choice, path_end, path_round, path_guard, path_internal, path_perform, two_first, two_second}
 
--- What is shown of every term that may stand there.
+-- What is shown of every term that may be at the beginning of the words.
 abbrev pub Told : ℕ → List ℕ → ℕ → List ℕ → List ℕ → ℕ → ℕ → Scope → Term → List ℕ → Type 0
 Told x M k entry exit n r P E rest = (size P.edition.width E ≤ length entry → room (holding M) E ≤ n → r < full) × (r < full → Outcome (shown_count x M E) (path P.edition.width x (holding M) E k) (length rest) k exit r)
 
@@ -271,7 +271,7 @@ module _ (x : ℕ) (t M u : List ℕ) (c : ℕ) (judged : Judged t M c) (isu : u
         λ z. outcome_as _ _ _ (count_guard M x C E b) refl (λ y. path_guard M x P.edition.width C E k) (outcome_of h P E rest v z),
       )))
 
--- ── the code in front ──
+-- ── by the code at the beginning ──
 
 pub at_front : (x : ℕ) (s t M : List ℕ) (k : ℕ) (entry exit : List ℕ) (n w j r : ℕ) → w ≡ get_or s 0 0 → t ≡ drop 1 s → w ≡ j → 0 < j → DerivedShown x (j ∷ t) M k entry exit n r → DerivedShown x s M k entry exit n r
 at_front x s t M k entry exit n w j r a b e z h = subst (λ u. DerivedShown x u M k entry exit n r) (sym (front_form s t w j a b e z)) h

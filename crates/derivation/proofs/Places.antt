@@ -17,7 +17,8 @@ use Rattle.derivation.specs.Searching.{nth_place, pair_or, nth_pair}
 
 -- ── one list ──
 
--- r tells what s tells of a list of `size` numbers, the first at place i, of which `count` pass.
+-- r is, as a number, the answer s of a search in a list of `size` numbers, the first at place i, of which `count` pass: `at j` is the place i + j, and
+-- `beyond j` is `passed + j`.
 pub data Placed (i size count k r : ℕ) (s : Sought) : Type 0 where
   here : (j : ℕ) → r ≡ i + j → j < size → s ≡ at j → k < count → Placed i size count k r s
   past : (j : ℕ) → r ≡ passed + j → s ≡ beyond j → k ≡ count + j → Placed i size count k r s
@@ -55,7 +56,7 @@ length_equal a [] = refl
 length_equal a (y ∷ ys) =
     ap (λ b. length (cond b (a ∷ equal_to a ys) (equal_to a ys))) (turned y a) ∙ length_either (eqb a y) a y (equal_to a ys) (filter (eqb a) ys) (length_equal a ys)
 
--- r tells what s tells of two lists, the left's first at place i, with `count` pairs.
+-- r is, as a number, the answer s of a search in two lists, the left's first at place i, with `count` pairs.
 pub data PairPlaced (i m n count k r : ℕ) (s : Sides) : Type 0 where
   pair_here : (a j : ℕ) → r ≡ (i + a) * 131072 + j → a < m → j < n → s ≡ together (i + a) j → k < count → PairPlaced i m n count k r s
   pair_past : (j : ℕ) → r ≡ passed + j → k ≡ count + j → PairPlaced i m n count k r s

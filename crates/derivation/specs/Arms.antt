@@ -1,4 +1,4 @@
--- What the search for a path answers at each form of a term: a decision in front, an action, two operands one after the other, sides of a parallel.
+-- What the search for a path answers at each form of a term: a decision before the path, an action, two operands one after the other, sides of a parallel.
 -- Document 01, "Moves, in order".
 use Rattle.std.specs.Prelude.{◌≡◌, true, false, cond, List, ◌∷◌, ◌++◌, ℕ, ◌+◌, ◌-◌, ◌≤◌, ◌<◌, length, drop}
 use Rattle.std.specs.Int.Bits.{bit_or}
@@ -21,12 +21,12 @@ pub record Sound (n k l r : ℕ) : Type 0 where
   pub place_bounded : r < passed → r ≤ l
   pub passed_bounded : passed ≤ r → r < full → r ≤ passed + answer n k
 
--- An answer where there was room: of `count` moves p is the path of move k; behind them so many words are left.
+-- The answer where there was room, for a term of `count` moves: p is the path of move k; or there is no move k, and `left` words remain after the term.
 pub record Outcome (count : ℕ) (p : List ℕ) (left k : ℕ) (exit : List ℕ) (r : ℕ) : Type 0 where
   pub found : k < count → (r < passed) × (drop r exit ≡ p)
   pub none_found : count ≤ k → r ≡ passed + answer left (k - count)
 
--- The words of a decision, o, were written in front of a path that begins at r; any other answer is as it was.
+-- The words of a decision, o, were written directly before a path that begins at r; any other answer is as it was.
 pub record Decided (o : List ℕ) (r : ℕ) (entry exit : List ℕ) (q : ℕ) : Type 0 where
   pub same_length : length exit ≡ length entry
   pub bounded : q ≤ full
@@ -47,7 +47,7 @@ pub record OperandsDerived (w : ℕ) (count : Term → Term → ℕ) (p : ℕ �
   pub has_room : (P : Scope) (E F : Term) (rest : List ℕ) → TwoAt t P E F rest → w + size P.edition.width E + size P.edition.width F ≤ length entry → two_room (holding M) E F ≤ n → r < full
   pub right : (P : Scope) (E F : Term) (rest : List ℕ) → TwoAt t P E F rest → r < full → Outcome (count E F) (p P.edition.width E F) (length rest) k exit r
 
--- The second's moves behind the first's; c is the decision for the first, the one above it that for the second.
+-- The second operand's moves come after the first's; c is the decision for the first, c + 1 that for the second.
 abbrev pub TwoDerived : ℕ → ℕ → List ℕ → List ℕ → ℕ → List ℕ → List ℕ → ℕ → ℕ → Type 0
 TwoDerived x c t M k entry exit n r = OperandsDerived 1 (λ E F. shown_count x M E + shown_count x M F)
     (λ v E F. path_in_turn c (size v E) (shown_count x M E) (path v x (holding M) E) (path v x (holding M) F) k) t M k entry exit n r

@@ -1,6 +1,7 @@
 -- The path of move k, found in one walk over the term and written at the end of a lent array (document 01, "Moves, in order"; paths: crate paths).
--- One number is the answer. Below `passed`: the place where the path begins; it goes to the end. From `passed` on: the term has no move k; the words left
--- behind it, and 65,536 times what is left of k once its moves are passed. `full`: there was no room.
+-- The answer is one number. Below `passed`, it is the place where the path begins, which goes to the end of the array. From `passed` on, the term has no
+-- move k, and the number less `passed` is the number of words left after the term, plus 65,536 times (k less the number of the term's moves). `full`: there
+-- was no room.
 use Rattle.std.specs.Prelude.{◌≡◌, List, ℕ, ◌+◌, ◌-◌, ◌≤◌, ◌<◌, length, drop}
 use Rattle.eb3.specs.Scopes.{Scope}
 use Rattle.eb3.specs.Terms.{Term}

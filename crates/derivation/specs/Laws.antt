@@ -1,4 +1,4 @@
--- Laws of the definitions beside this folder.
+-- The laws. Answers: of the answers of a search, and of the room before a path. Fits: of operands' sizes and of actions. Arrays: of lent arrays.
 -- Document 01, "Moves, in order".
 pub mod Answers
 pub mod Fits

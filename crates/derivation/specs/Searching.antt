@@ -24,7 +24,7 @@ nth_pair p i (x ∷ xs) ys k = cond (p x) (pair_or i (nth_place (eqb x) 0 ys k) 
 unfoldable pub sides_of : ℕ → Sides
 sides_of z = cond (ltb z 131072) (left_alone z) (cond (ltb z 262144) (right_alone (z - 131072)) (together ((z - 262144) / 131072) ((z - 262144) % 131072)))
 
--- The first number that tells no pair of places in arrays of 131,072.
+-- Above the number of every pair of places in two arrays of 131,072 words: 262,144 + 131,072 × 131,072.
 abbrev pub sides_end : ℕ
 sides_end = 17180131328
 
@@ -39,7 +39,7 @@ Within m n nowhere = ⊥
 unfoldable pub shown_combined : ℕ → ℕ → List ℕ → List ℕ → List ℕ
 shown_combined x δ xs ys = outside (in_set (bit_or x δ)) xs ++ (outside (in_set (bit_or x δ)) ys ++ pairs (paired x δ) xs ys)
 
--- z tells the sides of move k, or how much of k is left once the moves that show are passed.
+-- z says the sides of move k, or from `passed` on how much of k is left once the moves that show are counted off.
 pub record LocatedBy (x δ : ℕ) (xs ys : List ℕ) (k z : ℕ) : Type 0 where
   pub bounded : z ≤ passed + k
   pub low : z < passed → z < sides_end

@@ -1,4 +1,4 @@
--- The answers of the searches for the sides of a parallel's move, each read as the one number that Searching tells it by, and their bounds (document 01,
+-- The answers of the searches for the sides of a parallel's move, each as the one number that Searching has for it, and their bounds (document 01,
 -- "Moves, in order").
 use Rattle.std.specs.Prelude.{ℕ, ◌+◌, ◌*◌, ◌≤◌, ◌<◌, Result, Ok, Err}
 use Rattle.derivation.specs.Derived.{passed}

@@ -10,7 +10,7 @@ pub struct Scratch<'a> {
     pub path: &'a mut [u16],
     /// For the numbers that finding a path takes.
     pub acts: &'a mut [u32],
-    /// For the words of what has begun, where the term is held in few words.
+    /// For the words of the part of the term that moves, spelled out, where the term is held as parts of the start's unfolding.
     pub mid: &'a mut [u16],
     pub ghost short_path: { length path.now ≤ 65535 },
     pub ghost few_acts: { length acts.now ≤ 131072 },

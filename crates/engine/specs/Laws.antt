@@ -1,4 +1,6 @@
--- Laws of the definitions beside this folder.
+-- The laws, case by case: Start (Starting), Run (Running), Count (Counting), Move and Present (Stepping); the memory at the start (Memories); and what is
+-- known of the rule set and of a given term (Describing).
+-- Document 01, "Operations".
 pub mod Running
 pub mod Starting
 pub mod Stepping

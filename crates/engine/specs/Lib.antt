@@ -1,4 +1,6 @@
--- What the operations answer: document 01's number or values for each case (document 01, "Operations").
+-- What each operation answers, document 01's number or values for each case: Start (Starting), Run (Running), Count (Counting), Move and Present (Stepping);
+-- what is known of the rule set and of a given term (Describing), the memory at the start (Memories), and the laws of these (Laws).
+-- Document 01, "Operations".
 pub mod Describing
 pub mod Memories
 pub mod Starting

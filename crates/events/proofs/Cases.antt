@@ -1,4 +1,4 @@
--- A case for each way that the reading of an event returns; the premises have the form of what the code tells there, so that `search` finds them.
+-- A case for each way that the reading of an event returns; the premises have the form of the facts known there, so that `search` finds them.
 use mathlib.Core.Path.{◌≡◌, refl, sym, ap, ◌∙◌, subst}
 use mathlib.Core.List.{List, [], ◌∷◌, append-nil}
 use mathlib.Core.Option.{Option as Optional, none, some}

@@ -1,4 +1,4 @@
--- An event is a given term that is a leaf (document 01, refusals 10 and 11): the limits keep no leaf out. And a term is told a leaf by its first word.
+-- An event is a given term that is a leaf (document 01, refusals 10 and 11): the limits refuse no leaf. And the first word says whether a term is a leaf.
 use mathlib.Core.Path.{◌≡◌, refl, sym, ap, ◌∙◌}
 use mathlib.Core.Bool.{Bool, true, false, ◌&&◌}
 use mathlib.Core.List.{List, [], ◌∷◌}

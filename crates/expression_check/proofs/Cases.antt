@@ -1,4 +1,4 @@
--- A case for each way that the front of a row is said; the premises have the form of what the code says there, so that `search` finds them.
+-- A case for each way that the front of a row is said; the premises have the form of the facts known there, so that `search` finds them.
 -- Document 01, "Values and conditions"; refusals 4 and 5.
 use Prim.Native.Nat.{ℕ, suc, ◌+◌, ◌-◌, ◌≤◌, ◌<◌}
 use native.Mathlib.Omega.{arith}

@@ -1,4 +1,4 @@
--- A case for each way that a helper of the evaluators returns, over its operands; the premises have the form of what the code says there.
+-- A case for each way that a helper of the evaluators returns, over its operands; the premises have the form of the facts known there.
 use mathlib.Core.Path.{◌≡◌, refl, ap, ◌∙◌}
 use mathlib.Core.Bool.{Bool, true, false, not, cond}
 use mathlib.Core.List.{List, [], ◌∷◌, ◌++◌}

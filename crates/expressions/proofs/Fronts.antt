@@ -1,5 +1,5 @@
 -- By the code at the front an expression is known for what it is, since no two constructors have the same code. So for each arm of an evaluator there is
--- a case, whose premises have the form of what the code says there.
+-- a case, whose premises have the form of the facts known there.
 use mathlib.Core.Path.{◌≡◌, sym, ap, ◌∙◌, subst}
 use mathlib.Core.Bool.{◌&&◌, ◌||◌, cond}
 use mathlib.Core.List.{List, [], ◌∷◌, ◌++◌, append_assoc}

@@ -1,4 +1,4 @@
--- A case for each way that a function of values as words, or of the store, returns; the premises have the form of what the code tells there.
+-- A case for each way that a function of values as words, or of the store, returns; the premises have the form of the facts known there.
 use mathlib.Core.Path.{◌≡◌, refl, sym, ap, ◌∙◌, subst}
 use mathlib.Core.Bool.{Bool, true, false, ◌&&◌, ◌||◌}
 use mathlib.Core.Logic.{◌⊎◌, inl, inr}

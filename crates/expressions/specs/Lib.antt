@@ -1,4 +1,4 @@
--- What expressions are evaluated in, and what an evaluation answers.
+-- What expressions are evaluated in (Stores), what an evaluation answers (Answering, Operands), and the laws of these (Laws).
 -- Document 01, "Values and conditions".
 pub mod Stores
 pub mod Answering

@@ -1,6 +1,6 @@
 // The two evaluators, over data and over conditions, calling each other (document 01, "Values and conditions": a data
-// expression may hold a condition, and a condition holds data expressions). They serve functions' expressions and guards
-// alike; each answers its value and the words left after the expression, so that nothing is scanned twice.
+// expression may hold a condition, and a condition holds data expressions). They serve both functions' expressions and
+// guards; each answers its value and the words left after the expression, so that nothing is scanned twice.
 // Stays: that words are at most 65,535 is a clause of each function here, for the reason in successors (docs/DESIGN-PASS.md, "A struct for words").
 #![tactic(auto)]
 
@@ -231,7 +231,7 @@ fn attribute(t: &[u16], m: &[u16], at: usize) -> Valued
     }
 }
 
-// The value of the data expression at the front.
+// The value of the data expression at the beginning of the words.
 #[cycle(evaluators)]
 pub fn eval_data(s: &[u16], m: &[u16]) -> Valued
     requires { length s.now ≤ 65535 }
@@ -287,7 +287,7 @@ fn negated(t: &[u16], m: &[u16]) -> usize
     pack(usize::from(x % 65536 == 0), x / 65536)
 }
 
-// Whether the condition at the front holds: 1 or 0.
+// Whether the condition at the beginning of the words holds: 1 or 0.
 #[cycle(evaluators)]
 pub fn eval_cond(s: &[u16], m: &[u16]) -> usize
     requires { length s.now ≤ 65535 }

@@ -26,8 +26,8 @@ pub enum Wanted {
 
 // The event's action, or none where it is no event of this rule set. An event has at most six words: a code, a label, and
 // two for each of two arguments.
-// Stays, though `check_term` of giving.rt begins alike: a function for both would answer how many words were loaded, or none, and its contract would have to
-// say when there are none, which words are loaded else, and that the lent array keeps its length: more than the few statements that both have.
+// Stays, though `check_term` of giving.rt begins in the same way: a function for both would answer how many words were loaded, or none, and its contract
+// would have to say when there are none, which words are loaded else, and that the lent array keeps its length: more than the few statements that both have.
 fn read_event(tb: &[u32], event: &[u8]) -> Option<Wanted>
     ensures { (R : RuleSet) → Form R → Declares tb.now R → result ≡ event_asked (event_in R event.now) }
 {

@@ -1,7 +1,6 @@
--- What the listing of a term's moves answers (Listing, Arms, Combining), also outside a set of labels (Shown), what follows a code (Counting), where
--- operands are (Positions), terms in a row (Rows), also as rows of the one table of codes (Coded), parts of an array (PartLaws), what a
--- part of combining writes (Putting), and the laws: cases by the code at the front, numbers and room by
--- the term's form.
+-- What the listing of a term's moves answers (Listing, Arms, Combining), also outside a set of labels (Shown), and leaves of the array (Lending); where
+-- operands are (Positions), terms one after the other (Rows), what a part of combining writes (Putting), the room that listing takes (Rooms), and the laws
+-- of these (Laws).
 -- Document 01, "Moves, in order".
 pub mod Listing
 pub mod Lending

@@ -116,7 +116,7 @@ module _ (width : ℕ) where
         let h = l x k u.0 u.1 rest in
         (ap (within (λ z. Sequence z F)) h.0 ∙ ap (λ (z : Move). reached z rest) u.2, h.1)
 
-    -- The entry of one list, or of the other behind it.
+    -- Entry k of one list followed by another: of the one, or of the other.
     turn_left : {A B : Type 0} (f : A → B) (l : List A) (r : List B) (k : ℕ) (v : B) → ltb k (length l) ≡ true → get_elem? (map f l ++ r) k ≡ some v → (u : A) × (get_elem? l k ≡ some u) × (f u ≡ v)
     turn_left f l r k v t e = entry_made f l r k v (ltb-true k (length l) t) e
 

@@ -26,7 +26,7 @@ pub entry_rest : {A : Type 0} (l r : List A) (k : ℕ) → get_elem? (l ++ r) (l
 entry_rest [] r k = let e : 0 + k ≡ k = omega arith in ap (get_elem? r) e
 entry_rest (x ∷ l) r k = let e : suc (length l) + k ≡ suc (length l + k) = omega arith in ap (get_elem? (x ∷ (l ++ r))) e ∙ entry_rest l r k
 
--- An entry that is there stands within the list.
+-- If a list has an entry k, then k is less than its length.
 pub some_within : {A : Type 0} (l : List A) (k : ℕ) (x : A) → get_elem? l k ≡ some x → k < length l
 some_within [] k x e = absurd (none-ne-some x e)
 some_within (y ∷ l) zero x e = omega arith
@@ -43,7 +43,7 @@ entry_behind f l r k j h =
 
 -- ── the k-th that passes a test ──
 
--- Entry k of o is the entry of xs at the place found; or o has none, and so many are still to pass.
+-- Entry k of o is the entry of xs at the place found (`at`); or o has no entry k, and `beyond` has k less o's length.
 abbrev pub Seen : {A : Type 0} → List A → List A → ℕ → Sought → Type 0
 Seen xs o k (at i) = (get_elem? xs i ≡ get_elem? o k) × (k < length o)
 Seen xs o k (beyond j) = k ≡ length o + j

@@ -1,8 +1,8 @@
 -- A derivation of the memory semantics written down as words: the decisions on the way from the root of a term to what moves (document 01, "Moves, in
 -- order"; source 000, figure 6). A choice: 0 left, 1 right. A star: 0 it ends, 1 a round. A parallel: 0 both sides are done, 1 the left moves alone, 2 the
--- right alone, 3 both together, the left's path first. A sequence and a guard leave no decision. Where the way goes on on the right, the left operand's
--- size stands behind the decision, so that whoever follows need not look for its end. `path` is move k's; `follow` leads along it, whichever words it is made
--- of.
+-- right alone, 3 both together, the left's path first. A sequence and a guard have no word. Where the way goes on in the right operand, the left operand's
+-- size follows the decision, so that a follower need not look for the left operand's end. `path` is move k's; `follow` leads along any words: it returns the
+-- action, the successor, and the rest of the words.
 use Rattle.std.specs.Prelude.{Bool, true, not, ◌&&◌, cond, List, [], ◌∷◌, ◌++◌, map, ℕ, suc, ◌+◌, ◌-◌, eqb, ltb, length, drop, get_or}
 use Rattle.std.specs.Int.Bits.{bit_or}
 use Rattle.eb3.specs.Generic.Lists.{filter}
@@ -86,7 +86,7 @@ path_by n l r (right_alone j) = 2 ∷ n ∷ r j
 path_by n l r (together i j) = 3 ∷ n ∷ (l i ++ r j)
 path_by n l r nowhere = []
 
--- Two operands, the second's moves behind the first's: c is the decision for the first, whose size is n and of whose moves m show.
+-- Two operands, the second's moves after the first's: c is the decision for the first, whose size is n and of whose moves m show.
 abbrev pub path_in_turn : ℕ → ℕ → ℕ → (ℕ → List ℕ) → (ℕ → List ℕ) → ℕ → List ℕ
 path_in_turn c n m l r k = pick (ltb k m) (c ∷ l k) ((c + 1) ∷ n ∷ r (k - m))
 

@@ -1,4 +1,4 @@
--- A case for each way that the checks of a guard and of the quantifiers return. The premises have the form of what the code has there.
+-- A case for each way that the checks of a guard and of the quantifiers return. The premises have the form of the facts known there.
 use Prim.Native.Nat.{ℕ, ◌-◌}
 use native.Mathlib.Omega.{arith}
 use mathlib.Core.Path.{◌≡◌, refl, sym, ap, ◌∙◌, subst}

@@ -1,4 +1,4 @@
--- A case for each code of a term. The premises have the form of what the code has there, so that `search` finds them.
+-- A case for each code of a term. The premises have the form of the facts known there, so that `search` finds them.
 use Prim.Native.Nat.{ℕ, ◌≤◌, ◌<◌}
 use mathlib.Core.Path.{◌≡◌, refl, sym, ap, ◌∙◌}
 use mathlib.Core.List.{List}

@@ -1,4 +1,4 @@
--- A case for each way that the checks of actions and calls return. The premises have the form of what the code tells there, so that `search` finds them.
+-- A case for each way that the checks of actions and calls return. The premises have the form of the facts known there, so that `search` finds them.
 use Prim.Native.Nat.{ℕ, ◌+◌, ◌*◌, ◌≤◌, ◌<◌}
 use native.Mathlib.Omega.{arith}
 use mathlib.Core.Path.{◌≡◌, sym, ap, ◌∙◌}

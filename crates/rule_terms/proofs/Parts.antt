@@ -1,4 +1,4 @@
--- A case for each way that a check of a term's parts returns. The premises have the form of what the code has there, so that `search` finds them.
+-- A case for each way that a check of a term's parts returns. The premises have the form of the facts known there, so that `search` finds them.
 use Prim.Native.Nat.{ℕ}
 use mathlib.Core.Path.{◌≡◌, refl, sym, ap, ◌∙◌}
 use mathlib.Core.Bool.{Bool}
@@ -69,7 +69,7 @@ module _ (T Γ t : List ℕ) (j : Joint) (p : Answer) (e : p ≡ answer T (terms
         rw (both_taken (terms T Γ) (terms T Γ) t a.0.value a.0.rest b.0.value b.0.rest a.0.read (behind_got (terms T Γ) t r one.left _ a.0 l ∙ b.0.read))
         ((λ y. found (b.0.left y) (weight (d y))) ∙ (λ y. found (length b.0.rest) (weight (joint_of j (a.1 y) (b.1 y)))))
 
--- Two terms in a row are a sequence, or a choice.
+-- Two terms, one after the other, are a sequence or a choice.
 module _ (R : RuleSet) (M : ℕ → Measure) where
   pub weighed_sequence : (s : Read (RuleTerm × RuleTerm)) → weighed_two R M InSequence s ≡ weighed R M (giving (λ p. rule_sequence p.0 p.1) s)
   unfolding weighed_two joint_of weighed giving measure_term

@@ -1,4 +1,4 @@
--- What the check of a whole rule set answers, and its sections as they follow one another.
+-- What the check of a whole rule set answers, and its sections one after the other.
 -- Document 01, "Blocks and the rule stream", items 2 to 5; refusals 4 to 6.
 use Rattle.std.specs.Prelude.{List, ℕ, length, Ok, Err, Result}
 use Rattle.eb3.specs.Editions.{Edition}
@@ -14,7 +14,7 @@ use Rattle.refusals.specs.declared.Refusal.{Refusal}
 use Rattle.refusals.specs.Numbers.{refusal}
 use Rattle.rule_terms.specs.Weighed.{Answer, found}
 
--- So many words are left, so many cells are counted, and main measures so.
+-- The answer of the check: n words are left, c cells are counted, and w is main's weight.
 abbrev pub found_rules : ℕ → ℕ → Weight → Result Rules Refusal
 found_rules n c w = Ok (record { left = n; cells = c; weight = w })
 

@@ -58,7 +58,7 @@ module _ (t D : List ℕ) (w functions c : ℕ) (u : List ℕ) (n k : ℕ) (d M 
     none_so none e h = (refl, subst (SharedOver u R s.term n) (sym (step_none e).1) at.held)
     none_so (some x) e h = absurd (let z : ⊥ = omega (arith, (step_some x e).low, ap told h) in z)
 
-  -- A move made, told by its action's number and how many words hold its successor.
+  -- A move made: its action's number and the number of words that hold its successor are returned.
   module _ (d' : List ℕ) (r : Moved) (stepped : Stepped u d n M k paths numbers middle d' (told (Some r))) where
     made_so : (o : Maybe Move) → offered ≡ o → length d ≤ 65535 → MovedTo (SharedOver u) R s.term n d' o (Some (record { action = r.action; size = r.words }))
     made_so none e few = absurd (let z : ⊥ = omega (arith, (step_none d' (Some r) stepped e).0, r.few, r.small) in z)

@@ -1,5 +1,5 @@
--- What the memory machine replies to a number, by the list of its term's moves, however the term is held: what is told of the number and what is held then
--- (document 01, "Memory and the history machine"; "Operations": Run).
+-- What the memory machine replies to a number, by the list of its term's moves, however the term is held: the outcome that is returned for the number, and
+-- the term that is held then (document 01, "Memory and the history machine"; "Operations": Run).
 use mathlib.Core.Path.{◌≡◌, refl, sym, ap, ◌∙◌, subst}
 use mathlib.Core.List.{List, [], ◌∷◌, map}
 use mathlib.Core.Option.{Option as Maybe, none, some, none-ne-some}
@@ -42,7 +42,7 @@ module _ (S : DataState) (s : Situation S) (k : ℕ) where
       → Path (Outcome × Situation S) (reply (system S) s k) (taken x.action, situation x.successor (state_after S s.state x.action))
   reply_some x e = ap (respond (system S) s) (getElem?_map (transition S s.state) (moves (S.satisfies s.state) s.term) k x e)
 
--- ── what is told ──
+-- ── the outcome that is returned ──
 
 abbrev outcome_number : Outcome → ℕ
 outcome_number took_visible = 0

@@ -91,7 +91,7 @@ module _ (H : Holding) where
     abbrev L : TransitionSystem
     L = system (Sem_M (attributes R))
 
-    -- The counts of the machine go on as those of the tally, and its term's size is the one told.
+    -- The counts of the machine go on as those of the tally, and its term's size is the one returned.
     counted_so : (h : Machine (Sem_M (attributes R))) (ws M ws' M' : List ℕ) (r : Tally) (o : Outcome) (z : Situation (Sem_M (attributes R))) (size : ℕ) → Ended H R h ws M r
         → (o ≡ refused → size ≡ r.size) → Situated H R z size ws' M' → Ended H R (count L h o z) ws' M' (counted r (done_as o size))
     unfolding done_as

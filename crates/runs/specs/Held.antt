@@ -33,7 +33,7 @@ abbrev pub Short : Held → Type 0
 Short InFull = Unit
 Short (Over u) = length u.now ≤ 65503
 
--- There is room for every term of so many words: in the words ws, in the lent bytes out and in the arrays a.
+-- There is room for every term of up to `bound` words: in the words ws, in the lent bytes out and in the arrays a.
 abbrev pub RoomFor : (h : Held) (bound : ℕ) (ws out : List ℕ) (a : Scratch) → Type 0
 RoomFor InFull bound ws out a = Roomy bound ws out a.path.now
 RoomFor (Over u) bound ws out a = RoomyOver bound u.now ws (length a.path.now) (length a.acts.now) (length a.mid.now)

@@ -17,7 +17,7 @@ use Rattle.runs.specs.Scratch.{WordsOnly}
 use Rattle.runs.specs.declared.Tally.{Tally}
 use Rattle.runs.specs.declared.main_process.Totals.{Totals}
 
--- A tally as it is told: its size in 32 bits.
+-- A tally as Run returns it: its size in 32 bits.
 abbrev pub totals : Tally → Totals
 totals t = record { size = t.size % 4294967296; visible = t.visible; internal = t.internal; refused = t.refused }
 

@@ -32,7 +32,7 @@ pub record Situated (H : Holding) (R : RuleSet) (s : Situation (Sem_M (attribute
   pub held : H R s.term n ws
   pub stored : Stored R s.state M
 
--- There is room for every term of so many words: in the words, and in the lent bytes that a successor is built in; and in a lent array for a move's path,
+-- There is room for every term of up to `bound` words: in the words, in the lent bytes that a successor is built in, and in a lent array for a move's path,
 -- which has no more words than the term.
 pub record Roomy (bound : ℕ) (ws out path : List ℕ) : Type 0 where
   pub words_room : bound ≤ length ws

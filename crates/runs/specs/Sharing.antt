@@ -13,8 +13,8 @@ pub record SharedOver (u : List ℕ) (R : RuleSet) (E : Term) (n : ℕ) (d : Lis
   pub size_is : n ≡ length (shared_words shared)
   pub words_are : take n d ≡ shared_words shared
 
--- There is room for every term of so many words, which is held in no more of them, and for the path of a move of any part and the numbers that finding it takes:
--- so much is in the words d, in a lent array for a path, in one for numbers, and in one where what has begun is spelled out.
+-- There is room for every term of up to `bound` words, which is held in no more of them: in the words d, and in an array of `middle` words for what is spelled
+-- out. There is room for the path of a move of any part of the unfolding u, in `paths` words, and for the numbers that finding it takes, in `numbers` words.
 pub record RoomyOver (bound : ℕ) (u d : List ℕ) (paths numbers middle : ℕ) : Type 0 where
   pub words_room : bound ≤ length d
   pub middle_room : bound ≤ middle

@@ -58,8 +58,8 @@ fn pad(ws: &mut [u16], from: usize, to: usize)
     ws[from..to].fill(0);
 }
 
-// The end of a run: as many words as the tally says, zeros after them up to main's reach, and the cells of the store, written into the lent buffers; and the
-// tally as it is told.
+// The end of a run: as many words as the tally says, zeros after them up to main's reach, and the cells of the store, written into the lent buffers;
+// returns the tally as totals.
 // Stays, here and in the functions after it: the term, the memory and the spare buffer are lent apart, and so are the words and the store: memory
 // is fixed and there is no heap, and each is a different thing. Main is read back from the spare buffer, and of a buffer in a lent struct, as engine's `Next`
 // is, a check knows no more than its length once it was lent to be read.

@@ -1,4 +1,4 @@
--- A case for each way that these functions return; the premises have the form of what the code says there.
+-- A case for each way that these functions return; the premises have the form of the facts known there.
 -- Document 01, "Operations": 4, 5 and 6 by the first offending word of the stream.
 use Rattle.std.specs.Prelude.{◌≡◌, refl, ℕ, ◌-◌, ◌≤◌, ◌<◌, Bool, true, false, leb, List, [], ◌∷◌, length, get_or, Ok, Err}
 use Rattle.std.proofs.Common.{ap, arith}

@@ -1,4 +1,5 @@
--- Laws of the definitions beside this folder.
+-- The laws. Rows: of counts and of readings one after the other. Words: of a word in bytes. Checking, Reading: what the answers of checks say of readings.
+-- Repeats: how often a word is repeated.
 -- Document 01, "Operations": 4, 5 and 6 by the first offending word of the stream.
 pub mod Rows
 pub mod Words

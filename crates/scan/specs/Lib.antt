@@ -1,4 +1,5 @@
--- What a check of words answers, and the laws of reading that every crate above uses.
+-- What a check of words answers (Checking, Refusing, Readings), what is left of words (Ends), repeated words (Repeats), and their laws (Laws): those of
+-- reading that every crate above uses.
 -- Document 01, "Operations": 4, 5 and 6 by the first offending word of the stream.
 pub mod Checking
 pub mod Repeats

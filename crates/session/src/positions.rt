@@ -10,7 +10,7 @@ use refusals::Refusal;
 use scan::front;
 
 // The words of the term and the cells of the memory are at the start of the buffers.
-// Stays: two Vecs would keep their lengths, but the engine writes into buffers with room for the largest sizes and tells the size then: each Vec would be cut
+// Stays: two Vecs would keep their lengths, but the engine writes into buffers with room for the largest sizes and returns the size then: each Vec would be cut
 // after a move and filled up again before the next, and so the length would be kept no better than here.
 #[derive(Drop)]
 pub struct Position {
@@ -46,7 +46,7 @@ impl Position {
         front(&self.memory, 2 * self.cells as usize)
     }
 
-    // The start of a rule set takes the place of what stood here.
+    // The start of a rule set takes the place of the position held before.
     pub fn start(&mut self, rules: &[u8]) -> Result<(), Refusal>
         ensures started { OnOk result (StartDone rules.now self.old.term self.old.memory (Ok self.new.words) self.new.term self.new.memory) }
         ensures refused { IfErr result (λ refusal. StartDone rules.now self.old.term self.old.memory (Err refusal) self.new.term self.new.memory) }

@@ -22,7 +22,7 @@ next_below k n = go (dec_lt k n)
     go (yes l) = lt-ltb (1 + k) (suc n) (omega arith) ∙ sym (lt-ltb k n l)
     go (no l) = le-ltb (1 + k) (suc n) (omega arith) ∙ sym (le-ltb k n (omega arith))
 
--- found among the items behind one that does not pass, if at all
+-- found among the items after one that does not pass, if at all
 found_later : (k : ℕ) (o : Maybe ℕ) (b : Bool) → cond b (Some k) None ≡ found_at o → cond b (Some (1 + k)) None ≡ found_at (later o)
 unfolding found_at
 found_later k none true h = absurd (none-some k (sym h))
@@ -30,7 +30,7 @@ found_later k (some j) true h = ap Some (omega (arith, same_Some k j h))
 found_later k none false h = refl
 found_later k (some j) false h = absurd (none-some j h)
 
--- k of n items do not pass; then the item in front of them is seen, and b says whether it passes
+-- the first k of n items do not pass; then the item before them is tested, and b says whether it passes
 next_position : (b : Bool) (k n : ℕ) (o : Maybe ℕ) → cond (nat_lt k n) (Some k) None ≡ found_at o
     → cond (nat_lt (cond (not b) (1 + k) 0) (suc n)) (Some (cond (not b) (1 + k) 0)) None ≡ found_at (cond b (some zero) (later o))
 unfolding found_at

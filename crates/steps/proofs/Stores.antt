@@ -113,7 +113,7 @@ store_label t D M M' w n c code x l nz r el h R T ruled (visible a) good e cells
     let small : Small (visible a) = action_small R ruled.form (visible a) good in
     absurd (let z : ⊥ = omega (arith, r a small e, small.0) in z)
 
--- Old cells kept behind, arguments given: before reads the old cells.
+-- The old cells are copied after the new ones, and the arguments are given: before reads the old cells.
 module _ (R : RuleSet) (M M₁ M₂ : List ℕ) (code : ℕ) (cells : List Value) (s : Stored R cells M) (kept : Kept M M₁ (total_cells (attributes R))) (given : Given M₁ M₂ code) where
   place_kept : before_place M₂ ≡ now_place + total_cells (attributes R)
   place_kept = given.kept_above old_cells_place (omega arith) ∙ kept.kept_below old_cells_place (omega arith) ∙ s.old_place

@@ -112,12 +112,12 @@ nowhere_taken {s} {M} {k} {entry} {exit} f {o} e B P E w b _ = subst (Took P.edi
     below (yes l) = let q = f.found P E w b l in absurd (none-some q.0 q.1)
     below (no l) = omega arith
 
--- No term within the limit has so many moves.
+-- A term within the limits has at most 65,535 moves, so there is no move k.
 pub too_many_taken : {s : List ℕ} (M : List ℕ) (k : ℕ) → 65535 < k → (n : ℕ) (B : List ℕ)
     → (P : Scope) (E : Term) → Whole s P E → size P.edition.width E ≤ n → SuccessorFits P.edition.width (get_elem? (moves (holding M) E) k) B → Took P.edition.width (get_elem? (moves (holding M) E) k) B B None
 too_many_taken M k h n B P E w _ _ = nothing_taken P.edition.width M k E B (omega (arith, w.narrow, moves_below_breadth (holding M) E))
 
--- A term has no more words than the words it stands in.
+-- A term has no more words than the list of words that holds it.
 pub size_below : {s : List ℕ} {n : ℕ} → length s ≤ n → (P : Scope) (E : Term) → Whole s P E → size P.edition.width E ≤ n
 size_below {s} h P E w =
     let spelled : length s ≡ length (words P.edition.width E ++ []) = ap length w.there.spelled in

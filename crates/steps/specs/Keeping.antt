@@ -5,7 +5,7 @@ use Rattle.eb3.specs.Terms.{VisibleAction, visible}
 use Rattle.expressions.specs.Stores.{stored, now_place, argument_place, old_cells_place}
 use Rattle.actions.specs.Codes.{action_code, Small}
 
--- c cells, copied behind themselves.
+-- c cells were copied to the c words after them.
 pub record Kept (M M' : List ℕ) (c : ℕ) : Type 0 where
   pub copied : (i : ℕ) → i < c → stored M' (now_place + c + i) ≡ stored M (now_place + i)
   pub kept_below : (i : ℕ) → i < now_place + c → stored M' i ≡ stored M i

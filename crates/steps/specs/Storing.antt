@@ -15,7 +15,7 @@ use Rattle.expressions.specs.Stores.{now_place, before_place}
 use Rattle.actions.specs.Codes.{action_code}
 use Rattle.cells.specs.Layout.{Laid, Holds}
 
--- The store M holds these cells of the rule set R, and has room for as many old ones behind them.
+-- The store M holds these cells of the rule set R, and has room for as many old ones after them.
 pub record Stored (R : RuleSet) (cells : List Value) (M : List ℕ) : Type 0 where
   pub laid : Laid (attributes R) M
   pub holds : Holds M now_place cells

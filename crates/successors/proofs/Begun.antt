@@ -1,4 +1,4 @@
--- The beginning of a successor: carried over to longer words, behind words that stand already, and the term known by its first word.
+-- The beginning of a successor: carried over to longer words, after words that are already written, and the term known by its first word.
 use mathlib.Core.Path.{◌≡◌, refl, sym, ap, ◌∙◌, subst}
 use mathlib.Core.Bool.{true}
 use mathlib.Core.List.{List, [], ◌∷◌, ◌++◌, append-nil, append_assoc}
@@ -56,7 +56,7 @@ begun_within {P} {s} {u} {o} {rest} {a} {m} {x} {y} {r} t l g =
           record { standing = f.standing; due = f.due; fit = f.fit; there = sym e ∙ f.there };
     }
 
--- The words o with rest behind them, which are also o' with rest' behind them.
+-- The words o followed by rest, which are equal to the words o' followed by rest'.
 pub going_as : {s : List ℕ} {a m : ℕ} {x y : List ℕ} {r : Built} (o rest o' rest' : List ℕ) → o ++ rest ≡ o' ++ rest' → length rest ≤ length rest' → Going s o' rest' a m x y r → Going s o rest a m x y r
 going_as {s} {a} {m} {x} {y} {r} o rest o' rest' e h g = record {
   has_room = λ k. g.has_room (omega (arith, k, h, ap length e, length-append o rest, length-append o' rest'));
@@ -74,7 +74,7 @@ going_as {s} {a} {m} {x} {y} {r} o rest o' rest' e h g = record {
       };
 }
 
--- An operand F that stays behind the one that moves belongs to the successor.
+-- An operand F that comes after the one that moves, and stays, belongs to the successor.
 pub begun_longer : {P : Scope} {s rest : List ℕ} {a m : ℕ} {x y : List ℕ} {r : Built} (o : List ℕ) (F : Term) (w : List ℕ) → Fits P F → w ≡ o ++ words P.edition.width F → Begun P s o (words P.edition.width F ++ rest) a m x y r → Begun P s w rest a m x y (with_right r)
 begun_longer {P} {s} {rest} {a} {m} {x} {y} {r} o F w fits e g =
     let here = going_as w rest o (words P.edition.width F ++ rest) (ap (λ z. z ++ rest) e ∙ append_assoc o (words P.edition.width F) rest) (omega (arith, length-append (words P.edition.width F) rest)) g.going in
@@ -121,7 +121,7 @@ whole_begun {P} {s} {o} {rest} {a} {m} {x} {y} {r} n e l g = record {
   stands = λ k. record { standing = []; due = (g.right k).due; fit = tt; there = ap (λ j. last_of j s) (g.right k).left ∙ l };
 }
 
--- ── behind words that stand already ──
+-- ── after words that are already written ──
 
 module _ (X : Built) (u p x : List ℕ) where
   pub behind_begun : (z : List ℕ) (Y : Built) → 2 * X.words ≤ length x → X.ok ≡ true → Beginning u p (lent (2 * X.words) x) z Y
@@ -175,7 +175,7 @@ after_head s n p x y z X r long W given =
 
 -- ── the whole term ──
 
--- Behind the words that stay, the operand's successor and what stands behind the operand: with nothing left, the whole successor.
+-- After the words that stay come the operand's successor and then all words after the operand: this is the whole successor.
 pub built : (s p : List ℕ) (n l : ℕ) (x y z : List ℕ) (X r : Built) → Unchanged s p n l → After s n (lent l p) x y X → Closed s X 0 y z r → Building s p x z r
 built s p n l x y z X r U given C = record {
   same_length = C.bounds.same_length ∙ given.bounds.same_length;

@@ -1,4 +1,4 @@
--- A case for each way that the beginning of a successor returns, but for a parallel's. The premises have the form of what the code tells there.
+-- A case for each way that the beginning of a successor returns, but for a parallel's. The premises have the form of the facts known there.
 use mathlib.Core.Path.{◌≡◌, refl, sym, ap, ◌∙◌, subst}
 use mathlib.Core.Bool.{true, false, cond}
 use mathlib.Core.List.{List, [], ◌∷◌, ◌++◌}
@@ -34,11 +34,11 @@ use Rattle.successors.proofs.Begun.{begun_within, begun_longer, begun_where, who
 abbrev pub Skipped : List ℕ → ℕ → Type 0
 Skipped s r = (r ≤ length s) × ((P : Scope) (E : Term) (rest : List ℕ) → TermAt s P E rest → r ≡ length rest)
 
--- What skipping n terms in a row answers.
+-- What skipping n terms, one after the other, answers.
 abbrev pub RowSkipped : List ℕ → ℕ → ℕ → Type 0
 RowSkipped s n r = (r ≤ length s) × ((P : Scope) (Es : List Term) (rest : List ℕ) → RowAt s P Es rest → n ≡ length Es → r ≡ length rest)
 
--- Where the operand that moved ends is told by its terms that still stand.
+-- The end of the operand that moved is found by skipping the terms, `l.due` of them, that still belong to its successor.
 operand_ends : {P : Scope} {E : Term} {t rest o : List ℕ} {a m : ℕ} {x y : List ℕ} {l : Built} (v : List ℕ) (n : ℕ) → TermAt t P E rest → Begun P t o rest a m x y l → l.ok ≡ true
     → v ≡ last_of l.left t → RowSkipped v l.due n → n ≡ length rest
 operand_ends v n i f ok e k =
@@ -141,7 +141,7 @@ module _ (s p t : List ℕ) (behind : t ≡ drop 1 s) where
         let g = cl.made (built_words P.edition.width E q) (words P.edition.width F ++ rest) x (action_code (follow E q).action) (length (follow E q).rest) m.bounds.same_length f.going at a in
         whole_begun left b (behind_part (words P.edition.width (Choice E F)) rest s left i.spelled b) (made_left left g))))
 
--- The right operand of a choice stands where the path says.
+-- The right operand of a choice begins at the place that the path says.
 module _ (s p x : List ℕ) (r : Built) (n : ℕ) (e : get_or s 0 0 ≡ 23) (d : get_or p 0 0 ≡ 0 → ⊥) (is : n ≡ get_or p 1 0) where
   left_size : (P : Scope) (E F : Term) (rest : List ℕ) → TermAt s P (Choice E F) rest → marked P.edition.width (Choice E F) p ≡ true → n ≡ length (words P.edition.width E)
   left_size P E F rest i j = is ∙ ((choice_right_marked p d P.edition.width E F j).0 ∙ size_there P E i.fits.0)

@@ -1,4 +1,4 @@
--- Plain laws of lists: the first and the last words of a list, and what stands before and behind a part.
+-- Plain laws of lists: the first and the last words of a list, and what comes before and after a part.
 use mathlib.Core.Path.{◌≡◌, refl, sym, ap, ◌∙◌}
 use mathlib.Core.List.{List, [], ◌++◌, append_assoc}
 use Prim.Native.Nat.{ℕ, ◌+◌, ◌-◌, ◌≤◌}
@@ -43,18 +43,18 @@ same_before a b c e =
     let l : length b ≡ length a = omega (arith, ap length e, length-append a c, length-append b c) in
     sym (take_at a c (length a) refl) ∙ (ap (take (length a)) e ∙ take_at b c (length a) l)
 
--- What stands behind a part is the last so many words, also where others stand before the part.
+-- What comes after a part is the last n words, where n is its length, also if others come before the part.
 pub behind_dropped : (s : List ℕ) (m : ℕ) (a b : List ℕ) (n : ℕ) → drop m s ≡ a ++ b → n ≡ length b → last_of n s ≡ b
 behind_dropped s m a b n e h =
     behind_part (take m s ++ a) b s n (sym (take-append-drop m s) ∙ (ap (λ l. take m s ++ l) e ∙ sym (append_assoc (take m s) a b))) h
 
--- What stands before the last so many words.
+-- What comes before the last n words.
 pub before_part : (a b t : List ℕ) (n : ℕ) → t ≡ a ++ b → n ≡ length b → take (length t - n) t ≡ a
 before_part a b t n e h =
     let k : length a ≡ length t - n = omega (arith, ap length e, length-append a b) in
     ap (take (length t - n)) e ∙ take_at a b (length t - n) k
 
--- The words behind so many and then a part.
+-- The words after m words and then a part.
 pub drop_past : (s : List ℕ) (m n : ℕ) (a b : List ℕ) → drop m s ≡ a ++ b → n ≡ length a → drop (m + n) s ≡ b
 drop_past s m n a b e h = sym (drop-drop n m s) ∙ (ap (drop n) e ∙ drop_at a b n (sym h))
 

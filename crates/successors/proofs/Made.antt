@@ -43,7 +43,7 @@ made_left left g = record {
       record { action = f.action; size = f.size; left = refl; due = refl; path_left = f.path_left; written_there = f.written_there };
 }
 
--- ── words at the front ──
+-- ── words at the beginning ──
 
 module _ (o x y : List ℕ) (a n m : ℕ) (b : Bool) (h : Wrote o x y b) where
   pub wrote_whole : b ≡ true → Whole o a n m x y (record { ok = true; action = a; words = length o; left = n; due = 0; path_left = m })
@@ -58,7 +58,7 @@ module _ (o x y : List ℕ) (a n m : ℕ) (b : Bool) (h : Wrote o x y b) where
     made = unbuilt_made (λ k. never (room_there o x y b h k) e) u;
   }
 
--- ── words behind others ──
+-- ── words after others ──
 
 module _ (w : List ℕ) (X : Built) (x z : List ℕ) (b : Bool) (room : 2 * X.words ≤ length x) (ok : X.ok ≡ true) (given : Wrote w (lent (2 * X.words) x) z b) where
   here : Wrote w (drop (2 * X.words) x) z b
@@ -98,7 +98,7 @@ module _ (w : List ℕ) (X : Built) (x z : List ℕ) (b : Bool) (room : 2 * X.wo
     right = λ k. absurd (never k u.ok);
   }
 
--- Words behind others that were written whole are written whole with them.
+-- Words after others that were written whole are written whole with them.
 pub added_made : (o w b x y : List ℕ) (a n m : ℕ) (X r : Built) → length x ≡ length b → 2 * X.words ≤ length x → Made o a n m b x X → Added w X x y r → Made (o ++ w) a n m b y r
 added_made o w b x y a n m X r same fits M A = record {
   has_room = λ k.

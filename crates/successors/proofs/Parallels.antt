@@ -1,4 +1,4 @@
--- A case for each way that the beginning of a parallel's successor returns. The premises have the form of what the code tells there.
+-- A case for each way that the beginning of a parallel's successor returns. The premises have the form of the facts known there.
 use mathlib.Core.Path.{◌≡◌, refl, sym, ap, ◌∙◌, subst}
 use mathlib.Core.Bool.{true}
 use mathlib.Core.List.{List, [], ◌∷◌, ◌++◌, append_assoc}
@@ -25,7 +25,7 @@ use Rattle.successors.proofs.Made.{bounded_within, right_bounded, unbuilt_bounde
 use Rattle.successors.proofs.Begun.{begun_longer, whole_begun, by_parallel}
 use Rattle.successors.proofs.Cases.{Skipped}
 
--- The right operand stands where the path says.
+-- The right operand begins at the place that the path says.
 module _ (s p : List ℕ) (n : ℕ) (is : n ≡ get_or p 1 0) (P : Scope) (rest : List ℕ) (Δ : Mask) (E F : Term) (t : TermAt s P (Parallel Δ E F) rest) (k : get_or p 1 0 ≡ size P.edition.width E) where
   left_size : n ≡ length (words P.edition.width E)
   left_size = is ∙ (k ∙ size_there P E t.fits.1)

@@ -1,4 +1,4 @@
--- The words at the front of a term that stay as they are: a case for each way that one step returns, and the steps one behind another
+-- The words at the beginning of a term that stay as they are: a case for each way that one step returns, and the steps one after the other
 -- (document 01, "Moves, in order").
 use mathlib.Core.Path.{◌≡◌, sym, ap, ◌∙◌, subst}
 use mathlib.Core.Bool.{true, false, cond}
@@ -111,16 +111,16 @@ module _ (s p : List ℕ) where
               ∙ (sym (append_assoc (25 ∷ Δ) (words P.edition.width E) (b ++ rest)) ∙ ap (λ h. h ++ (b ++ rest)) (sym (head_there s p n is P rest Δ E F k m.0)))));
         }))
 
--- ── the steps one behind another ──
+-- ── the steps one after the other ──
 
--- So many words stay, and so many of the path lead behind them: never more than stay.
+-- The first `at` words of the term stay, and `used` words of the path lead to what comes after them: never more than stay.
 pub record Passed (s p : List ℕ) (at used : ℕ) : Type 0 where
   pub inside : at ≤ length s
   pub along : used ≤ length p
   pub no_more : used ≤ at
   pub ahead : Ahead s p at used
 
--- What is told of the parts that were lent.
+-- What a step says of the parts of s and p that were lent, said of s and p without their first words.
 pub stays_there : (s p : List ℕ) (at used n : ℕ) → Staying (lent at s) (lent used p) n → Staying (drop at s) (drop used p) n
 stays_there s p at used n h = subst (λ l. Staying (drop at s) l n) (part used p) (subst (λ l. Staying l (lent used p) n) (part at s) h)
 

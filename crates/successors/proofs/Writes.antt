@@ -21,7 +21,7 @@ had_room o x y b h e = leb-true (2 * length o) (length x) (sym h.fits ∙ e)
 pub room_there : (o x y : List ℕ) (b : Bool) → Wrote o x y b → 2 * length o ≤ length x → b ≡ true
 room_there o x y b h l = h.fits ∙ le-leb (2 * length o) (length x) l
 
--- Words behind those that stand already.
+-- Words written after those that are already written.
 pub written_behind : (o w b x : List ℕ) (k : ℕ) → 2 * length o ≤ length b → k ≡ 2 * length o → x ≡ written o b → take k x ++ written w (drop k x) ≡ written (o ++ w) b
 written_behind o w b x k h l e =
     ap (λ n. take n x ++ written w (drop n x)) l ∙ (ap (λ z. take (2 * length o) z ++ written w (drop (2 * length o) z)) e ∙ written_then o w b h)

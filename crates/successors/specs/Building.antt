@@ -1,5 +1,5 @@
 -- The successor of a move, built within a part of a lent buffer (document 01, "Operations": the successor is built within a part of the lent buffer;
--- words past the reported size keep their values). The path is marked: the sizes that stand in it are right.
+-- words past the reported size keep their values). The path is marked: the sizes of left operands that it holds are right.
 use Rattle.std.specs.Prelude.{◌≡◌, true, List, [], ℕ, ◌*◌, ◌≤◌, length}
 use Rattle.eb3.specs.Scopes.{Scope}
 use Rattle.eb3.specs.Terms.{Term}

@@ -1,4 +1,5 @@
--- What the building of a successor answers, in the whole and in its parts.
+-- What the building of a successor answers, in the whole (Building) and in its parts (Parts), the words that stay as they are (Unchanged), and the laws of
+-- these (Laws).
 -- Document 01, "Moves, in order"; "Operations": the successor is built within a part of the lent buffer.
 pub mod Building
 pub mod Parts

@@ -1,4 +1,4 @@
--- A case for each way that these functions return; the premises have the form of what the code has there, so that `search` finds them.
+-- A case for each way that these functions return; the premises have the form of the facts known there, so that `search` finds them.
 use Prim.Native.Nat.{ℕ, suc, ◌+◌, ◌-◌, ◌≤◌, ◌<◌}
 use native.Mathlib.Omega.{arith}
 use mathlib.Core.Path.{◌≡◌, refl, sym, ap, ◌∙◌}

@@ -1,3 +1,3 @@
--- Laws of the definitions beside this folder.
+-- The laws. Tables: what the tables declare, entry by entry, and the readers of masks and arguments.
 -- Document 01, "Blocks and the rule stream", item 5: masks and arguments, and what they are judged by.
 pub mod Tables

@@ -1,4 +1,4 @@
--- The tables that process terms are read by, in one array of words, and the rule set that they declare: what stands before the term.
+-- The tables that process terms are read by, in one array of words, and the rule set that they declare: what comes before the term in a stream.
 -- The places of its words are those of Layout.antt.
 -- Document 01, "Blocks and the rule stream", item 5: masks and arguments, and what they are judged by.
 use Rattle.std.specs.Prelude.{List, [], ◌∷◌, ℕ, zero, suc, ◌+◌, eqb, ltb, leb, length, take, drop, get_or, replicate}
@@ -15,7 +15,7 @@ unfoldable pub from : {A : Type 0} → ℕ → ℕ → (ℕ → A) → List A
 from i zero f = []
 from i (suc n) f = f i ∷ from (suc i) n f
 
--- A count at a place, and that many words behind it.
+-- A count at a place, and that many words after it.
 unfoldable pub row : List ℕ → ℕ → List ℕ
 row T at = take (get_or T at 0) (drop (at + 1) T)
 
@@ -39,14 +39,14 @@ declared T = record {
   processes = from 0 (process_count T) (process_row T);
 }
 
--- The measures of process p, as they stand in the tables; of a process that is not there, as of none.
+-- The measures of process p, as they are stored in the tables; those of nothing where there is no process p.
 abbrev pub measure_row : List ℕ → ℕ → Measure
 measure_row T p = record { size = size_at T p; reach = reach_at T p; breadth = breadth_at T p }
 
 unfoldable pub callee : List ℕ → ℕ → Measure
 callee T p = pick (ltb p (process_count T)) (measure_row T p) (nothing (sat 65536))
 
--- What stands behind an argument's code 1 and 2: as `argument_of` reads it.
+-- What comes after an argument's code 1 and 2: as `argument_of` reads it.
 unfoldable pub constant_of_domain : RuleSet → ℕ → Reader Argument
 constant_of_domain R d t = then (number_in R.edition.width t) λ v u. pick (leb v R.edition.top) (pick (ltb v (domain_size R d)) (taken (constant_argument v) u) (refused Refusal.kind)) (refused Refusal.form)
 

@@ -1,4 +1,4 @@
--- A case for each way that the check of actions returns. The premises have the form of what the code tells there, so that `search` finds them.
+-- A case for each way that the check of actions returns. The premises have the form of the facts known there, so that `search` finds them.
 -- Document 01, "Unfolding, size and breadth"; refusal 10.
 use Prim.Native.Nat.{ℕ, ◌+◌, ◌*◌, ◌≤◌, ◌<◌}
 use native.Mathlib.Omega.{arith}

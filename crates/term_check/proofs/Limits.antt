@@ -26,7 +26,7 @@ found g b = Some (record { reach = g; breadth = b })
 abbrev alone : Read Term → Option Given
 alone r = given 1 (term_alone 1 r)
 
--- What is left behind the term, or a reach or breadth past the limit.
+-- Refused: words are left after the term, or a reach or breadth is above the limit.
 alone_more : (E : Term) (u : List ℕ) → (length u ≡ 0 → ⊥) → None ≡ alone (taken E u)
 unfolding given
 alone_more E [] h = absurd (h refl)

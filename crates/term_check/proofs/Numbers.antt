@@ -1,4 +1,4 @@
--- Answers made of answers: what the functions on numbers return, and that what they pack fits. The premises have the form of what the code has
+-- Answers made of answers: what the functions on numbers return, and that what they pack fits. The premises have the form of the facts known
 -- there, so that `search` finds them.
 -- Document 01, "Unfolding, size and breadth"; refusal 10.
 use Prim.Native.Nat.{ℕ, zero, suc, ◌-◌, ◌%◌, ◌≤◌}

@@ -1,4 +1,4 @@
--- A case for each way that the checks of two terms, a parallel and a guard return. The premises have the form of what the code has there, so that
+-- A case for each way that the checks of two terms, a parallel and a guard return. The premises have the form of the facts known there, so that
 -- `search` finds them.
 -- Document 01, "Unfolding, size and breadth"; refusal 10.
 use Prim.Native.Nat.{ℕ, ◌-◌, ◌%◌, ◌≤◌}

@@ -1,5 +1,5 @@
 -- A case for each way that the check of arguments returns, and what its loop keeps: the elements still to be read leave as many words as all do.
--- The premises have the form of what the code tells there, so that `search` finds them.
+-- The premises have the form of the facts known there, so that `search` finds them.
 -- Document 01, "Unfolding, size and breadth"; refusal 10.
 use Prim.Native.Nat.{ℕ, suc, ◌+◌, ◌-◌, ◌*◌, ◌/◌, ◌≤◌, ◌<◌}
 use native.Mathlib.Numerals.{add-one}
@@ -18,7 +18,7 @@ use Rattle.tables.specs.Tables.{declared}
 use Rattle.std.specs.Prelude.{Option, Some, None}
 use Rattle.term_check.specs.Answers.{left_after}
 
--- ── one element in front ──
+-- ── one element, read first ──
 
 -- The element is read, of code 1 (b) and a value below the size (d); or all is refused.
 one_read : (ns : List ℕ) (w : ℕ) (t : List ℕ) (b d : Bool)

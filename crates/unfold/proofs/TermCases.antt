@@ -1,4 +1,4 @@
--- A case for each way that the parts of the cycle return. The premises have the form of what the code says there.
+-- A case for each way that the parts of the cycle return. The premises have the form of the facts known there.
 -- Document 01, "Unfolding, size and breadth".
 use mathlib.Core.Path.{◌≡◌, refl, sym, ap, ◌∙◌, subst}
 use mathlib.Core.List.{List, [], ◌∷◌, ◌++◌}

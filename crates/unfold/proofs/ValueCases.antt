@@ -1,4 +1,4 @@
--- A case for each way that the values of variables are found. The premises have the form of what the code says there.
+-- A case for each way that the values of variables are found. The premises have the form of the facts known there.
 use mathlib.Core.Path.{◌≡◌, refl, sym, ap, ◌∙◌}
 use mathlib.Core.List.{List, [], ◌∷◌, ◌++◌}
 use Prim.Native.Nat.{ℕ, zero, suc, ◌+◌, ◌*◌, ◌<◌}

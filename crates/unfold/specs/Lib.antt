@@ -1,4 +1,5 @@
--- What the unfolding of a process term writes, and the laws of its parts.
+-- What the unfolding of a process term writes (Written, Unfolded), what its parts put into the buffer (Puts, Saying), variables that become constants
+-- (Instantiation), the code that joins two terms (Joints), and the laws of these (Laws).
 -- Document 01, "Unfolding, size and breadth".
 pub mod Written
 pub mod Unfolded

@@ -1,5 +1,5 @@
--- Actions of a rule set of edition 1 are small, so that their numbers tell their labels and arguments: at most 64 labels, of at most two parameters,
--- whose domains have at most 64 elements (document 01, "Blocks and the rule stream", items 2 and 3).
+-- Actions of a rule set of edition 1 are small (`Small`), so that an action's number gives back its label and arguments: at most 64 labels, of at most two
+-- parameters, whose domains have at most 64 elements (document 01, "Blocks and the rule stream", items 2 and 3).
 use Rattle.std.proofs.Common.{arith}
 use Rattle.eb3.specs.Terms.{Action, internal, visible}
 use Rattle.eb3.specs.RuleSets.{RuleSet, label}

@@ -1,4 +1,4 @@
--- Laws of actions' numbers: equal numbers are equal actions, and a number tells the label and the arguments.
+-- Laws of actions' numbers: equal numbers are equal actions, and the label and the arguments can be computed from a number.
 -- Document 01, "Moves, in order": equal actions, label and arguments.
 use Rattle.std.specs.Prelude.{◌≡◌, refl, Bool, true, false, cond, List, [], ◌∷◌, ℕ, ◌-◌, ◌/◌, ◌%◌, ◌^◌, ◌≤◌, ◌<◌, T, eqb, length, take}
 use Rattle.std.proofs.Common.{ap, ◌∙◌, subst, arith, eqb→eq, get_or-take, ne_eqb}
@@ -8,7 +8,7 @@ use Rattle.eb3.specs.Terms.{VisibleAction, Action, internal, visible, Mask, bit,
 use Rattle.eb3.proofs.Laws.Terms.{same_action→eq, same_action_refl}
 use Rattle.actions.specs.Codes.{arguments_code, action_code, Small}
 
--- The label that a number other than 0 tells.
+-- The label of the action whose number is `code`, where this isn't 0.
 unfoldable pub label_in : ℕ → ℕ
 label_in code = (code - 1) % 64
 
@@ -61,7 +61,7 @@ codes_same (visible a) (visible b) h k e =
     let q : arguments_code a.arguments ≡ arguments_code b.arguments = omega (arith, h.0, k.0) in
     λ i. visible (record { label = p i; arguments = arguments_same a.arguments b.arguments h.2 k.2 q i })
 
--- Tests that pass where the other does.
+-- Two tests are equal where each passes if the other does.
 pub same_test : (b c : Bool) → (T b → T c) → (T c → T b) → b ≡ c
 same_test true true f g = refl
 same_test true false f g = absurd (f tt)

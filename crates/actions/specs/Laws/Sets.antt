@@ -1,5 +1,6 @@
--- Sets of labels as numbers: bit n stands for label n. A mask's four words make one number, so that masks within one another are joined in one
--- step (document 01, "Blocks and the rule stream": bit j of mask word i is label 16 × i + j; "Moves, in order").
+-- Laws of sets of labels as numbers (`in_set`, `mask_set`): a mask's four words as one number hold the mask's labels; the number 0 holds none; the bitwise
+-- or of two numbers holds the labels of both; and an action outside a set is outside each of its subsets.
+-- Document 01, "Blocks and the rule stream": bit j of mask word i is label 16 × i + j; "Moves, in order".
 use Rattle.std.specs.Prelude.{◌≡◌, refl, Bool, true, false, ◌||◌, cond, ℕ, zero, suc, ◌+◌, ◌-◌, ◌*◌, ◌/◌, ◌%◌, ◌^◌, ◌≤◌, ◌<◌, T, eqb}
 use Rattle.std.proofs.Common.{sym, ◌∙◌, subst, mul_assoc, div-add-mod', eqb→eq, pow_pos, pow-add, shr-shr}
 use Rattle.std.proofs.Math.Path.{ap}
@@ -124,7 +125,7 @@ or_false : (b c : Bool) → b ≡ (b || c) → b ≡ false → c ≡ false
 or_false true c e f = absurd (subst T f tt)
 or_false false c e f = sym e
 
--- What a set has all labels of has no other action.
+-- If a set x has all labels of a set y, then an action outside x is outside y.
 pub within_set : (x y code : ℕ) → has_all x y ≡ true → in_set x code ≡ false → in_set y code ≡ false
 within_set x y code h f =
     let e : bit_or x y ≡ x = eqb→eq (bit_or x y) x (subst T (sym h) tt) in

@@ -1,5 +1,6 @@
--- What is known where a file was admitted with a directory: the rule set, its form, its sizes, and where its parts are (document 01, "Operations": no call
--- trusts an earlier one, so each operation begins so).
+-- Where a file was admitted with a directory, either Admit refuses it with the number that was returned (`known_refused`), or all that `Known` says of the
+-- rule set, its sizes and the places of its parts holds (`known`).
+-- Document 01, "Operations": no call trusts an earlier one, so each operation begins so.
 use Rattle.std.specs.Prelude.{◌≡◌, List, ℕ, ◌*◌, ◌≤◌, length, Ok, Err, Result}
 use Rattle.std.proofs.Math.Path.{sym}
 use Rattle.std.proofs.Common.{◌∙◌, arith, mul-le-mul}

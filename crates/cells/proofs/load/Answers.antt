@@ -1,4 +1,4 @@
--- The words that the memory has, and zeros behind them (`loading_zeros`), as far as there is room (`loading_end`).
+-- The memory's words are loaded, and after them zeros (`loading_zeros`), as far as there is room (`loading_end`).
 use Rattle.std.proofs.Common.{◌+◌}
 use native.Mathlib.Omega.{arith}
 use Rattle.cells.specs.Laws.Preparing.{cleared_part, loading_zeros, loading_end}

@@ -1,4 +1,4 @@
--- Laws of cells that no store is needed for: how many there are, and that those of the first functions come first.
+-- Laws of cells alone, without a store: how many there are, and that the cells of the first functions come first.
 -- Document 01, "Memory and the history machine".
 use Rattle.std.specs.Prelude.{◌≡◌, List, [], ◌∷◌, length}
 use Rattle.std.proofs.Math.Path.{refl, ap}
@@ -14,9 +14,9 @@ use Rattle.eb3.specs.Terms.{VisibleAction}
 use Rattle.eb3.specs.Attributes.{Attributes, domain, evaluate}
 use Rattle.eb3.specs.Cells.{cell_count, cell_index, offset, cell_at, concat_tabulate, tabulate, cells_up_to}
 
--- ── where a function's cells stand ──
+-- ── the places of a function's cells ──
 
--- A function's cells stand below those of every later one.
+-- A function's cells are before those of every later function.
 pub cells_below : (A : Attributes) (g i : ℕ) → g < i → offset A g + cell_count (domain A g) ≤ offset A i
 unfolding offset
 cells_below A g zero h = omega arith

@@ -1,5 +1,5 @@
--- What the words in front tell of an expression, for the two forms that keep cells (document 01, "Memory and the history machine"): an expression is
--- before f(x0), or asks whether x0 is the element named, just where certain words stand in front.
+-- Laws of the two forms of expressions whose cells keep their values (document 01, "Memory and the history machine"): an expression is before f(x0), or asks
+-- whether x0 is the element named, if and only if its first words are those of the form.
 use Rattle.std.specs.Prelude.{◌≡◌, refl, Bool, true, false, not, ◌↔◌, ◌⊎◌, eqb}
 use Rattle.std.proofs.Math.Path.{sym, ap, subst}
 use Rattle.std.proofs.Common.{◌∙◌, ⊎_elim, eq-eqb, ne_eqb}
@@ -160,7 +160,7 @@ module _ (s : List ℕ) (f : ℕ) where
 
 -- ── whether x0 is the element named ──
 
--- of the fifth word and those behind it
+-- the fifth word and those after it, which name an element
 abbrev pub NamingWords : List ℕ → Type 0
 NamingWords s = ((get_or s 4 0 ≡ 2) × (get_or s 5 0 ≡ 0 → ⊥)) ⊎ ((6 ≤ get_or s 4 0) × (get_or s 4 0 ≤ 7) × (get_or s 6 0 ≡ 2) × (get_or s 7 0 ≡ 0 → ⊥))
 
@@ -222,7 +222,7 @@ module _ (s : List ℕ) (P : Scope) (rest : List ℕ) where
       let v = selection_by d (sym (data_first P.edition.width d rest) ∙ sym (ap (λ l. get_or l 0 0) at.spelled) ∙ w.1) in
       subst AsksOne (sym v.3) (asks_selection v.0 v.1 v.2 (subst (λ q. DataAt s P q rest) v.3 at) w)
 
-  -- the words of one that asks, behind what names the element
+  -- the words of an expression that asks, after those that name the element
   asked_words : (q : Naming) (a b : Data) → s ≡ asking 0 (data_words P.edition.width (naming q) ++ ((data_words P.edition.width a ++ data_words P.edition.width b) ++ rest)) → AsksWords s
   unfolding data_words
   asked_words (argument i) a b k = (

@@ -1,5 +1,5 @@
--- What is read from a store that holds cells is what is read from the cells: for any place where they stand, so for now and for before; and a guard is
--- judged in such a store as document 01 says.
+-- What is read from a store that holds cells is what is read from the cells, wherever in the store the cells begin: so for now and for before; and a guard
+-- is judged in such a store as document 01 says ("Memory and the history machine").
 use Rattle.std.specs.Prelude.{◌≡◌, List, [], ◌∷◌, ℕ, zero, suc, ◌+◌, ◌≤◌, ◌<◌, length}
 use Rattle.std.proofs.Common.{sym, ◌∙◌, arith, lit<}
 use Rattle.std.proofs.Math.Path.{ap}
@@ -20,7 +20,7 @@ use Rattle.cells.specs.Laws.Cells.{cells_below, one_count, one_index}
 use Rattle.cells.specs.Agreement.{Agree, cond_agrees}
 use Rattle.cells.specs.Reads.{Begun}
 
--- ── where cells stand ──
+-- ── where cells are stored ──
 
 module _ (A : Attributes) (M : List ℕ) (f : ℕ) (row : RowLaid A M f) where
   pub row_cells : cell_count (domain A f) ≡ stored M (row_place f)

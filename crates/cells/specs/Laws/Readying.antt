@@ -25,7 +25,7 @@ use Rattle.cells.specs.Readying.{OneDomain}
 
 -- ── the directory by numbers ──
 
--- Row j of rows that begin with row i; `begin` says where each function's cells begin.
+-- Row j of the directory's rows from row i on; `begin` says where each function's cells begin.
 row_at : (width : ℕ) (domains t D : List ℕ) (w i : ℕ) (Fs : List Function) (begin : ℕ → ℕ) → ((j : ℕ) → j < length Fs → begin (suc j) ≡ begin j + cells_of domains (get_or Fs j no_rule))
     → FunctionRows width domains t D w i (begin zero) Fs → (j : ℕ) → j < length Fs → FunctionRow width domains t D (w * (i + j)) (begin j) (get_or Fs j no_rule)
 row_at width domains t D w i [] begin s r j h = absurd (let z : ⊥ = omega arith in z)
@@ -43,7 +43,7 @@ standing_at w t D at (d ∷ ds) s (suc j) h =
     let e : suc at + j ≡ at + suc j = omega arith in
     subst (λ n. Stands t (get_or D n 0) (data_words w (get_or ds j Undefined))) e (standing_at w t D (suc at) ds s.1 j (omega arith))
 
--- ── cells in a row ──
+-- ── cells one after the other ──
 
 no_cells : (domains : List ℕ) (Fs : List Function) → all_cells domains (take 0 Fs) ≡ 0
 unfolding all_cells
@@ -86,7 +86,7 @@ module _ (R : RuleSet) (form : Form R) where
   unfolding cells_of
   cells_are f h = ap cell_count (sym (domain_is R f h))
 
-  -- Where a function's cells begin: behind those of the functions before it.
+  -- A function's cells begin after those of all functions before it.
   pub offset_sum : (f : ℕ) → f ≤ length R.functions → offset A f ≡ all_cells R.domains (take f R.functions)
   unfolding offset
   offset_sum zero h = sym (no_cells R.domains R.functions)
@@ -117,7 +117,7 @@ module _ (R : RuleSet) (form : Form R) where
         subst (λ k. FunctionRow R.edition.width R.domains t D (w * k) (offset A f) (function_rule R f)) e
         (row_at R.edition.width R.domains t D w 0 R.functions (offset A) (λ j l. next_offset A j ∙ ap (λ c. offset A j + c) (sym (cells_are j l))) d.functions f h)
 
-    -- What stands in it: numbers of 32 bits, which fewer than 1,025 cells fit in.
+    -- The directory's numbers are words of 32 bits, in which a count of at most 1,024 cells fits.
     pub directory_size : (f : ℕ) → f < length R.functions → get_or D (w * f) 0 ≡ cell_count (domain A f)
     directory_size f h = (directory_row f h).cells ∙ cells_are f h
 

@@ -1,4 +1,4 @@
--- What an expression or a term opens with: its code, the words before its operands, and its operands, data and conditions before terms (document 01,
+-- Laws of what an expression or a term begins with: its code, the words before its operands, and its operands, data and conditions before terms (document 01,
 -- "Codes stand before their operands").
 use Rattle.std.specs.Prelude.{◌≡◌, Bool, true, false, ◌&&◌, cond, ℕ, zero, suc, ◌+◌, ◌*◌, ◌≤◌, max, eqb, length, get_or}
 use Rattle.std.proofs.Math.Path.{refl, sym, ap}

@@ -1,5 +1,5 @@
--- Which codes may be where something is due, as ranges; and that the readers refuse every other code as form (document 01, "Values and conditions", "Blocks
--- and the rule stream").
+-- Laws of which codes may be where (`may_be`): it is so if and only if the code is in a range (`InRange`), and every other code is refused as form
+-- (document 01, "Values and conditions", "Blocks and the rule stream").
 use Rattle.std.specs.Prelude.{◌≡◌, Bool, ◌||◌, ◌⊎◌, ℕ, ◌≤◌, eqb, leb, List}
 use Rattle.std.proofs.Math.Path.{refl, sym, ap}
 use Rattle.std.proofs.Common.{◌∙◌, subst, inl, inr, arith, le→leb, leb→le, eqb→eq, ne_eqb}

@@ -1,5 +1,5 @@
--- The table of codes in two numbers: a bit for each code that one word follows, one for the code that four words follow, and two bits for each code's
--- operands (document 01, "Values and conditions", "Blocks and the rule stream").
+-- Laws of the table of codes: its columns are the bits of numbers (one bit for each code that one word follows, one for the code that four words follow, two
+-- for each code's operands) and rows of numbers (document 01, "Values and conditions", "Blocks and the rule stream").
 use Rattle.std.specs.Prelude.{◌≡◌, Bool, true, false, ◌&&◌, cond, List, [], ◌∷◌, get_or, ℕ, zero, suc, ◌+◌, ◌*◌, ◌/◌, ◌%◌, ◌^◌, ◌≤◌, ◌<◌, min, T, eqb}
 use Rattle.std.proofs.Common.{sym, ap, ◌∙◌, arith, eqb→eq, eq-eqb, ne_eqb}
 use Rattle.std.proofs.Math.Decide.{ℕ_discrete}
@@ -8,7 +8,7 @@ use Rattle.eb3.specs.Generic.Lists.{one_of}
 use Rattle.eb3.specs.Reading.{pick}
 use Rattle.codes.specs.Table.{words_after, operands_after, moving_code}
 
--- Two functions that are found equal at each number below n.
+-- Whether two functions are equal at each number below n.
 abbrev pub alike : (ℕ → ℕ) → (ℕ → ℕ) → ℕ → Bool
 alike f g zero = true
 alike f g (suc n) = eqb (f n) (g n) && alike f g n

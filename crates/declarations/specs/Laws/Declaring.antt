@@ -1,5 +1,5 @@
 -- What is entered into the tables is what they then declare, and the rest stays declared as it was: domains, labels, the functions' count, and process
--- after process. What is declared is alike, so terms are read and measured as over the rule set itself.
+-- after process. The declared rule set is equal to the one read in all that reading and measuring terms uses (`Alike`), so both give the same.
 -- Document 01, "Blocks and the rule stream", items 2 to 5; refusals 4 and 5.
 use Rattle.std.specs.Prelude.{◌≡◌, refl, ◌≢◌, cond, List, [], ◌∷◌, ◌++◌, map, ℕ, zero, suc, ◌+◌, ◌*◌, ◌≤◌, ◌<◌, length, take, drop, get_or, set, eqb}
 use Rattle.std.proofs.Common.{sym, ap, ◌∙◌, subst, arith, length-set, length-append, get_or-set_same, get_or-set_other, ext_get_or, eqb→eq}
@@ -31,7 +31,7 @@ use Rattle.declarations.specs.Laws.Regions.{paste_before, paste_inside, row_is, 
 
 -- ── domains ──
 
--- What was read is at the front: their count, and they.
+-- The words read begin with the number of domains and the domains' sizes.
 domains_in_front : (t ds u : List ℕ) → read_domains t ≡ taken ds u → t ≡ length ds ∷ (ds ++ u)
 domains_in_front t ds u e = sound.0 ∙ ap (λ l. length ds ∷ (l ++ u)) (words ds)
   where
@@ -78,7 +78,7 @@ module _ (at : ℕ) (l T : List ℕ) (room : at + label_words ≤ length T) (sho
   unfolding put_row
   row_inside j h = paste_inside T at (length l ∷ l) (suc (length l)) (omega arith) (omega arith) j (omega arith)
 
--- Rows that have room.
+-- The labels' rows have room in the table, and each has at most two words.
 abbrev Fitting : ℕ → List (List ℕ) → List ℕ → Type 0
 Fitting at ls T = (at + label_words * length ls ≤ length T) × All (λ l. length l ≤ 2) ls
 
@@ -112,7 +112,7 @@ rows_at at (l ∷ ls) T f (suc j) h =
     ap (row (put_rows (at + label_words) ls (put_row at l T))) (let z : at + label_words * suc j ≡ at + label_words + label_words * j = omega arith in z)
     ∙ rows_at (at + label_words) ls (put_row at l T) (next_fits at l ls T f) j (omega arith)
 
--- Sixty-four of them end where the functions' count is.
+-- The rows of 64 labels end at the place of the functions' count, so those of the labels read fit.
 labels_fit : (T : List ℕ) (ls : List (List ℕ)) → functions_place ≤ length T → length ls ≤ 64 → All (λ l. length l ≤ 2) ls → Fitting (label_place 0) ls (set T labels_place (length ls))
 labels_fit T ls room few short = (omega (arith, length-set T labels_place (length ls)), short)
 
@@ -203,7 +203,7 @@ module _ (B : List ℕ) (at a b c d n : ℕ) where
     count : process_count stored ≡ n
     count = get_or-set_same B₄ processes_place n 0 (omega (arith, stored_length, length-set B₄ processes_place n))
 
--- The words of a process entered, and those before it.
+-- The words of process p, as it was entered, and the words before them.
 module _ (T : List ℕ) (p : ℕ) (l : List ℕ) (m : Measure) (left : ℕ) (short : length l ≤ 5) (room : process_place (p + 1) ≤ length T) where
   abbrev B : List ℕ
   B = paste T (process_place p) l (length l)
@@ -318,7 +318,7 @@ process_entered T R P m left d room domains labels short few small e = record {
     measures q (no z) (yes s) = callee_at U q (omega (arith, counted)) ∙ measure_kept T p l m left fits room q s ∙ sym (callee_at T q (omega (arith, before))) ∙ other q z
     measures q (no z) (no s) = callee_beyond U q (omega (arith, counted, z, s)) ∙ sym (callee_beyond T q (omega (arith, before, s))) ∙ other q z
 
--- ── alike ──
+-- ── the declared rule set and the one read are equal in all that terms are read by ──
 
 -- One parameter each; a function that is not defined counts as such too.
 arity_is_one : (R : RuleSet) → ((f : ℕ) → get_or (map (λ (F : Function). length F.parameters) R.functions) f 1 ≡ 1) → (f : ℕ) → arities (attributes R) f ≡ 1

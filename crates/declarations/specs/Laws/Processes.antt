@@ -1,4 +1,4 @@
--- Reading one process by filled tables, and keeping them within their bounds.
+-- Laws of reading one process by filled tables, and of keeping the tables within their bounds.
 -- Document 01, "Blocks and the rule stream", items 2 to 5; refusals 4 and 5.
 use Rattle.std.specs.Prelude.{◌≡◌, refl, List, [], ◌∷◌, ◌++◌, ℕ, ◌+◌, ◌≤◌, ◌<◌, length, get_or, set, take}
 use Rattle.std.proofs.Common.{ap, sym, ◌∙◌, subst, arith, length-append, length-set, take_at, get_or-set_other}

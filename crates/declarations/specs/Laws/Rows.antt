@@ -1,5 +1,5 @@
--- A count and as many words, each read by itself (`One`), are a row at the front of the words: what was read is that row (`RowAt`), and a copy of it
--- into the tables enters it.
+-- Laws of rows, a count and then that many words, each read by itself: a reader of one word gives the word back (`one_number`, `one_count`), and so what was
+-- read is the row at the beginning of the words (`row_read`, `numbers_row`, `domains_row`).
 -- Document 01, "Blocks and the rule stream", items 2 to 5; refusals 4 and 5.
 use Rattle.std.specs.Prelude.{ℕ, zero, suc, ◌+◌, ◌≤◌, ◌≡◌, refl, Bool, true, false, List, [], ◌∷◌, ◌++◌, ◌⊎◌, length, take, drop, get_or, leb, ltb, Ok}
 use Rattle.std.proofs.Common.{arith, sym, ap, ◌∙◌, inl, inr, ⊎_elim, length-append, leb-true}
@@ -33,7 +33,7 @@ one_count lo hi = ((4, refl), λ w s. go w s (leb lo w) (leb w hi))
     go w s true false = inr (4, refl)
     go w s false b = inr (4, refl)
 
--- ── the row at the front ──
+-- ── the row at the beginning ──
 
 abbrev Shape : ℕ → List ℕ → Read (List ℕ) → Type 0
 Shape n s (refused j) = Unit {0}

@@ -1,5 +1,5 @@
--- Laws of the answers of a search for a path, whatever is searched: by the order of two numbers, with a decision in front, and the room in front of a path
--- (document 01, "Moves, in order").
+-- Laws of the answers of a search for a path, whatever is searched: by the order of two numbers, with a decision written before the path, and the room before
+-- a path (document 01, "Moves, in order").
 use Rattle.std.specs.Prelude.{◌≡◌, refl, Bool, true, false, List, [], ◌∷◌, ℕ, ◌+◌, ◌≤◌, ◌<◌, ltb, length, drop}
 use Rattle.std.proofs.Common.{ap, subst, arith, length-drop, ltb-true, ltb-false}
 use Rattle.derivation.specs.Derived.{passed, full}
@@ -15,7 +15,7 @@ by_order {A} r n f g = go (ltb r n) refl
 pub never_full : {A : Type 0} → full < full → A
 never_full z = absurd (omega (arith, z))
 
--- ── a decision in front ──
+-- ── a decision written before a path ──
 
 pub sized : {c n m r q : ℕ} {entry exit : List ℕ} → n ≡ m → Decided (c ∷ n ∷ []) r entry exit q → Decided (c ∷ m ∷ []) r entry exit q
 sized {c} {n} {m} {r} {q} {entry} {exit} e h = subst (λ i. Decided (c ∷ i ∷ []) r entry exit q) e h
@@ -27,6 +27,6 @@ module _ {o : List ℕ} {r q : ℕ} {mid exit : List ℕ} (h : Decided o r mid e
   pub decided_room : r < full → (r < passed → length o ≤ r) → q < full
   decided_room z f = by_order q full (λ y. y) (λ y. by_order r passed (λ w. absurd (omega (arith, h.lost w y, f w))) (λ w. omega (arith, h.kept w)))
 
--- A path that is w words shorter than the array leaves room for so many.
+-- Before a path that is at least w words shorter than the array, at least w words are free.
 pub place_room : (w r : ℕ) (x p : List ℕ) → r ≤ length x → drop r x ≡ p → w + length p ≤ length x → w ≤ r
 place_room w r x p a e l = omega (arith, ap length e, length-drop r x)

@@ -1,4 +1,5 @@
--- The left operand's size in a path is told by where the right one begins; and a running term of edition 1 has small actions (document 01, "Moves, in order").
+-- The left operand's size, which a path holds, is computed from where the right operand begins; and a running term of edition 1 has small actions
+-- (document 01, "Moves, in order").
 use Rattle.std.specs.Prelude.{◌≡◌, List, ℕ, ◌-◌, length}
 use Rattle.std.proofs.Common.{ap, ◌∙◌, arith, length-append}
 use Rattle.eb3.specs.Scopes.{Scope}

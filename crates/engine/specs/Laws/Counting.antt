@@ -1,5 +1,5 @@
--- What Count answers, by the specification's operation (document 01, "Operations"): refused as the rule set or the term is, or for want of cells; else the
--- number of moves.
+-- Count, case by case: refused as the rule set or the term is (`count_refused`), refused for want of cells (`count_short`), or the number of moves
+-- (`count_done`). Document 01, "Operations".
 use Rattle.std.specs.Prelude.{◌≡◌, List, ℕ, ◌≤◌, ◌<◌, length, Ok, Err, Result}
 use Rattle.std.proofs.Math.Path.{refl, ap, sym}
 use Rattle.std.proofs.Common.{◌∙◌, le-leb}
@@ -22,7 +22,7 @@ module _ (rules term memory : List ℕ) where
   abbrev counted_from : RuleSet × Term → Answer ℕ
   counted_from p = pick (memory_fits p.0 memory) (answered (length (listed p.0 p.1 memory))) (refused Refusal.space)
 
-  -- what follows the term follows both
+  -- what is answered from the term can be answered from the rule set and the term
   both_known : (R : RuleSet) (a : Answer Term) → (and_then a λ E. counted_from (R, E)) ≡ and_then (and_then a λ E. answered (R, E)) counted_from
   unfolding and_then
   both_known R (refused k) = refl

@@ -1,4 +1,5 @@
--- What is known of the rule set that was admitted and of a given term (document 01, "Operations": each call admits and checks everything itself).
+-- A rule set and a term that are described (`DescribedBy`) satisfy what the steps ask of the rule set's words, tables and directory (`Ruled`).
+-- Document 01, "Operations": each call admits and checks everything itself.
 use Rattle.std.specs.Prelude.{◌≡◌, List, ℕ}
 use Rattle.eb3.specs.Terms.{Term}
 use Rattle.eb3.specs.RuleSets.{RuleSet}

@@ -1,5 +1,5 @@
--- The memory at the start, made of a store (document 01, "Memory and the history machine":
--- at start the empty-trace expressions fill the cells, function by function).
+-- A store that was made ready and filled, and then saved, is the memory at the start.
+-- Document 01, "Memory and the history machine": at start the empty-trace expressions fill the cells, function by function.
 use Rattle.std.specs.Prelude.{◌≡◌, List, ℕ, ◌+◌, ◌≤◌}
 use Rattle.std.proofs.Common.{ap, sym, ◌∙◌, subst, arith}
 use Rattle.std.proofs.Math.Option.{none}
@@ -45,5 +45,3 @@ memory_started t T D M M₁ M₂ B B' w n c ew en l₁ l₂ prepared filled save
     let e : c ≡ length cells = ec ∙ sym k in
     saved.right (omega (arith, l₁, l₂)) (omega arith)
     ∙ ap (λ x. written x B) (held_words M₂ cells c (sym e) (omega (arith, l₁, l₂)) g.cells)
-
--- ── term and memory ──

@@ -41,7 +41,7 @@ use Rattle.engine.specs.declared.stepping.Step.{Step}
 -- ── one operation ──
 
 module _ (rules term memory : List ℕ) (next_term next_memory : List ℕ) where
-  -- what follows the term follows both
+  -- what is answered from the term can be answered from the rule set and the term
   both_known : (f : RuleSet → Term → Written Answer_moved) (R : RuleSet) (a : Answer Term)
       → (writing next_term next_memory a λ E. f R E) ≡ (writing {X = RuleSet × Term} next_term next_memory (and_then a λ E. answered (R, E)) λ p. f p.0 p.1)
   unfolding and_then

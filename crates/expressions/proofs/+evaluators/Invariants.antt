@@ -1,5 +1,5 @@
--- The two evaluators and their helpers, one cycle of calls. An evaluator falls to a helper on the words behind the code, and a helper to an
--- evaluator on no more words than its own; what each returns is a case of `Cases` or of `Fronts`.
+-- The two evaluators and their helpers, which call one another; a number falls with each call (`decreases-..`): an evaluator calls a helper on the words
+-- after the code, and a helper calls an evaluator on no more words than its own. What each returns is a case of `Cases` or of `Fronts`.
 use lib.ListN.{length}
 use Prim.Native.Nat.{◌+◌, ◌*◌}
 use Rattle.expressions.proofs.+evaluators.Given as goal

@@ -1,4 +1,4 @@
--- A cell is read, or the argument lies outside the domain (`Words`).
+-- A cell is read, or the argument is outside the domain (`Words`).
 use Rattle.expressions.proofs.Words.{cell_there, cell_outside}
 use Rattle.expressions.proofs.cell.Goals as goal
 

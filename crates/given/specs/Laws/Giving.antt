@@ -1,4 +1,4 @@
--- What was admitted and read of a rule set and a term, put together (document 01, "Operations").
+-- Laws of a rule set and a term together: what admitting the one and reading the other say of both (document 01, "Operations").
 use Rattle.std.specs.Prelude.{◌≡◌, List, ◌++◌, ℕ, ◌*◌, ◌≤◌, length, take, drop, Err, Result}
 use Rattle.std.proofs.Math.Path.{refl, ap, sym}
 use Rattle.std.proofs.Common.{◌∙◌, subst, arith}

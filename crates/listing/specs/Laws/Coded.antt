@@ -1,5 +1,5 @@
--- Rows of terms, and conditions, as listing and what is above it read them, are rows of the one table of codes at edition 1's shape, which is 0
--- (document 01, "Codes stand before their operands").
+-- Terms one after the other, and conditions, as listing and the crates that use it read them, are what the one table of codes has at edition 1's shape, which
+-- is 0 (document 01, "Codes stand before their operands").
 use Rattle.std.specs.Prelude.{◌≡◌, refl, List, [], ◌∷◌, ◌++◌, ℕ, ◌≤◌, ◌<◌, length}
 use Rattle.std.proofs.Common.{sym, ap, ◌∙◌, append-nil, arith}
 use Rattle.eb3.specs.Generic.AllLists.{All}

@@ -1,4 +1,4 @@
--- The numbers of a term's moves by the term's form: those of a parallel are combined of its sides' (Combining).
+-- Laws of the numbers of a term's moves, by the term's form: those of a parallel are made of its sides' (Combining).
 -- Document 01, "Moves, in order".
 use Rattle.std.specs.Prelude.{◌≡◌, Bool, not, ◌&&◌, ℕ, zero, suc, ◌/◌, ◌%◌, ◌^◌, T, eqb, get_or}
 use Rattle.std.proofs.Math.Path.{refl, ap}

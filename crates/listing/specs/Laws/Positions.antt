@@ -1,4 +1,4 @@
--- Where the operands of a term are, by the code at its front.
+-- Laws of where the operands of a term are: the code at its beginning says the term's form, and each operand is where its words begin.
 -- Document 01, "Moves, in order".
 use Rattle.std.specs.Prelude.{◌≡◌, refl, ℕ, ◌≤◌, length, take, drop, get_or}
 use Rattle.std.proofs.Math.Path.{ap}
@@ -16,7 +16,7 @@ use Rattle.actions.specs.Codes.{Closed, ActionAt}
 use Rattle.listing.specs.Listing.{Fits, TermAt}
 use Rattle.listing.specs.Positions.{code_in_front, TwoAt, MaskedAt, GuardedAt}
 
--- ── the code at the front ──
+-- ── the code at the beginning ──
 
 pub words_begin : (w : ℕ) (E : Term) (rest : List ℕ) → get_or (words w E ++ rest) 0 0 ≡ code_in_front E
 unfolding words code_in_front
@@ -40,7 +40,7 @@ code_large (Star E) = omega arith
 code_large (Parallel Δ E F) = omega arith
 code_large (Guard C E) = omega arith
 
--- What begins with a term does not go on with an argument.
+-- Words that begin with a term do not begin with a constant's code, so no argument of an action is read there (`Closed`).
 pub term_closed : (w : ℕ) (E : Term) (rest : List ℕ) → Closed (words w E ++ rest)
 term_closed w E rest e = omega (arith, e, words_begin w E rest, code_large E)
 

@@ -1,4 +1,4 @@
--- The room that listing takes, by the term's form, and its bound: twice the breadth.
+-- Laws of the room that listing takes, by the term's form: it is at most twice the breadth.
 -- Document 01, "Moves, in order".
 use Rattle.std.specs.Prelude.{◌≡◌, Bool, ◌&&◌, ℕ, ◌+◌, ◌*◌, ◌≤◌, max, length}
 use Rattle.std.proofs.Math.Path.{refl, ap}

@@ -1,4 +1,4 @@
--- The numbers of a term's moves outside a set of labels, by the term's form, and the room that listing them takes.
+-- Laws of the numbers of a term's moves outside a set of labels, and of the room that listing them takes, by the term's form.
 -- Document 01, "Moves, in order".
 use Rattle.std.specs.Prelude.{◌≡◌, Bool, true, false, ◌&&◌, ℕ, ◌+◌, ◌*◌, ◌%◌, ◌≤◌, ◌<◌, T, take, get_or}
 use Rattle.std.proofs.Math.Path.{refl, sym, ap}

@@ -74,7 +74,7 @@ module _ (R : RuleSet) (e f : List ℕ → Reader RuleTerm) (d : (Γ : List ℕ)
   two_same : Same t (both (e Γ) (e Γ)) (both (f Γ) (f Γ))
   two_same = both_same t (e Γ) (f Γ) (e Γ) (f Γ) (d Γ) (h Γ) (h Γ)
 
-  -- behind a mask
+  -- a mask, and then what is read by g or g'
   masked_same : {B : Type 0} (g g' : Reader B) → Same t g g' → Same t (both (rule_mask_of R) g) (both (rule_mask_of R) g')
   masked_same g g' i = both_same t (rule_mask_of R) (rule_mask_of R) g g' (rule_mask_ends R) (λ r le. refl) i
 
@@ -110,7 +110,7 @@ module _ (R : RuleSet) where
   unfolding read_rule_term
   to_whole t Γ r le = enough (length t) (length r) Γ r le (le_refl (length r))
 
-  -- What a code in front says of the whole.
+  -- The code at the beginning says by which case the whole term is read.
   pub term_case : (Γ s : List ℕ) (k : RuleKind) → (length s ≡ 0 → ⊥) → rule_kind Γ (get_or s 0 0) ≡ k → read_rule_term R Γ s ≡ rule_by R (read_rule_term R) Γ k (drop 1 s)
   unfolding read_rule_term rule_terms
   term_case Γ [] k h e = absurd (h refl)

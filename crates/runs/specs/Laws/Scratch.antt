@@ -1,5 +1,5 @@
--- Lent bytes of which only words change: where nothing is written, where words are, and where one follows the other (document 01, "Operations": an odd last
--- byte is ignored and kept).
+-- Laws of lent bytes of which only words change (`WordsOnly`): it is so if nothing is written, if words are written, and if one such change follows another
+-- (document 01, "Operations": an odd last byte is ignored and kept).
 use Rattle.std.specs.Prelude.{◌≡◌, List, ◌++◌, ℕ, ◌+◌, ◌-◌, ◌*◌, ◌≤◌, length, drop}
 use Rattle.std.proofs.Common.{sym, ap, ◌∙◌, arith, drop-drop}
 use Rattle.std.proofs.Math.Seq.{drop-append-add}
@@ -18,7 +18,7 @@ words_then B B' B'' p q =
       odd_kept = ap (λ n. drop n B'') e ∙ q.odd_kept ∙ ap (λ n. drop n B') (sym e) ∙ p.odd_kept;
     }
 
--- What lies behind the last word lies behind every word that is written.
+-- Writing words does not change the bytes after the last whole word.
 behind_written : (o B : List ℕ) → length o ≤ word_count B → drop (word_bytes B) (written o B) ≡ drop (word_bytes B) B
 unfolding written
 behind_written o B h =

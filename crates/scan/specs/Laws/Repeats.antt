@@ -1,4 +1,4 @@
--- How often one word is repeated at the front of others, and what is after these.
+-- Laws of how often one word is repeated at the beginning of others (`leading`): no more often than there are words, up to another word, and as std counts.
 -- Document 01, "Blocks and the rule stream", item 5: stars, whose codes are before their term's.
 use Rattle.std.specs.Prelude.{◌≡◌, refl, Bool, true, false, List, [], ◌∷◌, ℕ, suc, ◌+◌, ◌≤◌, eqb, length, drop, get_or, cond}
 use Rattle.std.specs.List.{prefix_len}

@@ -1,4 +1,4 @@
--- A word in bytes, the low byte first (document 01, "Blocks and the rule stream").
+-- Laws of a word in bytes, the low byte first (document 01, "Blocks and the rule stream").
 use Rattle.std.specs.Prelude.{◌≡◌, refl, List, [], ◌∷◌, ℕ, zero, suc, ◌+◌, ◌*◌, ◌<◌, get_or, length}
 use Rattle.std.proofs.Common.{sym, ap, ◌∙◌, arith}
 use Rattle.eb3.specs.Bytes.{words_in}

@@ -1,4 +1,4 @@
--- The words that stay, the beginning behind them, and the rest of the term: the whole successor.
+-- The words that stay, after them the beginning of the operand's successor, and the rest of the term: the whole successor.
 use Rattle.successors.proofs.Begun.{built}
 use Rattle.successors.proofs.build.Goals as goal
 

@@ -1,4 +1,4 @@
--- What was begun goes on with the words that stand between it and the last e.
+-- The beginning that was written is followed by the words between it and the last e.
 use Rattle.successors.proofs.Made.{closed}
 use Rattle.successors.proofs.close.Goals as goal
 

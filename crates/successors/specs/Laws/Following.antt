@@ -51,7 +51,7 @@ follow_tail (Parallel Δ E F) p =
     (behind_tail 2 z.rest p (tail_on z.rest y.rest (drop 2 p) (follow_tail E (drop 2 p)) (follow_tail F y.rest)))))
 follow_tail (Guard C E) p = follow_tail E p
 
--- The rest of the path is its last so many words.
+-- The rest of the path is its last n words, where n is the rest's length.
 pub rest_of_path : (E : Term) (p : List ℕ) (n : ℕ) → n ≡ length (follow E p).rest → last_of n p ≡ (follow E p).rest
 rest_of_path E p n e = ap (λ k. last_of k p) e ∙ tail_at (follow E p).rest p (follow_tail E p)
 
@@ -145,7 +145,7 @@ module _ (p : List ℕ) where
           let v = both_true (marked w E (drop 2 p)) (marked w F (follow E (drop 2 p)).rest) k.1 in
           (k.0, v.0, v.1)
 
-    -- Whichever of them, the size is right.
+    -- Whether the right operand moves alone or both move, the size in the path is the left operand's.
     size_by : (w : ℕ) (c : Bool) (a : get_or p 0 0 ≡ 0 → ⊥) (b : get_or p 0 0 ≡ 1 → ⊥) → eqb (get_or p 0 0) 2 ≡ c → marked w (Parallel Δ E F) p ≡ true → get_or p 1 0 ≡ size w E
     size_by w true a b e h = (parallel_right_marked w (eqb-true (get_or p 0 0) 2 e) h).0
     size_by w false a b e h = (parallel_both_marked a b (eqb-false (get_or p 0 0) 2 e) w h).0

@@ -1,4 +1,4 @@
--- A running term's operands as they stand behind its code: what the code, which sees words, tells of the term (document 01, "Moves, in order").
+-- A running term's operands, as they come after its code: what the code, which works on words, says of the term (document 01, "Moves, in order").
 use Rattle.std.specs.Prelude.{◌≡◌, refl, ℕ, ◌≤◌, length, take, drop}
 use Rattle.std.proofs.Common.{sym, ◌∙◌, arith, length-append, take_at, drop_at}
 use Rattle.std.proofs.Math.Path.{ap}

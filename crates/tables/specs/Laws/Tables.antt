@@ -87,7 +87,7 @@ module _ (T : List ℕ) where
   unfolding declared
   process_at p h = ap (λ (P : Process). P.parameters) (from_zero_at (process_count T) (process_row T) p no_process h)
 
-  -- functions: so many, of one parameter each; one that is not defined counts as such too
+  -- functions: `function_count T`, of one parameter each; one that is not defined counts as such too
   functions_length : length (declared T).functions ≡ function_count T
   unfolding declared
   functions_length = length-replicate (function_count T) some_function
@@ -122,7 +122,7 @@ mask_ends (suc k) n t =
     giving_fine (λ p. p.0 ∷ p.1) t (both (number_of Refusal.reference (2 ^ min n 16)) (mask_of k (n - 16)) t)
     (both_ends (number_of Refusal.reference (2 ^ min n 16)) (mask_of k (n - 16)) (number_ends Refusal.reference (2 ^ min n 16)) (mask_ends k (n - 16)) t)
 
--- Spelled by the words it was read from, so what was read of a mask are its words.
+-- A mask that was read is spelled by the words it was read from, so what was read of a mask are its words.
 pub mask_read : (k n : ℕ) (t Δ u : List ℕ) → mask_of k n t ≡ taken Δ u → Δ ≡ take k t
 mask_read k n t Δ u e =
     let h : (t ≡ Δ ++ u) × ((length Δ ≡ k) × BitsBelow n Δ) = subst (λ r. Sound (λ (Γ : List ℕ). Γ) (λ Γ. (length Γ ≡ k) × BitsBelow n Γ) t r) e (mask_sound k n t) in
@@ -141,7 +141,7 @@ variable_ends : (Γ : List ℕ) (d : ℕ) → Ends (variable_of_domain Γ d)
 unfolding variable_of_domain
 variable_ends Γ d t = by_number_ends Refusal.reference (length Γ) _ (λ i u. pick_fine u (eqb (get_or Γ i 0) d) (taken (variable_argument i) u) _ (tail_here u) tt) t
 
--- What stands behind the code, in the words of `Tables`.
+-- What comes after an argument's code is read as `Tables` says.
 pub argument_is : (R : RuleSet) (Γ : List ℕ) (d c : ℕ) (t : List ℕ) → argument_of R Γ d (c ∷ t) ≡ pick (eqb c 1) (constant_of_domain R d t) (pick (eqb c 2) (variable_of_domain Γ d t) (refused Refusal.form))
 unfolding argument_of constant_of_domain variable_of_domain
 argument_is R Γ d c t = refl

@@ -1,4 +1,4 @@
--- The tests are stated by what they must tell, so that a limit that is off is refused where the fact fails.
+-- Each test is stated with the limit that it must have (document 01, refusals 7, 8 and 10), so that the proof fails there if the code has another limit.
 use Prim.Native.Nat.{◌≤◌, ◌<◌}
 use native.Mathlib.Omega.{arith}
 use mathlib.Core.Path.{refl}
@@ -7,7 +7,7 @@ use lib.ListN.{length}
 use Rattle.term_check.proofs.Limits.{given_long, given_none, given_more, given_far, given_broad, given_in}
 use Rattle.term_check.proofs.given_term.Goals as goal
 
--- The tests are stated by what they must tell, so that a limit that is off is refused where the fact fails.
+-- Each test is stated with the limit that it must have, so that the proof fails there if the code has another limit.
 pub returns-then-s : goal.returns-then-s
 returns-then-s c =
     let l : 8192 < length c.args.s.now = omega (arith, c.if-s.true) in

@@ -1,5 +1,5 @@
--- A running term and an event are read by the largest number, the words of a constant, domains, labels and what a guard may name: rule sets alike in
--- these read the same (`given_term_alike`, `given_event_alike`).
+-- A running term and an event are read by the largest number, the words of a constant, domains, labels and what a guard may name: under rule sets that are
+-- equal in these (`Alike`) they read the same (`given_term_alike`, `given_event_alike`).
 -- Document 01, "Unfolding, size and breadth"; refusal 10.
 use Rattle.std.specs.Prelude.{◌≡◌, length}
 use Rattle.std.proofs.Math.Path.{refl, ap}
@@ -21,7 +21,7 @@ module _ (R Q : RuleSet) (a : Alike R Q) where
   action_alike t = λ i. by_number Refusal.reference (length (a.same_labels i))
       (λ l u. giving (perform l) (elements_of (a.same_edition i).width (map (λ d. get_or (a.same_domains i) d 0) (get_or (a.same_labels i) l [])) u)) t
 
-  -- One code, the operands being read alike.
+  -- One code, where the operands are read in the same way.
   by_alike : (e : Reader Term) (t : List ℕ) (k : TermKind) → term_by R e k t ≡ term_by Q e k t
   by_alike e t TermKind.internal_step = refl
   by_alike e t TermKind.action = action_alike t

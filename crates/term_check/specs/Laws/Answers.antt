@@ -1,4 +1,4 @@
--- What an answer of the check says of the reading: what was read, the words behind it and its measures (`got`), or that nothing was (`none_read`);
+-- What an answer of the check says of the reading: what was read, the words after it and its measures (`got`), or that nothing was (`none_read`);
 -- and where only the words left are asked, `left_taken` and `left_wrong`.
 -- Document 01, "Unfolding, size and breadth"; refusal 10.
 use Rattle.std.specs.Prelude.{Some, None, ℕ, ◌+◌, ◌-◌, ◌*◌, ◌/◌, ◌%◌, ◌≤◌, ◌<◌, ◌≡◌, List, ◌++◌, length}
@@ -99,7 +99,7 @@ pub record Got (T t : List ℕ) (p : ℕ) : Type 0 where
   pub answer : Answer (length t) p
 
 module _ (T t : List ℕ) (p : ℕ) (fits : length t ≤ 8192) where
-  -- E is read, u behind it
+  -- E is read, and u is left after it
   module _ (E : Term) (u : List ℕ) (e : read_term (declared T) t ≡ taken E u) (f : p ≡ packed (length u) (measure_running (sat cap) 1 E)) where
     shorter : length u ≤ length t
     shorter = omega (arith, taken_size T t E u e)

@@ -102,7 +102,7 @@ module _ (R : RuleSet) where
   unfolding read_term
   to_whole t r le = enough (length t) (length r) r le (le_refl (length r))
 
-  -- What a code in front says of the whole.
+  -- The code at the beginning says by which case the whole term is read.
   pub term_case : (s : List ℕ) (k : TermKind) → (length s ≡ 0 → ⊥) → term_kind (get_or s 0 0) ≡ k → read_term R s ≡ term_by R (read_term R) k (drop 1 s)
   unfolding read_term terms
   term_case [] k h e = absurd (h refl)

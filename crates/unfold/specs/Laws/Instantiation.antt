@@ -1,4 +1,4 @@
--- The front of each expression, and a row of expressions gone through from the front.
+-- Laws of expressions whose variables become constants: of the first words of each expression, and of expressions gone through one after the other.
 -- Document 01, "Unfolding, size and breadth".
 use Rattle.std.specs.Prelude.{◌≡◌, ℕ, suc, ◌+◌, ◌-◌, ◌≤◌, ◌<◌, length}
 use Rattle.std.proofs.Math.Path.{refl}
@@ -79,7 +79,7 @@ module _ (σ : List ℕ) where
   front_of (value a) h = data_front a h
   front_of (test c) h = cond_front c h
 
--- ── a row, gone through from the front ──
+-- ── expressions gone through, one after the other ──
 
 words_append : (es fs : List Expression) → all_words (es ++ fs) ≡ all_words es ++ all_words fs
 words_append [] fs = refl
@@ -93,7 +93,7 @@ plain_append : (es fs : List Expression) → All PlainExpression es → All Plai
 plain_append [] fs h k = k
 plain_append (e ∷ es) fs h k = (h.0, plain_append es fs h.1 k)
 
--- the words after others, given by how many are left
+-- the last n words of t are v and then u: so the last words of t, as many as u has, are u
 pub last_behind : (t u v : List ℕ) (n : ℕ) → last_of n t ≡ v ++ u → last_of (length u) t ≡ u
 unfolding last_of
 last_behind t u v n e = tail_at u t (tail_on u (v ++ u) t (length t - n, sym e) (length v, sym (drop-append_seam v u)))

@@ -1,4 +1,4 @@
--- Laws of writing: one word more at a time, and one list behind another into the rest that is lent on.
+-- Laws of writing: one word more at a time, and one list after another into the rest of a buffer, which is lent.
 -- Document 01, "Operations": what is written, and what is kept.
 use Rattle.std.specs.Prelude.{◌≡◌, refl, Bool, true, false, ℕ, suc, ◌+◌, ◌*◌, ◌/◌, ◌%◌, ◌≤◌, ◌<◌, take, get_or}
 use Rattle.std.proofs.Math.Path.{sym, ap}
@@ -66,7 +66,7 @@ pub wrote_word : (w : ℕ) (x : List ℕ) → 2 ≤ length x → Wrote (w ∷ []
 unfolding written bytes_of
 wrote_word w x h = wrote_all (w ∷ []) x (set (set x 0 (w % 256)) 1 (w / 256 % 256)) h (written_next [] x h w)
 
--- the loop: no word is written, i are, and all are
+-- the loop: when no word is written, when i words are, and when all are
 pub words_none : (x : List ℕ) → x ≡ written [] x
 unfolding written bytes_of
 words_none x = refl
@@ -84,9 +84,9 @@ words_next s x y i h room e =
     ∙ written_next (take i s) x (omega (arith, l)) (get_or s i 0)
     ∙ ap (λ z. written z x) (sym k)
 
--- ── one list behind another, into the rest that is lent on ──
+-- ── one list after another, into the rest of a buffer, which is lent ──
 
--- the rest came back with p written into it
+-- the rest of the buffer was returned with p written into it
 pub written_then : (o p x : List ℕ) → 2 * length o ≤ length x → take (2 * length o) (written o x) ++ written p (drop (2 * length o) (written o x)) ≡ written (o ++ p) x
 unfolding written
 written_then o p x h =

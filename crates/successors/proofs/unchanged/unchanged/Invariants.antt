@@ -1,4 +1,4 @@
--- The steps one behind another: what was passed stays. Fewer words of the term are left with each step.
+-- The steps one after the other: what was passed stays. Fewer words of the term are left with each step.
 use lib.ListN.{length}
 use Prim.Native.Nat.{◌-◌}
 use Rattle.successors.proofs.Stays.{Passed}
