@@ -18,7 +18,6 @@ use Rattle.declarations.specs.Directory.{first_cell_in}
 use Rattle.expressions.specs.Stores.{stored, now_place, old_cells_place, row_words, row_place, begin_place}
 use Rattle.writing.specs.Wrote.{Wrote}
 use Rattle.cells.specs.Laws.Turns.{stored_there, stored_else}
-use Rattle.cells.specs.Preparing.{Prepared, ready_word, Loaded, Saved}
 
 -- No variables; the old cells begin after c new ones; the rows of n functions are as in the directory's rows of w words; any other function has no cell.
 pub record Prepared (D M M' : List ℕ) (w n c : ℕ) : Type 0 where
