@@ -202,7 +202,7 @@ module _ (P : Scope) (s : List ℕ) (at rest : ℕ) (few : rest ≤ at + 1) (due
   pub data_variable : (r : Result Front Refusal) → w ≡ 2 → Operand Reference P.variables s (at + 1) rest r → DataFront P s at rest r
   data_variable r e = faced rd (repeat 1 rc) (rest + 2) s at rest rest Reference P.variables r (omega (arith, few)) (by_data DataKind.variable (number_of 5 P.variables t) (ap (data_kind P) e) (forget_giving Variable (number_of 5 P.variables t)))
 
-  paired : (k : Data → Data → Data) → data_kind P (w) ≡ DataKind.pair k → DataFront P s at rest (Ok (On (at + 1) (rest + 2)))
+  paired : (k : Data → Data → Data) → data_kind P w ≡ DataKind.pair k → DataFront P s at rest (Ok (On (at + 1) (rest + 2)))
   paired k e = (behind (rest + 2) (omega arith), by_data (DataKind.pair k) (both rd rd t) e (forget_giving _ (both rd rd t)) ∙ row_join rd rd rest t ∙ row_more rd (suc rest) t ∙ ap (λ n. checked (repeat n rd t)) two)
 
   pub data_sum : w ≡ 3 → DataFront P s at rest (Ok (On (at + 1) (rest + 2)))
@@ -222,7 +222,7 @@ module _ (P : Scope) (s : List ℕ) (at rest : ℕ) (few : rest ≤ at + 1) (due
         ∙ led rc (repeat 1 rc) (repeat (rest + 2) rd) t (sym (one_left rc t)),
   )
 
-  named : (k : ℕ → Args → Data) (limit : ℕ) (r : Result Front Refusal) → P.arity ≡ (λ f. 1) → data_kind P (w) ≡ DataKind.attribute k limit → Operand Reference limit s (at + 1) (rest + 1) r → DataFront P s at rest r
+  named : (k : ℕ → Args → Data) (limit : ℕ) (r : Result Front Refusal) → P.arity ≡ (λ f. 1) → data_kind P w ≡ DataKind.attribute k limit → Operand Reference limit s (at + 1) (rest + 1) r → DataFront P s at rest r
   named k limit r a e =
       faced rd (repeat 1 rc) (rest + 2) s at rest (rest + 1) Reference limit r (omega (arith, few))
       (by_data (DataKind.attribute k limit) (both (number_of 5 limit) rd t) e (one_named limit P.arity k rd t (λ n. ap (λ g. g n) a))
@@ -238,13 +238,13 @@ module _ (P : Scope) (s : List ℕ) (at rest : ℕ) (few : rest ≤ at + 1) (due
   pub data_barred : w ≡ 7 → P.before ≤ 0 → DataFront P s at rest (Err Form)
   data_barred e l = data_wrong P s at rest within (ap (data_kind P) (code_taken due s at w is).code ∙ ap (data_kind P) e ∙ rw (le-ltb 0 P.before l))
 
-  compared : (k : Data → Data → Cond) → cond_kind (w) ≡ CondKind.compare k → CondFront P s at rest (Ok (Other (at + 1)))
+  compared : (k : Data → Data → Cond) → cond_kind w ≡ CondKind.compare k → CondFront P s at rest (Ok (Other (at + 1)))
   compared k e = (behind rest (omega arith), by_cond (CondKind.compare k) (both rd rd t) e (forget_giving _ (both rd rd t)) ∙ led (both rd rd) (repeat 2 rd) (repeat rest rc) t (sym (two_left rd t)))
 
   pub cond_compare : 8 ≤ w → w < 10 → CondFront P s at rest (Ok (Other (at + 1)))
-  cond_compare l u = ⊎_elim (λ e. compared Equal (ap cond_kind e)) (λ e. compared Less (ap cond_kind e)) (two_ways (w) 8 l (omega arith))
+  cond_compare l u = ⊎_elim (λ e. compared Equal (ap cond_kind e)) (λ e. compared Less (ap cond_kind e)) (two_ways w 8 l (omega arith))
 
-  joined : (k : Cond → Cond → Cond) → cond_kind (w) ≡ CondKind.join k → CondFront P s at rest (Ok (On (at + 1) (rest + 2)))
+  joined : (k : Cond → Cond → Cond) → cond_kind w ≡ CondKind.join k → CondFront P s at rest (Ok (On (at + 1) (rest + 2)))
   joined k e = (behind (rest + 2) (omega arith), by_cond (CondKind.join k) (both rc rc t) e (forget_giving _ (both rc rc t)) ∙ row_join rc rc rest t ∙ row_more rc (suc rest) t ∙ ap (λ n. checked (repeat n rc t)) two)
 
   pub cond_not : w ≡ 12 → CondFront P s at rest (Ok (On (at + 1) (rest + 1)))

@@ -62,7 +62,7 @@ fn data_front(s: &[u16], at: usize, rest: usize, c: Scope) -> Result<Front, Refu
         UNDEFINED => Ok(Front::On(b, rest)),
         CONSTANT => operand(s, b, Refusal::Form, 65535, rest),
         VARIABLE => operand(s, b, Refusal::Reference, c.variables, rest),
-        // Stays an arm for each: as a range, which is tested after the others, a code of data took 3 instructions more.
+        // Stays an arm for each: as a range, which is tested after the others, they took 3 instructions more.
         SUM => Ok(Front::On(b, rest + 2)),
         DIFFERENCE => Ok(Front::On(b, rest + 2)),
         IF => Ok(Front::Other(b)),

@@ -40,7 +40,8 @@ pub fn put_row(scope: &Scope, n: usize, count: usize, out: &mut Writer) -> Optio
         let s = last(scope.words, left);
         let c = code_at(s, 0)?;
         let m = 1 + words_after(c, EDITION_1);
-        // no expression's front has more: with this known, nothing is copied by a loop
+        // No front of an expression has more than two words. Stays though the next test is enough: without it they are copied by a loop, and a
+        // Start takes up to 1.04 times the instructions.
         if 2 < m {
             return None;
         }
