@@ -1,17 +1,10 @@
 -- Sets of labels as numbers: label n is in the set if bit n is 1. A mask's four words make one number, so that the masks of nested parallels are joined in
 -- one step (document 01, "Blocks and the rule stream": bit j of mask word i is label 16 × i + j; "Moves, in order").
-use Rattle.std.specs.Prelude.{◌≡◌, refl, Bool, true, false, ◌||◌, cond, ℕ, zero, suc, ◌+◌, ◌-◌, ◌*◌, ◌/◌, ◌%◌, ◌^◌, ◌≤◌, ◌<◌, T, eqb}
-use Rattle.std.proofs.Common.{sym, ◌∙◌, subst, mul_assoc, div-add-mod', eqb→eq, pow_pos, pow-add, shr-shr}
-use Rattle.std.proofs.Math.Path.{ap}
-use native.Mathlib.Omega.{arith}
-use Rattle.std.proofs.Math.Decide.{dec_lt}
-use Rattle.std.proofs.Math.Nat.{zero-div, add-mul-div_right}
+use Rattle.std.specs.Prelude.{Bool, false, cond, ℕ, ◌+◌, ◌*◌, ◌/◌, ◌%◌, ◌^◌, eqb}
 use Rattle.std.proofs.Math.ListN.{get_or}
 use Rattle.std.specs.Int.Bits.{bit_or}
-use Rattle.std.proofs.lemmas.Nat.{or_shr, or_mod}
-use Rattle.std.proofs.Math.Pow.{high}
-use Rattle.eb3.specs.Terms.{Mask, bit}
-use Rattle.actions.specs.Laws.Codes.{label_in, masked_code}
+use Rattle.eb3.specs.Terms.{Mask}
+use Rattle.actions.specs.Laws.Codes.{label_in}
 
 abbrev pub bit_at : ℕ → ℕ → Bool
 bit_at x label = eqb (x / 2 ^ label % 2) 1

@@ -4,20 +4,10 @@ use Rattle.std.specs.Prelude.{◌≡◌, cond, List, ℕ, ◌+◌, ◌-◌, ◌*
 use Rattle.eb3.specs.Bytes.{words_in, written}
 use Rattle.declarations.specs.Directory.{first_cell_in}
 use Rattle.expressions.specs.Stores.{stored, row_place, now_place, before_place, old_cells_place, row_words, begin_place}
-use Rattle.std.specs.Prelude.{◌≡◌, refl, Bool, List, ℕ, ◌+◌, ◌-◌, ◌*◌, ◌/◌, ◌%◌, ◌≤◌, ◌<◌, length, get_or, set, take, drop, replicate}
-use Rattle.std.proofs.Common.{sym, ap, subst, ◌∙◌, length-set, length-drop, length-take-le}
-use native.Mathlib.Omega.{arith}
-use borrow.Rule.Slice.PartMut.{put_mid}
-use Rattle.std.proofs.lemmas.List.{places}
-use Rattle.std.proofs.Math.Decide.{ℕ_discrete, dec_lt}
-use Rattle.std.proofs.Math.ListN.{get_or-eq_default}
-use borrow.Author.Tests.{lt-ltb, le-ltb, le-leb}
+use Rattle.std.specs.Prelude.{◌≡◌, List, ℕ, ◌+◌, ◌-◌, ◌*◌, ◌/◌, ◌%◌, ◌≤◌, ◌<◌, length, get_or, take, drop}
 use Rattle.eb3.specs.Bytes.{words_in, written}
-use Rattle.eb3.proofs.Laws.Bytes.{words_counted}
 use Rattle.declarations.specs.Directory.{first_cell_in}
 use Rattle.expressions.specs.Stores.{stored, now_place, old_cells_place, row_words, row_place, begin_place}
-use Rattle.writing.specs.Wrote.{Wrote}
-use Rattle.cells.specs.Laws.Turns.{stored_there, stored_else}
 
 -- No variables; the old cells begin after c new ones; the rows of n functions are as in the directory's rows of w words; any other function has no cell.
 pub record Prepared (D M M' : List ℕ) (w n c : ℕ) : Type 0 where

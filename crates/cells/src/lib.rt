@@ -10,11 +10,11 @@ ghost use Rattle.cells.specs.Filling.{Fills};
 ghost use Rattle.cells.specs.Frames.{CopiedApart};
 ghost use Rattle.cells.specs.Preparing.{Prepared, ready_word, Loaded, Saved, Loading};
 
-use tables::layout::AT_LABELS;
-use tables::{entry, functions, labels};
 use expressions::store;
 use framing::fill_function;
 use scan::word_at;
+use tables::layout::AT_LABELS;
+use tables::{entry, functions, labels};
 use writing::put_words;
 
 mod framing;

@@ -18,7 +18,7 @@ use Rattle.declarations.specs.Declaring.{Declares}
 use Rattle.declarations.specs.Laws.Declaring.{declared_alike}
 use Rattle.term_check.specs.declared.Given.{Given}
 use Rattle.term_check.specs.Given.{given}
-use Rattle.term_check.specs.Laws.Reading.Alike.{given_term_alike}
+use Rattle.term_check.specs.Laws.Alike.{given_term_alike}
 use Rattle.actions.specs.Codes.{action_code, ActionAt}
 use Rattle.actions.specs.Laws.Actions.{action_small}
 use Rattle.events.specs.Events.{event_as}

@@ -33,7 +33,7 @@ use Rattle.declarations.specs.Laws.Declaring.{declared_alike}
 use Rattle.cells.specs.Preparing.{Loaded}
 use Rattle.cells.specs.Laws.Memory.{loaded_words}
 use Rattle.term_check.specs.Given.{given}
-use Rattle.term_check.specs.Laws.Reading.Alike.{given_term_alike}
+use Rattle.term_check.specs.Laws.Alike.{given_term_alike}
 use Rattle.term_check.specs.declared.Given.{Given as Weighed}
 use Rattle.given.specs.declared.giving.Given.{Given}
 use Rattle.given.specs.Giving.{checked_as, Spelled, TermChecked, found_term}

@@ -33,7 +33,7 @@ use Rattle.term_check.specs.Given.{wrong, weighed_running}
 use Rattle.term_check.specs.Answers.{left_after, packed, Packs}
 use Rattle.term_check.specs.Laws.Reading.{elements_end}
 use Rattle.std.specs.Prelude.{Option, Some, None}
-use Rattle.term_check.specs.Laws.Reading.Answers.{refused_wrong, left_wrong, left_taken}
+use Rattle.term_check.specs.Laws.Answers.{refused_wrong, left_wrong, left_taken}
 
 -- An element was read for each size.
 elements_count : (ns t vs u : List ℕ) → elements_of 1 ns t ≡ taken vs u → length vs ≡ length ns

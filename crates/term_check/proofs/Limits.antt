@@ -17,7 +17,7 @@ use Rattle.measures.specs.Weighing.{cap}
 use Rattle.tables.specs.Tables.{edition_in, declared}
 use Rattle.term_check.specs.declared.Given.{Given}
 use Rattle.term_check.specs.Given.{wrong, weighed_running, given}
-use Rattle.term_check.specs.Laws.Reading.Answers.{reach_cut, breadth_cut, taken_size, Got, got, none_read}
+use Rattle.term_check.specs.Laws.Answers.{reach_cut, breadth_cut, taken_size, Got, got, none_read}
 use Rattle.std.specs.Prelude.{Some, None, Option}
 
 abbrev found : ℕ → ℕ → Option Given

@@ -24,7 +24,7 @@ use Rattle.scan.specs.Repeats.{leading}
 use Rattle.scan.specs.Laws.Repeats.{leading_short}
 use Rattle.term_check.specs.Answers.{packed, unpacked, Answer, starred_of}
 use Rattle.term_check.specs.Laws.Reading.{term_case}
-use Rattle.term_check.specs.Laws.Reading.Answers.{refused_wrong, Got, got, none_read}
+use Rattle.term_check.specs.Laws.Answers.{refused_wrong, Got, got, none_read}
 use Rattle.refusals.specs.declared.Refusal.{Refusal}
 
 -- ── reading ──

@@ -34,7 +34,7 @@ use Rattle.measures.specs.declared.Joint.{Joint}
 use Rattle.measures.specs.declared.Joint.TheVariants.{Parallel}
 use Rattle.term_check.specs.Given.{wrong, weighed_running}
 use Rattle.term_check.specs.Answers.{packed, unpacked, Answer, Operands, Operand, joined_of, weighed_pair, guarded_of}
-use Rattle.term_check.specs.Laws.Reading.Answers.{refused_wrong, Got, got, none_read}
+use Rattle.term_check.specs.Laws.Answers.{refused_wrong, Got, got, none_read}
 use Rattle.std.specs.Prelude.{Ok, Err}
 use Rattle.refusals.specs.declared.Refusal.{Refusal}
 

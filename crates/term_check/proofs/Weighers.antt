@@ -9,7 +9,7 @@ use Rattle.tables.specs.Tables.{declared}
 use Rattle.eb3.specs.Measures.{Measure}
 use Rattle.term_check.specs.Given.{wrong, weighed_running}
 use Rattle.term_check.specs.Answers.{packed, unpacked, Packs}
-use Rattle.term_check.specs.Laws.Reading.Answers.{left_packed, reach_packed, breadth_packed}
+use Rattle.term_check.specs.Laws.Answers.{left_packed, reach_packed, breadth_packed}
 
 module _ (n g b : ℕ) (fits : Packs n (record { size = 0; reach = g; breadth = b })) where
   abbrev number : ℕ

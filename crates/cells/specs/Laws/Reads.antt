@@ -5,7 +5,7 @@ use Rattle.std.proofs.Common.{sym, ◌∙◌, arith, lit<}
 use Rattle.std.proofs.Math.Path.{ap}
 use Rattle.std.proofs.Math.ListN.{get_or}
 use Rattle.eb3.specs.Generic.Lists.{Within}
-use Rattle.eb3.specs.Values.{Value, undefined, encode, decode, AtMost}
+use Rattle.eb3.specs.Values.{Value, undefined, decode, AtMost}
 use Rattle.eb3.proofs.Laws.Values.{decode_encode}
 use Rattle.eb3.specs.Expressions.{Cond, no_reading, environment, evaluate_cond}
 use Rattle.eb3.specs.Attributes.{Attributes, domain, number_of_functions, apply_in_domain, guard_holds}

@@ -3,7 +3,7 @@ use borrow.Author.Rules.{rules}
 use mathlib.Core.Path.{refl, ◌∙◌}
 use Rattle.scan.specs.Laws.Checking.{last_len}
 use Rattle.term_check.proofs.Weighers.{left_said, right_said, measures_said}
-use Rattle.term_check.specs.Laws.Reading.Answers.{got}
+use Rattle.term_check.specs.Laws.Answers.{got}
 use Rattle.term_check.proofs.Codes.{term_internal, term_done}
 use Rattle.term_check.proofs.Numbers.{joined_fits, joined_in, guard_in, stars_fit, stars_in}
 use Rattle.term_check.proofs.Parts.{pair_fits, pair_in, guarded_fits, guarded_in}
