@@ -1,6 +1,5 @@
 -- The arrays that a step works in, afterwards: they are the same arrays, and so as long as they were (document 01, "Moves, in order"; "Operations": Run).
 use Rattle.std.specs.Prelude.{◌≡◌, length}
-use Rattle.std.proofs.Common.{refl, ◌∙◌}
 use Rattle.derivation.specs.declared.scratch.Scratch.{Scratch}
 
 pub record SameArrays (s s' : Scratch) : Type 0 where

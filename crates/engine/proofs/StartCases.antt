@@ -10,7 +10,6 @@ use Rattle.eb3.specs.Bytes.{word_count}
 use Rattle.eb3.specs.Memory.{cell_room}
 use Rattle.eb3.specs.Sizes.{size}
 use Rattle.eb3.specs.Spelling.{words}
-use Rattle.eb3.specs.Bytes.{written}
 use Rattle.eb3.specs.Unfolding.{unfold_main}
 use Rattle.eb3.specs.Admission.{ended, within_limits, admission}
 use Rattle.eb3.specs.Answers.{refused, and_then}
@@ -18,7 +17,6 @@ use Rattle.eb3.proofs.Laws.Sizes.{size_below_reach}
 use Rattle.eb3.proofs.Laws.Spelling.{words_length}
 use Rattle.eb3.proofs.Laws.MainRunning.{main_running}
 use Rattle.eb3.specs.Operations.{main_reach, cells_needed}
-use Rattle.eb3.proofs.Laws.Editions.{width_is_1}
 use Rattle.measures.specs.declared.Limits.{Limits}
 use Rattle.tables.specs.Layout.{label_count, function_count}
 use Rattle.declarations.specs.Directory.{Directory}

@@ -16,14 +16,12 @@ use Rattle.eb3.specs.Semantics.{Sem_M}
 use Rattle.eb3.specs.Sizes.{size, reach}
 use Rattle.eb3.specs.Spelling.{words}
 use Rattle.eb3.specs.Bytes.{word_count, written}
-use Rattle.eb3.specs.Memory.{cell_room, memory_words}
+use Rattle.eb3.specs.Memory.{cell_room}
 use Rattle.eb3.specs.WellFormedness.{WellFormedAction}
 use Rattle.eb3.proofs.Laws.Sizes.{size_below_reach, move_size}
 use Rattle.eb3.proofs.Laws.Running.{move_running, move_action}
-use Rattle.eb3.specs.Answers.{answered, Moved as Answer_moved, Written}
 use Rattle.eb3.specs.Operations.{cells_needed, cells_given, listed, numbered, writing, moved}
 use Rattle.eb3.specs.Answers.{or_refused}
-use Rattle.eb3.proofs.Laws.Editions.{width_is_1}
 use Rattle.expressions.specs.Stores.{now_place}
 use Rattle.actions.specs.Codes.{action_code, Small}
 use Rattle.actions.specs.Laws.Codes.{visible_positive}

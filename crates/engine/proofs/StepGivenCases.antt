@@ -1,16 +1,14 @@
 -- A case for each way that Move and Present return, from what was given and asked for (document 01, "Operations": Move and Present).
-use mathlib.Core.Path.{◌≡◌, ap, sym, ◌∙◌}
+use mathlib.Core.Path.{◌≡◌, sym, ◌∙◌}
 use mathlib.Core.List.{List}
 use Prim.Native.Nat.{ℕ, ◌≤◌, ◌<◌}
 use native.Mathlib.Omega.{arith}
 use Rattle.eb3.specs.RuleSets.{RuleSet}
 use Rattle.eb3.specs.Terms.{Term}
 use Rattle.eb3.specs.WellFormedness.{Form}
-use Rattle.eb3.specs.Sizes.{reach}
 use Rattle.eb3.specs.Bytes.{word_count}
 use Rattle.eb3.specs.Memory.{cell_room}
 use Rattle.eb3.specs.Answers.{Moved as Answer_moved, Written}
-use Rattle.eb3.proofs.Laws.Editions.{width_is_1}
 use Rattle.declarations.specs.Declaring.{Declares}
 use Rattle.runs.specs.declared.admitted.Admitted.{Admitted}
 use Rattle.given.specs.declared.giving.Given.{Given}

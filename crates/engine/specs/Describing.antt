@@ -4,9 +4,7 @@ use Rattle.eb3.specs.Terms.{Term}
 use Rattle.eb3.specs.RuleSets.{RuleSet}
 use Rattle.eb3.specs.Operations.{cells_needed}
 use Rattle.runs.specs.declared.admitted.Admitted.{Admitted}
-use Rattle.steps.specs.Storing.{Ruled}
 use Rattle.given.specs.Giving.{Described}
-use Rattle.given.specs.Laws.Giving.{described_ruled}
 
 -- R is the rule set that was admitted, and s are the words of its running term E.
 pub record DescribedBy (rules : Admitted) (R : RuleSet) (E : Term) (s : List ℕ) : Type 0 where

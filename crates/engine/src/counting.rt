@@ -9,17 +9,17 @@ ghost use Rattle.engine.specs.Describing.{DescribedBy};
 ghost use Rattle.engine.specs.Counting.{counted_as};
 
 use super::{LONGEST_TERM, MIDDLE_TERM, SHORT_TERM, room};
-use tables::layout::TABLES;
 use blocks::opened::Blocks;
 use blocks::{CONTENT_WORDS, WORDS_OF_8, WORDS_OF_64, open};
 use declarations::DIRECTORY;
 use expressions::store;
 use given::giving::given_in;
-use runs::admitted::Admitted;
 use refusals::Refusal;
+use runs::admitted::Admitted;
 use scan::front;
 use steps::counting::count_moves;
 use steps::storing::load_store;
+use tables::layout::TABLES;
 
 // The moves of the term s at the cells of a memory that has enough.
 fn count_at(rules: &Admitted, s: &[u16], memory: &[u8]) -> u32

@@ -5,15 +5,15 @@ ghost use Rattle.engine.specs.Running.{RunDone};
 
 use super::room;
 use admission::admit_in;
-use tables::layout::TABLES;
 use blocks::opened::Blocks;
 use blocks::{CONTENT_WORDS, WORDS_OF_8, WORDS_OF_64, open};
 use declarations::DIRECTORY;
-use runs::admitted::{Admitted, Course};
-use runs::main_process::{Totals, run_main};
 use readers::list::lets_through;
 use readers::{COUNTS, add_table};
 use refusals::Refusal;
+use runs::admitted::{Admitted, Course};
+use runs::main_process::{Totals, run_main};
+use tables::layout::TABLES;
 
 // An opened file, decoded into lent words. What was counted at each reader is added to the table at the end.
 // Stays, here and below: the words, the table, the term, the memory and the spare buffer are lent apart, as in runs::main_process (its `finish` says why). That the words

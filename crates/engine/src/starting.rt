@@ -7,13 +7,13 @@ ghost use Rattle.engine.specs.Starting.{StartDone};
 
 use super::room;
 use admission::admit_in;
-use tables::layout::{AT_START, TABLES};
 use blocks::opened::Blocks;
 use blocks::{CONTENT_WORDS, WORDS_OF_8, WORDS_OF_64, open};
 use cells::{fill, lay, save};
 use declarations::DIRECTORY;
-use runs::admitted::Admitted;
 use refusals::Refusal;
+use runs::admitted::Admitted;
+use tables::layout::{AT_START, TABLES};
 use unfold::unfold_main;
 
 // The cells of the start, made in a lent store.

@@ -15,7 +15,6 @@ ghost use Rattle.engine.specs.Stepping.{told, SameBuffers, Done, move_at, steppe
 
 use super::{LONGEST_TERM, MIDDLE_TERM, SHORT_TERM, room};
 use actions::{argument_at, argument_count, label_of};
-use tables::layout::TABLES;
 use blocks::opened::Blocks;
 use blocks::{CONTENT_WORDS, WORDS_OF_8, WORDS_OF_64, open};
 use cells::save;
@@ -23,13 +22,14 @@ use declarations::DIRECTORY;
 use expressions::store;
 use given::asking::{Request, Wanted, ask};
 use given::giving::given_in;
-use runs::admitted::Admitted;
 use refusals::Refusal;
+use runs::admitted::Admitted;
 use scan::front;
 use steps::counting::first_move;
 use steps::moving::take_move;
 use steps::renewing::renew;
 use steps::storing::load_store;
+use tables::layout::TABLES;
 
 /// A visible action: its label, how many arguments it has, and the two that it may have, 0 where there is none.
 // Stays with a count: C hosts get one (`Moved` of cabinet), which is how many arguments the action has. Of two Options it would be how many of the

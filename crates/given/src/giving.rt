@@ -7,11 +7,11 @@ ghost use Rattle.declarations.specs.Declaring.{Declares};
 ghost use Rattle.given.specs.Giving.{TermChecked, GivenDone};
 
 use admission::admit_in;
-use tables::layout::TABLES;
 use blocks::opened::Blocks;
 use cells::load;
 use declarations::DIRECTORY;
 use refusals::Refusal;
+use tables::layout::TABLES;
 use term_check::given_term;
 
 // The cells of the rule set and the reach of the term.

@@ -1,19 +1,13 @@
 -- Where the operands of a term are, by the code at its front.
 -- Document 01, "Moves, in order".
-use Rattle.std.specs.Prelude.{◌≡◌, refl, ℕ, ◌≤◌, length, take, drop, get_or}
-use Rattle.std.proofs.Math.Path.{ap}
-use Rattle.std.proofs.Common.{◌∙◌, arith, length-append}
-use mathlib.Core.List.{List, ◌∷◌, ◌++◌, append_assoc}
-use Rattle.std.proofs.Math.Seq.{take_at, drop_at}
+use Rattle.std.specs.Prelude.{◌≡◌, ℕ, take, drop}
+use mathlib.Core.List.{List, ◌++◌}
 use Rattle.eb3.specs.Expressions.{Cond}
 use Rattle.eb3.specs.Scopes.{Scope}
-use Rattle.eb3.specs.Terms.{Term, Done, Internal, Perform, Sequence, Choice, Star, Parallel, Guard, VisibleAction}
-use Rattle.eb3.specs.Spelling.{arguments_words, cond_words, words}
-use Rattle.scan.specs.Checking.{last_of}
-use Rattle.scan.specs.Laws.Checking.{last_behind}
-use Rattle.expressions.specs.Answering.{Plain, CondAt}
-use Rattle.actions.specs.Codes.{Closed, ActionAt}
-use Rattle.listing.specs.Listing.{Fits, TermAt}
+use Rattle.eb3.specs.Terms.{Term, Done, Internal, Perform, Sequence, Choice, Star, Parallel, Guard}
+use Rattle.eb3.specs.Spelling.{words}
+use Rattle.expressions.specs.Answering.{CondAt}
+use Rattle.listing.specs.Listing.{TermAt}
 
 unfoldable pub code_in_front : Term → ℕ
 code_in_front Done = 30

@@ -14,13 +14,13 @@ ghost use Rattle.listing.specs.Listing.{TermAt, Listed};
 ghost use Rattle.listing.specs.Rows.{RowAt};
 
 use actions::{behind_action, code_at, in_set, join, mask_set};
-use tables::MASK_WORDS;
 use code_numbers::{ACTION, CHOICE, DONE, GUARD, INTERNAL, PARALLEL, SEQUENCE, STAR};
 use codes::EDITION_1;
 use combining::combine;
 use expressions::eval_cond;
 use lister::Lister;
 use scan::{after, behind, first, last};
+use tables::MASK_WORDS;
 
 mod combining;
 mod lister;

@@ -14,11 +14,9 @@ use Rattle.eb3.specs.RuleSets.{RuleSet, attributes}
 use Rattle.eb3.specs.Sizes.{size, reach}
 use Rattle.eb3.proofs.Laws.Sizes.{size_below_reach}
 use Rattle.eb3.specs.Spelling.{words}
-use Rattle.eb3.proofs.Laws.Spelling.{Small}
 use Rattle.eb3.proofs.Laws.Operations.{spelling_small}
 use Rattle.eb3.specs.Bytes.{written}
 use Rattle.eb3.specs.Semantics.{Sem_M, Situation}
-use Rattle.eb3.proofs.Laws.Editions.{width_is_1}
 use Rattle.actions.specs.Codes.{action_code}
 use Rattle.listing.specs.Listing.{holding}
 use Rattle.cells.specs.Preparing.{Loaded}

@@ -9,7 +9,7 @@ use lib.ListN.{length, take, drop, replicate}
 use Rattle.eb3.specs.Terms.{Term}
 use Rattle.eb3.specs.Cells.{initial_cells, all_values}
 use Rattle.eb3.specs.RuleSets.{RuleSet, attributes}
-use Rattle.eb3.specs.Sizes.{size, reach}
+use Rattle.eb3.specs.Sizes.{size}
 use Rattle.eb3.proofs.Laws.Sizes.{size_below_reach, run_reach}
 use Rattle.eb3.specs.Unfolding.{unfold_main}
 use Rattle.eb3.specs.Spelling.{words}
@@ -26,13 +26,12 @@ use Rattle.eb3.specs.Readers.{numbers_in, readers_in}
 use Rattle.eb3.specs.WellFormedness.{WellFormed, Running}
 use Rattle.eb3.specs.Answers.{answered, Ran}
 use Rattle.eb3.specs.Operations.{cells_needed, main_reach}
-use Rattle.eb3.proofs.Laws.Editions.{width_is_1}
 use Rattle.tables.specs.Layout.{label_count, function_count}
 use Rattle.expressions.specs.Stores.{now_place, store_length}
 use Rattle.cells.specs.Preparing.{Loaded}
 use Rattle.cells.specs.Laws.Memory.{held_words, written_loaded}
 use Rattle.declarations.specs.Directory.{Directory, row_width}
-use Rattle.unfold.specs.Unfolded.{Ready, MainUnfolded}
+use Rattle.unfold.specs.Unfolded.{MainUnfolded}
 use Rattle.steps.specs.Storing.{Stored, Ruled}
 use Rattle.steps.specs.Laws.Ruled.{ruled_there}
 use Rattle.steps.specs.Laws.Judging.{whole}

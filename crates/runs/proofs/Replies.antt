@@ -20,7 +20,6 @@ use Rattle.eb3.specs.Semantics.{Sem_M, Situation, situation, transition, system}
 use Rattle.eb3.specs.TransitionSystems.{Outcome, took_visible, took_internal, refused, taken, reply, respond}
 use Rattle.eb3.proofs.Laws.TransitionSystems.{getElem?_map}
 use Rattle.eb3.specs.WellFormedness.{WellFormedTerm, Running}
-use Rattle.eb3.proofs.Laws.Editions.{width_is_1}
 use Rattle.actions.specs.Codes.{action_code}
 use Rattle.listing.specs.Listing.{holding}
 use Rattle.steps.specs.Storing.{Ruled, StoreRenewed}

@@ -4,8 +4,8 @@ ghost use Rattle.std.specs.Prelude.{◌≡◌, ◌+◌, ◌≤◌, length, get_o
 ghost use Rattle.tables.specs.Layout.{label_count, function_count};
 ghost use Rattle.declarations.specs.Directory.{row_width};
 
-use tables::layout::TABLES;
 use cells::Functions;
+use tables::layout::TABLES;
 
 /// An admitted rule set: its functions, and the tables that they belong to.
 #[derive(Clone, Copy)]

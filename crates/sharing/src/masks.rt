@@ -4,11 +4,11 @@ ghost use Rattle.std.specs.Prelude.{◌≤◌, length, IfSome};
 ghost use Rattle.sharing.specs.Masks.{Bare, Shareable};
 
 use actions::behind_action;
-use tables::mask_zero;
 use code_numbers::{ACTION, CHOICE, GUARD, PARALLEL, SEQUENCE, STAR};
 use listing::behind_mask;
 use scan::{behind, first, last};
 use successors::conditions::behind_condition;
+use tables::mask_zero;
 
 // Operands that are deeper to the left in sequences and parallels are not shared. Where such an operand moves for the first time its end is looked for at
 // every level, which must not cost the square of a depth that nothing else bounds.

@@ -7,9 +7,9 @@ ghost use Rattle.steps.specs.Storing.{StoreRenewed};
 ghost use Rattle.steps.specs.Keeping.{Kept, Given};
 
 use actions::{argument_at, label_of};
-use tables::layout::AT_LABELS;
 use cells::{Functions, copy_cells, fill};
 use expressions::store;
+use tables::layout::AT_LABELS;
 
 // The c cells copied after themselves, where before reads them.
 // Stays, here and below: that a lent array keeps its length is said by each function that writes into one. It is a fact of what the array was and what it is

@@ -2,9 +2,9 @@
 ghost use Rattle.std.specs.Prelude.{◌≡◌, length};
 ghost use Rattle.steps.specs.Storing.{StoreLoaded, StoreStarted};
 
-use tables::layout::AT_START;
 use cells::{Functions, fill, lay, load};
 use expressions::store;
+use tables::layout::AT_START;
 
 // The cells that a memory gives.
 // Stays, here and below: that a lent array keeps its length is said by each function that writes into one. It is a fact of what the array was and what it is

@@ -15,14 +15,14 @@ ghost use Rattle.term_check.specs.Given.{weighed_running, given};
 ghost use Rattle.term_check.specs.Answers.{left_after, packed, Packs, weighed_pair};
 ghost use Rattle.term_check.specs.Lending.{Kept, said};
 
-use tables::layout::{LABEL_ROWS, LABEL_WORDS};
-use tables::{MASK_WORDS, check_mask, functions, labels, mask_zero, row_at, size_of};
 use code_numbers::{ACTION, CHOICE, CONSTANT, GUARD, INTERNAL, PARALLEL, SEQUENCE, STAR};
 use codes::{Due, code_due};
 use expression_check::{Scope, check_cond};
+use measures::{Joint, Limits, Weight, empty, guard, single, stars};
 use scan::repeats::leading;
 use scan::{behind, last};
-use measures::{Joint, Limits, Weight, empty, guard, single, stars};
+use tables::layout::{LABEL_ROWS, LABEL_WORDS};
+use tables::{MASK_WORDS, check_mask, functions, labels, mask_zero, row_at, size_of};
 
 // The reach and the breadth of a given term.
 #[derive(Clone, Copy)]

@@ -19,14 +19,14 @@ mod scope;
 mod values;
 mod writer;
 
-use tables::layout::{BODY, PROCESS_ROWS, PROCESS_WORDS};
-use tables::{Context, MASK_WORDS, entry, processes, row_at, size_of, with};
 use code_numbers::{
     ACTION, CALL, CHOICE, CHOICE_OVER, GUARD, INTERNAL, PARALLEL, PARALLEL_OVER, SEQUENCE, STAR,
 };
 use rows::{action, condition};
 use scan::{first, last};
 use scope::Scope;
+use tables::layout::{BODY, PROCESS_ROWS, PROCESS_WORDS};
+use tables::{Context, MASK_WORDS, entry, processes, row_at, size_of, with};
 use values::arguments_of;
 use writer::Writer;
 

@@ -7,11 +7,11 @@ ghost use Rattle.unfold.specs.Saying.{Performs, Conditions};
 
 use super::scope::Scope;
 use super::writer::Writer;
-use tables::layout::{LABEL_ROWS, LABEL_WORDS};
-use tables::row_at;
 use code_numbers::{ACTION, CONSTANT, GUARD, VARIABLE};
 use codes::{EDITION_1, code_at, operands_after, words_after};
 use scan::{behind, first, last};
+use tables::layout::{LABEL_ROWS, LABEL_WORDS};
+use tables::row_at;
 
 // The front of an expression; a variable's becomes a constant's.
 fn put_front(front: &[u16], vars: &[u16], out: &mut Writer) -> Option<()>

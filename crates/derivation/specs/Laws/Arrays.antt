@@ -1,6 +1,5 @@
 -- Laws of the arrays that a step works in (`SameArrays`): they are the same arrays after no step, and after one step and another (document 01, "Moves, in
 -- order"; "Operations": Run).
-use Rattle.std.specs.Prelude.{◌≡◌, length}
 use Rattle.std.proofs.Common.{refl, ◌∙◌}
 use Rattle.derivation.specs.declared.scratch.Scratch.{Scratch}
 use Rattle.derivation.specs.Arrays.{SameArrays}

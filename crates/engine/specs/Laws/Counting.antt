@@ -1,6 +1,6 @@
 -- Count, case by case: refused as the rule set or the term is (`count_refused`), refused for want of cells (`count_short`), or the number of moves
 -- (`count_done`). Document 01, "Operations".
-use Rattle.std.specs.Prelude.{◌≡◌, List, ℕ, ◌≤◌, ◌<◌, length, Ok, Err, Result}
+use Rattle.std.specs.Prelude.{◌≡◌, List, ℕ, ◌≤◌, ◌<◌, length, Ok, Err}
 use Rattle.std.proofs.Math.Path.{refl, ap, sym}
 use Rattle.std.proofs.Common.{◌∙◌, le-leb}
 use Rattle.std.proofs.lemmas.Bool.{lt-leb}

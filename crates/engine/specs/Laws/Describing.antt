@@ -1,12 +1,10 @@
 -- A rule set and a term that are described (`DescribedBy`) satisfy what the steps ask of the rule set's words, tables and directory (`Ruled`).
 -- Document 01, "Operations": each call admits and checks everything itself.
-use Rattle.std.specs.Prelude.{◌≡◌, List, ℕ}
+use Rattle.std.specs.Prelude.{List, ℕ}
 use Rattle.eb3.specs.Terms.{Term}
 use Rattle.eb3.specs.RuleSets.{RuleSet}
-use Rattle.eb3.specs.Operations.{cells_needed}
 use Rattle.runs.specs.declared.admitted.Admitted.{Admitted}
 use Rattle.steps.specs.Storing.{Ruled}
-use Rattle.given.specs.Giving.{Described}
 use Rattle.given.specs.Laws.Giving.{described_ruled}
 use Rattle.engine.specs.Describing.{DescribedBy}
 

@@ -1,6 +1,6 @@
 -- A store that was made ready and filled, and then saved, is the memory at the start.
 -- Document 01, "Memory and the history machine": at start the empty-trace expressions fill the cells, function by function.
-use Rattle.std.specs.Prelude.{◌≡◌, List, ℕ, ◌+◌, ◌≤◌}
+use Rattle.std.specs.Prelude.{◌≡◌, List, ℕ, ◌≤◌}
 use Rattle.std.proofs.Common.{ap, sym, ◌∙◌, subst, arith}
 use Rattle.std.proofs.Math.Option.{none}
 use Rattle.std.proofs.Math.ListN.{length}
@@ -8,14 +8,9 @@ use Rattle.eb3.specs.Expressions.{no_reading}
 use Rattle.eb3.specs.Attributes.{number_of_functions}
 use Rattle.eb3.specs.Cells.{total_cells, initial_cells}
 use Rattle.eb3.specs.RuleSets.{RuleSet, attributes}
-use Rattle.eb3.specs.WellFormedness.{Form}
-use Rattle.eb3.specs.Unfolding.{unfold_main}
-use Rattle.eb3.specs.Spelling.{words}
-use Rattle.eb3.specs.Bytes.{word_count, written}
-use Rattle.eb3.specs.Memory.{cell_room, memory_words}
-use Rattle.eb3.specs.Operations.{cells_needed}
+use Rattle.eb3.specs.Bytes.{written}
 use Rattle.tables.specs.Layout.{label_count, function_count}
-use Rattle.declarations.specs.Directory.{Directory, row_width, at_start_in}
+use Rattle.declarations.specs.Directory.{row_width, at_start_in}
 use Rattle.expressions.specs.Stores.{now_place}
 use Rattle.cells.specs.Laws.Cells.{cells_counted}
 use Rattle.steps.specs.Laws.Ruled.{labels_there, functions_there}
@@ -23,7 +18,7 @@ use Rattle.cells.specs.Filling.{Filling, Filled}
 use Rattle.cells.specs.Preparing.{Prepared, Saved}
 use Rattle.cells.specs.Laws.Memory.{held_words}
 use Rattle.cells.specs.Laws.ReadyingFills.{start_filling}
-use Rattle.engine.specs.Memories.{MemoryStarted, Begun}
+use Rattle.engine.specs.Memories.{MemoryStarted}
 
 -- ── the start ──
 

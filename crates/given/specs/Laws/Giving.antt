@@ -19,7 +19,6 @@ use Rattle.eb3.proofs.Laws.Answers.{and_then_answered, answered_injective, not_b
 use Rattle.eb3.specs.TermReading.{given_term}
 use Rattle.eb3.specs.Operations.{cells_needed, even, term_in}
 use Rattle.eb3.proofs.Laws.Refusals.{Within, picked, and_then_within, or_refused_within, admission_within, refused_within}
-use Rattle.eb3.proofs.Laws.Editions.{width_is_1}
 use Rattle.measures.specs.declared.Limits.{Limits}
 use Rattle.tables.specs.Layout.{label_count, function_count}
 use Rattle.declarations.specs.Directory.{row_width}

@@ -11,7 +11,7 @@ use Rattle.eb3.specs.Terms.{Term, Done, Internal, Perform, Sequence, Choice, Sta
 use Rattle.eb3.specs.Spelling.{arguments_words, cond_words, words}
 use Rattle.scan.specs.Checking.{last_of}
 use Rattle.scan.specs.Laws.Checking.{last_behind}
-use Rattle.expressions.specs.Answering.{Plain, CondAt}
+use Rattle.expressions.specs.Answering.{Plain}
 use Rattle.actions.specs.Codes.{Closed, ActionAt}
 use Rattle.listing.specs.Listing.{Fits, TermAt}
 use Rattle.listing.specs.Positions.{code_in_front, TwoAt, MaskedAt, GuardedAt}

@@ -1,4 +1,4 @@
-use mathlib.Core.Path.{◌≡◌, refl, sym, ap, ◌∙◌}
+use mathlib.Core.Path.{◌≡◌, sym, ap, ◌∙◌}
 use lib.ListN.{drop}
 use Rattle.std.proofs.Common.{rules}
 use Rattle.scan.specs.Laws.Checking.{part}

@@ -5,11 +5,10 @@ use Rattle.std.proofs.Math.Path.{ap}
 use mathlib.Core.List.{List, ◌∷◌, ◌++◌, append_assoc}
 use Rattle.eb3.specs.Expressions.{Cond}
 use Rattle.eb3.specs.Scopes.{Scope}
-use Rattle.eb3.specs.Terms.{Term, Perform, Sequence, Choice, Star, Parallel, Guard, VisibleAction, Mask}
+use Rattle.eb3.specs.Terms.{Term, Sequence, Choice, Star, Parallel, Guard, Mask}
 use Rattle.eb3.specs.Spelling.{cond_words, words}
 use Rattle.eb3.specs.Sizes.{size}
 use Rattle.expressions.specs.Answering.{CondAt}
-use Rattle.actions.specs.Codes.{ActionAt}
 use Rattle.listing.specs.Laws.Fits.{fits_length}
 use Rattle.listing.specs.Listing.{Fits, TermAt}
 use Rattle.listing.specs.Positions.{TwoAt}
