@@ -72,7 +72,7 @@ module _ (R : RuleSet) (form : Form R) (c : ℕ) (term ws : List ℕ) where
 
   refused_so : term_in R term ≡ refused Refusal.term → TermChecked R c term ws (Err Why.Term)
   unfolding checked_as refusal
-  refused_so e = by_answer (refused Refusal.term) (Err Why.Term) e refl (λ E f. absurd (not_both 10 E f))
+  refused_so e = by_answer (refused Refusal.term) (Err Why.Term) e refl (λ E f. absurd (not_both Refusal.term E f))
 
   pub checked_odd : (length term % 2 ≡ 0 → ⊥) → TermChecked R c term ws (Err Why.Term)
   checked_odd h = refused_so (ap (λ b. pick b (or_refused Refusal.term (given_term R (words_in term))) (refused Refusal.term)) (ne_eqb (length term % 2) 0 h))

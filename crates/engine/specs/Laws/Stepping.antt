@@ -92,10 +92,10 @@ module _ (rules term memory : List ℕ) (next_term next_memory : List ℕ) where
 -- ── what is asked for ──
 
 -- An event that is none is refused 11.
-stranger_number : (b : Bool) (o : Maybe Action) (j : ℕ) → pick b (or_refused Refusal.stranger o) (refused Refusal.stranger) ≡ refused j → j ≡ 11
-stranger_number true none j e = let z : 11 ≡ j = cc in sym z
+stranger_number : (b : Bool) (o : Maybe Action) (j : ℕ) → pick b (or_refused Refusal.stranger o) (refused Refusal.stranger) ≡ refused j → j ≡ Refusal.stranger
+stranger_number true none j e = let z : Refusal.stranger ≡ j = cc in sym z
 stranger_number true (some ρ) j e = absurd (let z : ◌≡◌ {A = ℕ} 0 1 = cc in omega arith)
-stranger_number false o j e = let z : 11 ≡ j = cc in sym z
+stranger_number false o j e = let z : Refusal.stranger ≡ j = cc in sym z
 
 module _ (R : RuleSet) (form : Form R) where
   event_so : (event : List ℕ) (ρ : Action) → event_in R event ≡ answered ρ → Small ρ
@@ -108,12 +108,12 @@ module _ (R : RuleSet) (form : Form R) where
           subst Small h (action_small R form σ ((given_event_exact R (omega (arith, width_is_1 form)) (words_in event) σ).0 q).1)
       go false o q f = absurd (let z : ◌≡◌ {A = ℕ} 0 1 = cc in omega arith)
 
-  pub asked_stranger : (request : Request) → None ≡ asked_as request R → asked_of request R ≡ refused 11
+  pub asked_stranger : (request : Request) → None ≡ asked_as request R → asked_of request R ≡ refused Refusal.stranger
   unfolding asked_of event_asked and_then
   asked_stranger (Move_of k) e = absurd (let z : ◌≡◌ {A = ℕ} 0 1 = cc in omega arith)
   asked_stranger (Event_of event) e = go (event_in R event.now) refl e
     where
-      go : (a : Answer Action) → event_in R event.now ≡ a → None ≡ event_asked a → (and_then a λ ρ. answered (at_first ρ)) ≡ refused 11
+      go : (a : Answer Action) → event_in R event.now ≡ a → None ≡ event_asked a → (and_then a λ ρ. answered (at_first ρ)) ≡ refused Refusal.stranger
       go (refused j) q f = ap refused (stranger_number (even event.now) (given_event R (words_in event.now)) j q)
       go (answered ρ) q f = absurd (let z : ◌≡◌ {A = ℕ} 0 1 = cc in omega arith)
 
@@ -146,10 +146,10 @@ module _ (R : RuleSet) (E : Term) (memory next_term next_memory : List ℕ) (req
   abbrev given : Written Answer_moved
   given = stepped_from request memory next_term next_memory (R, E)
 
-  pub stranger_done : asked_of request R ≡ refused 11 → Done given (Err Stranger) next_term next_memory
+  pub stranger_done : asked_of request R ≡ refused Refusal.stranger → Done given (Err Stranger) next_term next_memory
   unfolding moved_as refusal
   stranger_done e =
-      let f : given ≡ unwritten next_term next_memory 11 = ap (λ a. writing next_term next_memory a λ choose. chosen R E memory next_term next_memory choose) e in
+      let f : given ≡ unwritten next_term next_memory Refusal.stranger = ap (λ a. writing next_term next_memory a λ choose. chosen R E memory next_term next_memory choose) e in
       subst (λ w. Done w (Err Stranger) next_term next_memory) (sym f) (record { answer = refl; term_after = refl; memory_after = refl })
 
   module _ (choose : List Move → Maybe Move) (e : asked_of request R ≡ answered choose) where
