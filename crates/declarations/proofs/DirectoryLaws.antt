@@ -70,11 +70,11 @@ stands_read spell P f s whole t a u l e =
     (u, tail_at t whole l ∙ h.0)
 
 -- An expression, its place stored in 32 bits and kept since.
-pub stands_noted : (S : Scope) (whole t D : List ℕ) (at : ℕ) (d : Data) (u : List ℕ) → Tail t whole → length whole < 4294967296 → get_or D at 0 ≡ length t % 4294967296 → read_data S.edition.width S t ≡ taken d u
+pub stands_noted : (S : Scope) (whole t D : List ℕ) (at : ℕ) (d : Data) (u : List ℕ) → Tail t whole → length whole < 4294967296 → get_or D at 0 ≡ length t % 4294967296 → read_data S t ≡ taken d u
     → Stands whole (get_or D at 0) (data_words S.edition.width d)
 stands_noted S whole t D at d u l small e g =
     let k : length t % 4294967296 ≡ length t = omega (arith, tail_short t whole l) in
-    subst (λ n. Stands whole n (data_words S.edition.width d)) (sym (e ∙ k)) (stands_read (data_words S.edition.width) (λ a. DataInScope a S) (read_data S.edition.width S) (data_sound S.edition.width S) whole t d u l g)
+    subst (λ n. Stands whole n (data_words S.edition.width d)) (sym (e ∙ k)) (stands_read (data_words S.edition.width) (λ a. DataInScope a S) (read_data S) (data_sound S) whole t d u l g)
 
 -- ── places kept ──
 

@@ -34,9 +34,9 @@ use Rattle.refusals.specs.Numbers.{refusal}
 abbrev pub labels_for : List ℕ → ℕ → ℕ → Reader (List Data)
 labels_for T n i = label_expressions T n i (label_count T)
 
-module _ (T t : List ℕ) (n i : ℕ) (p : Checked) (e : p ≡ checked (read_data 1 (at_start i) t)) where
+module _ (T t : List ℕ) (n i : ℕ) (p : Checked) (e : p ≡ checked (read_data (at_start i) t)) where
   start : p ≡ checked (start_of T n i t)
-  start = e ∙ ap (λ S. checked (read_data 1 S t)) (start_scope T n i)
+  start = e ∙ ap (λ S. checked (read_data S t)) (start_scope T n i)
 
   pub expressions_out : (j : Refusal) → p ≡ Err j → Err j ≡ checked (both (start_of T n i) (labels_for T n i) t)
   expressions_out j h = both_out (start_of T n i) (labels_for T n i) t p j start h

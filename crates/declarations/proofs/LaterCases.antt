@@ -105,12 +105,12 @@ taken_on ds b bs f t d u e = rw e (go (for_each bs f u))
     go (taken es v) = ap (λ l. taken l v) (sym (append_assoc ds (d ∷ []) es))
 
 module _ (t T D₀ R u D D₁ : List ℕ) (n i k at left l : ℕ) (p : Checked) (s : Sofar t T D₀ n i k at D left l) (lt : l < k) (g : D₁ ≡ set D (at + l) (left % 4294967296)) (is_u : u ≡ last_of left t)
-    (r : R ≡ row T (label_place l)) (e : p ≡ checked (read_data 1 (at_label n i (length R)) u)) where
+    (r : R ≡ row T (label_place l)) (e : p ≡ checked (read_data (at_label n i (length R)) u)) where
   abbrev this : Reader Data
   this = for_label T n i (row T (label_place l))
 
   here : p ≡ checked (this u)
-  here = e ∙ ap (λ S. checked (read_data 1 S u)) (label_scope T n i (length R)) ∙ ap (λ ds. checked (for_label T n i ds u)) r
+  here = e ∙ ap (λ S. checked (read_data S u)) (label_scope T n i (length R)) ∙ ap (λ ds. checked (for_label T n i ds u)) r
 
   on : label_expressions T n i k t ≡ giving (λ es. s.ds ++ es) (for_each (row T (label_place l) ∷ labels_of T (l + 1) (k - (l + 1))) (for_label T n i) u)
   on = s.reading ∙ (λ j. giving (λ es. s.ds ++ es) (for_each (labels_next T l k lt j) (for_label T n i) (sym is_u j)))

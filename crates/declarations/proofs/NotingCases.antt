@@ -63,7 +63,7 @@ module _ (D D₁ : List ℕ) (at x : ℕ) (g : D₁ ≡ set D at x) where
 
 -- ── both kinds of expressions ──
 
-module _ (T t D D₁ : List ℕ) (n i at : ℕ) (g : D₁ ≡ set D at (length t % 4294967296)) (p : Checked) (e : p ≡ checked (read_data 1 (at_start i) t)) where
+module _ (T t D D₁ : List ℕ) (n i at : ℕ) (g : D₁ ≡ set D at (length t % 4294967296)) (p : Checked) (e : p ≡ checked (read_data (at_start i) t)) where
   pub expressions_refused : (j : Refusal) → p ≡ Err j → ExpressionsNoted T n i t D at (Err j) D₁
   expressions_refused j h =
       let a = expressions_out T t n i p e j h in
@@ -83,7 +83,7 @@ module _ (T t D D₁ : List ℕ) (n i at : ℕ) (g : D₁ ≡ set D at (length t
         kept = λ j b. l.kept j (omega arith) ∙ noted_other D D₁ at _ g j b;
         found = λ whole b u tl small room f.
             let k = both_taken (start_of T n i) (label_expressions T n i (label_count T)) t b u f in
-            let v : k.0 ≡ r = left_is (start_of T n i) (data_ends (edition_in T).width _) t p m b.0 k.0 (e ∙ ap (λ S. checked (read_data 1 S t)) (start_scope T n i)) h k.1 ∙ sym s in
+            let v : k.0 ≡ r = left_is (start_of T n i) (data_ends (edition_in T).width _) t p m b.0 k.0 (e ∙ ap (λ S. checked (read_data S t)) (start_scope T n i)) h k.1 ∙ sym s in
             let rest : label_expressions T n i (label_count T) r ≡ taken b.1 u = ap (label_expressions T n i (label_count T)) (sym v) ∙ k.2 in
             let place : get_or D₂ at 0 ≡ length t % 4294967296 = l.kept at (omega arith) ∙ noted_here D D₁ at _ g (omega arith) in (
               stands_noted _ whole t D₂ at b.0 k.0 tl small place k.1,

@@ -18,10 +18,10 @@ use Rattle.refusals.specs.declared.Refusal.{Refusal}
 -- ── what is read of function i of n, by the tables T ──
 
 abbrev pub start_of : List ℕ → ℕ → ℕ → Reader Data
-start_of T n i = read_data (edition_in T).width (at_start_scope (edition_in T) (replicate n 1) i)
+start_of T n i = read_data (at_start_scope (edition_in T) (replicate n 1) i)
 
 abbrev pub for_label : List ℕ → ℕ → ℕ → List ℕ → Reader Data
-for_label T n i ds = read_data (edition_in T).width (at_label_scope (edition_in T) (replicate n 1) i (length ds))
+for_label T n i ds = read_data (at_label_scope (edition_in T) (replicate n 1) i (length ds))
 
 -- Its expressions for the first k labels; all of them; the function.
 abbrev pub label_expressions : List ℕ → ℕ → ℕ → ℕ → Reader (List Data)

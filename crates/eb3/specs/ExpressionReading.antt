@@ -54,14 +54,14 @@ pub record Readers : Type 0 where
   pub datum : Reader Data
   pub condition : Reader Cond
 
-abbrev pub data_by : ℕ → Scope → Readers → DataKind → Reader Data
-data_by width P e DataKind.undefined t = taken Undefined t
-data_by width P e DataKind.constant t = giving Constant (constant_of width P.edition.top t)
-data_by width P e DataKind.variable t = giving Variable (number_of Refusal.reference P.variables t)
-data_by width P e (DataKind.pair k) t = giving (λ p. k p.0 p.1) (both e.datum e.datum t)
-data_by width P e DataKind.select t = giving (λ p. If p.0 p.1.0 p.1.1) (both e.condition (both e.datum e.datum) t)
-data_by width P e (DataKind.attribute k limit) t = by_number Refusal.reference limit (λ f u. giving (k f) (args_of e.datum (P.arity f) u)) t
-data_by width P e DataKind.wrong t = refused Refusal.form
+abbrev pub data_by : Scope → Readers → DataKind → Reader Data
+data_by P e DataKind.undefined t = taken Undefined t
+data_by P e DataKind.constant t = giving Constant (constant_of P.edition.width P.edition.top t)
+data_by P e DataKind.variable t = giving Variable (number_of Refusal.reference P.variables t)
+data_by P e (DataKind.pair k) t = giving (λ p. k p.0 p.1) (both e.datum e.datum t)
+data_by P e DataKind.select t = giving (λ p. If p.0 p.1.0 p.1.1) (both e.condition (both e.datum e.datum) t)
+data_by P e (DataKind.attribute k limit) t = by_number Refusal.reference limit (λ f u. giving (k f) (args_of e.datum (P.arity f) u)) t
+data_by P e DataKind.wrong t = refused Refusal.form
 
 abbrev pub cond_by : Readers → CondKind → Reader Cond
 cond_by e (CondKind.compare k) t = giving (λ p. k p.0 p.1) (both e.datum e.datum t)
@@ -70,21 +70,21 @@ cond_by e CondKind.negate t = giving Not (e.condition t)
 cond_by e CondKind.always t = taken True t
 cond_by e CondKind.wrong t = refused Refusal.form
 
-abbrev pub data_step : ℕ → Scope → Readers → Reader Data
-data_step width P e [] = refused Refusal.form
-data_step width P e (c ∷ t) = data_by width P e (data_kind P c) t
+abbrev pub data_step : Scope → Readers → Reader Data
+data_step P e [] = refused Refusal.form
+data_step P e (c ∷ t) = data_by P e (data_kind P c) t
 
 abbrev pub cond_step : Readers → Reader Cond
 cond_step e [] = refused Refusal.form
 cond_step e (c ∷ t) = cond_by e (cond_kind c) t
 
 -- To a depth of n codes: as many as there are words is enough.
-unfoldable pub readers : ℕ → Scope → ℕ → Readers
-readers width P zero = record { datum = λ s. refused Refusal.form; condition = λ s. refused Refusal.form }
-readers width P (suc n) = record { datum = data_step width P (readers width P n); condition = cond_step (readers width P n) }
+unfoldable pub readers : Scope → ℕ → Readers
+readers P zero = record { datum = λ s. refused Refusal.form; condition = λ s. refused Refusal.form }
+readers P (suc n) = record { datum = data_step P (readers P n); condition = cond_step (readers P n) }
 
-unfoldable pub read_data : ℕ → Scope → Reader Data
-read_data width P s = (readers width P (length s)).datum s
+unfoldable pub read_data : Scope → Reader Data
+read_data P s = (readers P (length s)).datum s
 
-unfoldable pub read_cond : ℕ → Scope → Reader Cond
-read_cond width P s = (readers width P (length s)).condition s
+unfoldable pub read_cond : Scope → Reader Cond
+read_cond P s = (readers P (length s)).condition s

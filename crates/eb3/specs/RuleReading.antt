@@ -40,7 +40,7 @@ unfoldable pub read_function : Edition → ℕ → List (List ℕ) → List ℕ 
 read_function L domains labels counts i t =
     giving function_from
     (both (repeat (count_for counts i) (number_of Refusal.reference domains))
-    (both (read_data L.width (at_start_scope L counts i)) (for_each labels (λ ds. read_data L.width (at_label_scope L counts i (length ds))))) t)
+    (both (read_data (at_start_scope L counts i)) (for_each labels (λ ds. read_data (at_label_scope L counts i (length ds))))) t)
 
 unfoldable pub read_functions : Edition → ℕ → List (List ℕ) → Reader (List Function)
 read_functions L domains labels t =
@@ -101,7 +101,7 @@ rule_by R e Γ RuleKind.action t = rule_action_of R Γ t
 rule_by R e Γ (RuleKind.pair k) t = giving (λ p. k p.0 p.1) (both (e Γ) (e Γ) t)
 rule_by R e Γ RuleKind.star t = giving rule_star (e Γ t)
 rule_by R e Γ RuleKind.parallel t = giving (λ p. rule_parallel p.0 p.1.0 p.1.1) (both (rule_mask_of R) (both (e Γ) (e Γ)) t)
-rule_by R e Γ RuleKind.guard t = giving (λ p. rule_guard p.0 p.1) (both (read_cond R.edition.width (guard_scope (attributes R) (length Γ))) (e Γ) t)
+rule_by R e Γ RuleKind.guard t = giving (λ p. rule_guard p.0 p.1) (both (read_cond (guard_scope (attributes R) (length Γ))) (e Γ) t)
 rule_by R e Γ RuleKind.choice_quantifier t = choice_over_of R e Γ t
 rule_by R e Γ RuleKind.parallel_quantifier t = parallel_over_of R e Γ t
 rule_by R e Γ RuleKind.process_call t = call_of R Γ t

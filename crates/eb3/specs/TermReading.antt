@@ -54,7 +54,7 @@ module _ (R : RuleSet) where
   term_by e (TermKind.pair k) t = giving (λ p. k p.0 p.1) (both e e t)
   term_by e TermKind.star t = giving Star (e t)
   term_by e TermKind.parallel t = giving (λ p. Parallel p.0 p.1.0 p.1.1) (both (mask_of 4 (length R.labels)) (both e e) t)
-  term_by e TermKind.guard t = giving (λ p. Guard p.0 p.1) (both (read_cond R.edition.width (guard_scope (attributes R) 0)) e t)
+  term_by e TermKind.guard t = giving (λ p. Guard p.0 p.1) (both (read_cond (guard_scope (attributes R) 0)) e t)
   term_by e TermKind.done t = taken Done t
   term_by e TermKind.wrong t = refused Refusal.form
 

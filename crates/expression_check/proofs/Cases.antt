@@ -16,6 +16,7 @@ use Rattle.codes.specs.declared.Due.TheVariants.{Data as DueData, Condition as D
 use Rattle.codes.specs.Sorts.{code_due}
 use Rattle.codes.specs.Laws.Sorts.{no_data, no_condition}
 use Rattle.codes.specs.Laws.Due.{code_taken, code_refused}
+use Rattle.eb3.specs.Editions.{Edition as RuleEdition, edition_1}
 use Rattle.eb3.specs.Expressions.{Data, Undefined, Cond, Args, Constant, Variable, Add, Subtract, Now, Before, Equal, Less, And, Or, Not, True}
 use Rattle.eb3.specs.Scopes.{Scope}
 use Rattle.eb3.specs.Reading.{Read, refused, taken, Reader, pick, giving, then, both, number_of, by_number, number_in, repeat}
@@ -118,19 +119,19 @@ module _ (P : Scope) (s : List ℕ) (at rest : ℕ) (h : at < length s) where
       ap (λ i. drop i s) e
 
   -- what is there by its kind
-  data_at : (k : DataKind) → data_kind P (get_or s at 0) ≡ k → read_data 1 P (drop at s) ≡ data_by 1 P (whole 1 P) k (drop (at + 1) s)
-  data_at k e = ap (read_data 1 P) (drop-cons s at 0 h) ∙ data_case 1 P (get_or s at 0 ∷ drop (suc at) s) k (λ z. omega arith) e ∙ ap (data_by 1 P (whole 1 P) k) back
+  data_at : (k : DataKind) → data_kind P (get_or s at 0) ≡ k → read_data P (drop at s) ≡ data_by P (whole P) k (drop (at + 1) s)
+  data_at k e = ap (read_data P) (drop-cons s at 0 h) ∙ data_case P (get_or s at 0 ∷ drop (suc at) s) k (λ z. omega arith) e ∙ ap (data_by P (whole P) k) back
 
-  cond_at : (k : CondKind) → cond_kind (get_or s at 0) ≡ k → read_cond 1 P (drop at s) ≡ cond_by (whole 1 P) k (drop (at + 1) s)
-  cond_at k e = ap (read_cond 1 P) (drop-cons s at 0 h) ∙ cond_case 1 P (get_or s at 0 ∷ drop (suc at) s) k (λ z. omega arith) e ∙ ap (cond_by (whole 1 P) k) back
+  cond_at : (k : CondKind) → cond_kind (get_or s at 0) ≡ k → read_cond P (drop at s) ≡ cond_by (whole P) k (drop (at + 1) s)
+  cond_at k e = ap (read_cond P) (drop-cons s at 0 h) ∙ cond_case P (get_or s at 0 ∷ drop (suc at) s) k (λ z. omega arith) e ∙ ap (cond_by (whole P) k) back
 
-  data_row : {B : Type 0} (k : DataKind) (r : Read B) → data_kind P (get_or s at 0) ≡ k → forget (data_by 1 P (whole 1 P) k (drop (at + 1) s)) ≡ forget r
-      → checked (repeat (suc rest) (read_data 1 P) (drop at s)) ≡ checked (then r (λ a. repeat rest (read_data 1 P)))
-  data_row k r e f = row_step (read_data 1 P) r rest (drop at s) (ap forget (data_at k e) ∙ f)
+  data_row : {B : Type 0} (k : DataKind) (r : Read B) → data_kind P (get_or s at 0) ≡ k → forget (data_by P (whole P) k (drop (at + 1) s)) ≡ forget r
+      → checked (repeat (suc rest) (read_data P) (drop at s)) ≡ checked (then r (λ a. repeat rest (read_data P)))
+  data_row k r e f = row_step (read_data P) r rest (drop at s) (ap forget (data_at k e) ∙ f)
 
-  cond_row : {B : Type 0} (k : CondKind) (r : Read B) → cond_kind (get_or s at 0) ≡ k → forget (cond_by (whole 1 P) k (drop (at + 1) s)) ≡ forget r
-      → checked (repeat (suc rest) (read_cond 1 P) (drop at s)) ≡ checked (then r (λ a. repeat rest (read_cond 1 P)))
-  cond_row k r e f = row_step (read_cond 1 P) r rest (drop at s) (ap forget (cond_at k e) ∙ f)
+  cond_row : {B : Type 0} (k : CondKind) (r : Read B) → cond_kind (get_or s at 0) ≡ k → forget (cond_by (whole P) k (drop (at + 1) s)) ≡ forget r
+      → checked (repeat (suc rest) (read_cond P) (drop at s)) ≡ checked (then r (λ a. repeat rest (read_cond P)))
+  cond_row k r e f = row_step (read_cond P) r rest (drop at s) (ap forget (cond_at k e) ∙ f)
 
   data_wrong : data_kind P (get_or s at 0) ≡ DataKind.wrong → DataFront P s at rest (Err Form)
   unfolding then checked refusal
@@ -166,10 +167,10 @@ module _ (P : Scope) (s : List ℕ) (at rest : ℕ) (k : Refusal) (r : Result Fr
 -- w is the code that the code found there
 module _ (P : Scope) (s : List ℕ) (at rest : ℕ) (few : rest ≤ at + 1) (due : Due) (w : ℕ) (is : Ok w ≡ code_due due s at) where
   abbrev rd : Reader Data
-  rd = read_data 1 P
+  rd = read_data P
 
   abbrev rc : Reader Cond
-  rc = read_cond 1 P
+  rc = read_cond P
 
   abbrev t : List ℕ
   t = drop (at + 1) s
@@ -186,18 +187,18 @@ module _ (P : Scope) (s : List ℕ) (at rest : ℕ) (few : rest ≤ at + 1) (due
   two : suc (suc rest) ≡ rest + 2
   two = omega arith
 
-  by_data : {B : Type 0} (k : DataKind) (r : Read B) → data_kind P w ≡ k → forget (data_by 1 P (whole 1 P) k t) ≡ forget r → checked (repeat (suc rest) rd (drop at s)) ≡ checked (then r (λ a. repeat rest rd))
+  by_data : {B : Type 0} (k : DataKind) (r : Read B) → data_kind P w ≡ k → forget (data_by P (whole P) k t) ≡ forget r → checked (repeat (suc rest) rd (drop at s)) ≡ checked (then r (λ a. repeat rest rd))
   by_data k r e f = data_row P s at rest within k r (ap (data_kind P) (code_taken due s at w is).code ∙ e) f
 
-  by_cond : {B : Type 0} (k : CondKind) (r : Read B) → cond_kind w ≡ k → forget (cond_by (whole 1 P) k t) ≡ forget r → checked (repeat (suc rest) rc (drop at s)) ≡ checked (then r (λ a. repeat rest rc))
+  by_cond : {B : Type 0} (k : CondKind) (r : Read B) → cond_kind w ≡ k → forget (cond_by (whole P) k t) ≡ forget r → checked (repeat (suc rest) rc (drop at s)) ≡ checked (then r (λ a. repeat rest rc))
   by_cond k r e f = cond_row P s at rest within k r (ap cond_kind (code_taken due s at w is).code ∙ e) f
 
   pub data_undefined : w ≡ 0 → DataFront P s at rest (Ok (On (at + 1) rest))
   unfolding then
   data_undefined e = (behind rest (omega arith), by_data DataKind.undefined (taken Undefined t) (ap (data_kind P) e) refl)
 
-  pub data_constant : (r : Result Front Refusal) → w ≡ 1 → P.edition.top ≡ 65534 → Operand Form 65535 s (at + 1) rest r → DataFront P s at rest r
-  data_constant r e o = faced rd (repeat 1 rc) (rest + 2) s at rest rest Form 65535 r (omega (arith, few)) (by_data DataKind.constant (number_of 4 65535 t) (ap (data_kind P) e) (ap (λ m. forget (giving Constant (constant_of 1 m t))) o ∙ one_constant t))
+  pub data_constant : (r : Result Front Refusal) → w ≡ 1 → P.edition ≡ edition_1 → Operand Form 65535 s (at + 1) rest r → DataFront P s at rest r
+  data_constant r e o = faced rd (repeat 1 rc) (rest + 2) s at rest rest Form 65535 r (omega (arith, few)) (by_data DataKind.constant (number_of 4 65535 t) (ap (data_kind P) e) (ap (λ (L : RuleEdition). forget (giving Constant (constant_of L.width L.top t))) o ∙ one_constant t))
 
   pub data_variable : (r : Result Front Refusal) → w ≡ 2 → Operand Reference P.variables s (at + 1) rest r → DataFront P s at rest r
   data_variable r e = faced rd (repeat 1 rc) (rest + 2) s at rest rest Reference P.variables r (omega (arith, few)) (by_data DataKind.variable (number_of 5 P.variables t) (ap (data_kind P) e) (forget_giving Variable (number_of 5 P.variables t)))

@@ -34,11 +34,11 @@ going_end f s n at more inv h =
     let z : more ≡ 0 = omega (arith, h) in
     sym (inv.2 ∙ ap (λ k. checked (repeat k f (drop at s))) z ∙ ap Ok (length-drop at s))
 
-pub one_cond_ends : (P : Scope) → Ends (repeat 1 (read_cond 1 P))
-one_cond_ends P = repeat_ends 1 (read_cond 1 P) (cond_ends 1 P)
+pub one_cond_ends : (P : Scope) → Ends (repeat 1 (read_cond P))
+one_cond_ends P = repeat_ends 1 (read_cond P) (cond_ends P)
 
-pub two_data_ends : (P : Scope) → Ends (repeat 2 (read_data 1 P))
-two_data_ends P = repeat_ends 2 (read_data 1 P) (data_ends 1 P)
+pub two_data_ends : (P : Scope) → Ends (repeat 2 (read_data P))
+two_data_ends P = repeat_ends 2 (read_data P) (data_ends P)
 
 module _ {A B : Type 0} (f : Reader A) (g : Reader B) (after : ℕ) (s : List ℕ) (n at more : ℕ) (inv : Going f s n at more) (lt : 0 < more) (r : Result Front Refusal) (e : Facing f g after s at (more - 1) r) where
   this : checked (repeat n f s) ≡ checked (repeat (suc (more - 1)) f (drop at s))

@@ -29,7 +29,7 @@ Facing f g after s at rest (Ok (Other b)) = Behind s at b after × (checked (rep
 Facing f g after s at rest (Err k) = Err k ≡ checked (repeat (suc rest) f (drop at s))
 
 abbrev pub DataFront : Scope → List ℕ → ℕ → ℕ → Result Front Refusal → Type 0
-DataFront P s at rest r = Facing (read_data 1 P) (repeat 1 (read_cond 1 P)) (rest + 2) s at rest r
+DataFront P s at rest r = Facing (read_data P) (repeat 1 (read_cond P)) (rest + 2) s at rest r
 
 abbrev pub CondFront : Scope → List ℕ → ℕ → ℕ → Result Front Refusal → Type 0
-CondFront P s at rest r = Facing (read_cond 1 P) (repeat 2 (read_data 1 P)) rest s at rest r
+CondFront P s at rest r = Facing (read_cond P) (repeat 2 (read_data P)) rest s at rest r

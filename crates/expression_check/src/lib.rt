@@ -97,7 +97,7 @@ fn cond_front(s: &[u16], at: usize, rest: usize, c: Scope) -> Result<Front, Refu
 #[tactic(auto, using(crate::proofs::RowCases::rows))]
 fn data_row(s: &[u16], n: usize, c: Scope) -> Result<usize, Refusal>
     requires { n ≤ 2 }
-    ensures { result ≡ checked (repeat n (read_data 1 (scope c)) s.now) }
+    ensures { result ≡ checked (repeat n (read_data (scope c)) s.now) }
 {
     let mut at = 0;
     let mut more = n;
@@ -125,7 +125,7 @@ fn data_row(s: &[u16], n: usize, c: Scope) -> Result<usize, Refusal>
 #[tactic(auto, using(crate::proofs::RowCases::rows))]
 fn cond_row(s: &[u16], n: usize, c: Scope) -> Result<usize, Refusal>
     requires { n ≤ 2 }
-    ensures { result ≡ checked (repeat n (read_cond 1 (scope c)) s.now) }
+    ensures { result ≡ checked (repeat n (read_cond (scope c)) s.now) }
 {
     let mut at = 0;
     let mut more = n;
@@ -150,14 +150,14 @@ fn cond_row(s: &[u16], n: usize, c: Scope) -> Result<usize, Refusal>
 
 #[tactic(auto, using(crate::proofs::RowCases::rows))]
 pub fn check_data(s: &[u16], c: Scope) -> Result<usize, Refusal>
-    ensures { result ≡ checked (read_data 1 (scope c) s.now) }
+    ensures { result ≡ checked (read_data (scope c) s.now) }
 {
     data_row(s, 1, c)
 }
 
 #[tactic(auto, using(crate::proofs::RowCases::rows))]
 pub fn check_cond(s: &[u16], c: Scope) -> Result<usize, Refusal>
-    ensures { result ≡ checked (read_cond 1 (scope c) s.now) }
+    ensures { result ≡ checked (read_cond (scope c) s.now) }
 {
     cond_row(s, 1, c)
 }

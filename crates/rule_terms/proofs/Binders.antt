@@ -36,26 +36,26 @@ use Rattle.rule_terms.specs.declared.Quantifier.TheVariants.{Choice, Parallel}
 -- ── a condition, then a term ──
 
 -- A condition's size is the words that it took.
-words_taken : (P : Scope) (t : List ℕ) (C : Cond) (u : List ℕ) → read_cond 1 P t ≡ taken C u → length t - length u ≡ guard_size 1 C
+words_taken : (P : Scope) (t : List ℕ) (C : Cond) (u : List ℕ) → read_cond P t ≡ taken C u → length t - length u ≡ guard_size 1 C
 words_taken P t C u e =
-    let h : (t ≡ cond_words 1 C ++ u) × CondInScope C P = subst (λ r. Sound (cond_words 1) (λ D. CondInScope D P) t r) e (cond_sound 1 P t) in
+    let h : (t ≡ cond_words 1 C ++ u) × CondInScope C P = subst (λ r. Sound (cond_words 1) (λ D. CondInScope D P) t r) e (cond_sound P t) in
     omega (arith, ap length h.0, length-append (cond_words 1 C) u, cond_length 1 C, guard_size_one C)
 
 -- b is the number of functions, as the code has it
-pub condition_in : (T Γ t : List ℕ) (b : ℕ) (p : Checked) → b ≡ function_count T → p ≡ checked (read_cond 1 (record { edition = edition_in T; arity = λ f. 1; now = b; before = 0; variables = length Γ }) t)
-    → p ≡ checked (read_cond 1 (guard_scope (attributes (declared T)) (length Γ)) t)
-condition_in T Γ t b p i e = e ∙ (λ j. checked (read_cond 1 (record { edition = edition_in T; arity = λ f. 1; now = i j; before = 0; variables = length Γ }) t))
-    ∙ ap (λ P. checked (read_cond 1 P t)) (sym (guard_declared T (length Γ)))
+pub condition_in : (T Γ t : List ℕ) (b : ℕ) (p : Checked) → b ≡ function_count T → p ≡ checked (read_cond (record { edition = edition_in T; arity = λ f. 1; now = b; before = 0; variables = length Γ }) t)
+    → p ≡ checked (read_cond (guard_scope (attributes (declared T)) (length Γ)) t)
+condition_in T Γ t b p i e = e ∙ (λ j. checked (read_cond (record { edition = edition_in T; arity = λ f. 1; now = i j; before = 0; variables = length Γ }) t))
+    ∙ ap (λ P. checked (read_cond P t)) (sym (guard_declared T (length Γ)))
 
 module _ (T Γ : List ℕ) where
   abbrev conditions : Reader Cond
-  conditions = read_cond (declared T).edition.width (guard_scope (attributes (declared T)) (length Γ))
+  conditions = read_cond (guard_scope (attributes (declared T)) (length Γ))
 
-  module _ (t : List ℕ) (p : Checked) (e : p ≡ checked (read_cond 1 (guard_scope (attributes (declared T)) (length Γ)) t)) where
+  module _ (t : List ℕ) (p : Checked) (e : p ≡ checked (read_cond (guard_scope (attributes (declared T)) (length Γ)) t)) where
     abbrev guards : Read RuleTerm
     guards = giving (λ s. rule_guard s.0 s.1) (both conditions (terms T Γ) t)
 
-    width_one : read_cond 1 (guard_scope (attributes (declared T)) (length Γ)) t ≡ conditions t
+    width_one : read_cond (guard_scope (attributes (declared T)) (length Γ)) t ≡ conditions t
     unfolding declared
     width_one = refl
 

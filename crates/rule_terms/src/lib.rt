@@ -133,7 +133,7 @@ fn in_parallel(t: &[u16], context: &Context) -> Result<Weighed, Refusal>
 // in the frame with what `operand` gives.
 #[tactic(auto, using(crate::proofs::Binders::condition_in))]
 fn condition(t: &[u16], context: &Context) -> Result<usize, Refusal>
-    ensures { result ≡ checked (read_cond 1 (guard_scope (attributes (declared context.now.tables.now)) (length context.now.variables.now)) t.now) }
+    ensures { result ≡ checked (read_cond (guard_scope (attributes (declared context.now.tables.now)) (length context.now.variables.now)) t.now) }
 {
     let c = Scope {
         variables: context.variables.len(),

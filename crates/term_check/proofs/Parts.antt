@@ -134,23 +134,23 @@ pub ruleset parallels = (parallel_none, parallel_in)
 -- ── a condition, then a term ──
 
 -- A condition's size is the words that it took.
-words_taken : (P : Scope) (t : List ℕ) (C : Cond) (u : List ℕ) → read_cond 1 P t ≡ taken C u → length t - length u ≡ cond_size 1 C
+words_taken : (P : Scope) (t : List ℕ) (C : Cond) (u : List ℕ) → read_cond P t ≡ taken C u → length t - length u ≡ cond_size 1 C
 words_taken P t C u e =
-    let h : (t ≡ cond_words 1 C ++ u) × CondInScope C P = subst (λ r. Sound (cond_words 1) (λ D. CondInScope D P) t r) e (cond_sound 1 P t) in
+    let h : (t ≡ cond_words 1 C ++ u) × CondInScope C P = subst (λ r. Sound (cond_words 1) (λ D. CondInScope D P) t r) e (cond_sound P t) in
     omega (arith, ap length h.0, length-append (cond_words 1 C) u, cond_length 1 C)
 
 -- b is the number of functions, as the code has it
-module _ (T t : List ℕ) (b : ℕ) (p : Checked) (i : b ≡ function_count T) (e : p ≡ checked (read_cond 1 (record { edition = edition_in T; arity = λ f. 1; now = b; before = 0; variables = 0 }) t)) where
+module _ (T t : List ℕ) (b : ℕ) (p : Checked) (i : b ≡ function_count T) (e : p ≡ checked (read_cond (record { edition = edition_in T; arity = λ f. 1; now = b; before = 0; variables = 0 }) t)) where
   abbrev conditions : Reader Cond
-  conditions = read_cond (declared T).edition.width (guard_scope (attributes (declared T)) 0)
+  conditions = read_cond (guard_scope (attributes (declared T)) 0)
 
-  width_one : read_cond 1 (guard_scope (attributes (declared T)) 0) t ≡ conditions t
+  width_one : read_cond (guard_scope (attributes (declared T)) 0) t ≡ conditions t
   unfolding declared
   width_one = refl
 
   in_scope : p ≡ checked (conditions t)
-  in_scope = e ∙ (λ j. checked (read_cond 1 (record { edition = edition_in T; arity = λ f. 1; now = i j; before = 0; variables = 0 }) t))
-      ∙ ap (λ P. checked (read_cond 1 P t)) (sym (guard_declared T 0)) ∙ ap checked width_one
+  in_scope = e ∙ (λ j. checked (read_cond (record { edition = edition_in T; arity = λ f. 1; now = i j; before = 0; variables = 0 }) t))
+      ∙ ap (λ P. checked (read_cond P t)) (sym (guard_declared T 0)) ∙ ap checked width_one
 
   pub guarded_none : (k : Refusal) → p ≡ Err k → wrong ≡ weighed_running (term_by (declared T) (read_term (declared T)) TermKind.guard t)
   guarded_none k h = refused_wrong _ k (giving_refused_as _ _ k (both_first_as conditions (reads T) t k (checked_refused (conditions t) k (sym h ∙ in_scope))))

@@ -15,8 +15,8 @@ module _ (L : Edition) (d : ℕ) (labels : List (List ℕ)) (counts : List ℕ) 
   unfolding read_function
   function_ends i t =
       let parameters = repeat (count_for counts i) (number_of 5 d) in
-      let start = read_data L.width (at_start_scope L counts i) in
-      let later = for_each labels (λ ds. read_data L.width (at_label_scope L counts i (length ds))) in
+      let start = read_data (at_start_scope L counts i) in
+      let later = for_each labels (λ ds. read_data (at_label_scope L counts i (length ds))) in
       giving_fine function_from t (both parameters (both start later) t)
       (both_ends parameters (both start later) (repeat_ends (count_for counts i) (number_of 5 d) (number_ends 5 d))
       (both_ends start later (data_ends L.width (at_start_scope L counts i)) (for_each_ends labels _ (λ ds. data_ends L.width (at_label_scope L counts i (length ds))))) t)

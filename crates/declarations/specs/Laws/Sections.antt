@@ -76,7 +76,7 @@ abbrev One : Function → Type 0
 One F = length F.parameters ≡ 1
 
 abbrev expressions_of : Edition → List (List ℕ) → ℕ → ℕ → Reader (Data × List Data)
-expressions_of L labels n i = both (read_data L.width (at_start_scope L (replicate n 1) i)) (for_each labels (λ ds. read_data L.width (at_label_scope L (replicate n 1) i (length ds))))
+expressions_of L labels n i = both (read_data (at_start_scope L (replicate n 1) i)) (for_each labels (λ ds. read_data (at_label_scope L (replicate n 1) i (length ds))))
 
 function_gives : (L : Edition) (D : ℕ) (labels : List (List ℕ)) (n i : ℕ) (t : List ℕ) → Gives One (read_function L D labels (replicate n 1) i t)
 unfolding read_function

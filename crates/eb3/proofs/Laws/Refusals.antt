@@ -123,10 +123,10 @@ constant_refuses : (w top : ℕ) → AllRefuse (constant_of w top)
 unfolding constant_of
 constant_refuses w top t = then_refuses _ (λ v u. picked Refuses (leb v top) (taken v u) (refused Refusal.form) tt by_form) (number_in w t) (number_in_refuses w t)
 
-module _ (w : ℕ) (P : Scope) (e : Readers) (d : AllRefuse e.datum) (c : AllRefuse e.condition) where
-  data_by_refuses : (k : DataKind) → AllRefuse (data_by w P e k)
+module _ (P : Scope) (e : Readers) (d : AllRefuse e.datum) (c : AllRefuse e.condition) where
+  data_by_refuses : (k : DataKind) → AllRefuse (data_by P e k)
   data_by_refuses DataKind.undefined t = tt
-  data_by_refuses DataKind.constant t = giving_refuses _ (constant_of w P.edition.top t) (constant_refuses w P.edition.top t)
+  data_by_refuses DataKind.constant t = giving_refuses _ (constant_of P.edition.width P.edition.top t) (constant_refuses P.edition.width P.edition.top t)
   data_by_refuses DataKind.variable t = giving_refuses _ (number_of Refusal.reference P.variables t) (number_refuses Refusal.reference P.variables by_reference t)
   data_by_refuses (DataKind.pair k) t = giving_refuses _ (both e.datum e.datum t) (both_refuses e.datum e.datum d d t)
   data_by_refuses DataKind.select t = giving_refuses _ (both e.condition (both e.datum e.datum) t) (both_refuses e.condition (both e.datum e.datum) c (both_refuses e.datum e.datum d d) t)
@@ -140,7 +140,7 @@ module _ (w : ℕ) (P : Scope) (e : Readers) (d : AllRefuse e.datum) (c : AllRef
   cond_by_refuses CondKind.always t = tt
   cond_by_refuses CondKind.wrong t = by_form
 
-  data_step_refuses : AllRefuse (data_step w P e)
+  data_step_refuses : AllRefuse (data_step P e)
   data_step_refuses [] = by_form
   data_step_refuses (k ∷ t) = data_by_refuses (data_kind P k) t
 
@@ -148,20 +148,20 @@ module _ (w : ℕ) (P : Scope) (e : Readers) (d : AllRefuse e.datum) (c : AllRef
   cond_step_refuses [] = by_form
   cond_step_refuses (k ∷ t) = cond_by_refuses (cond_kind k) t
 
-readers_refuse : (w : ℕ) (P : Scope) (n : ℕ) → AllRefuse (readers w P n).datum × AllRefuse (readers w P n).condition
+readers_refuse : (P : Scope) (n : ℕ) → AllRefuse (readers P n).datum × AllRefuse (readers P n).condition
 unfolding readers
-readers_refuse w P zero = (λ t. by_form, λ t. by_form)
-readers_refuse w P (suc n) =
-    let h = readers_refuse w P n in
-    (data_step_refuses w P (readers w P n) h.0 h.1, cond_step_refuses w P (readers w P n) h.0 h.1)
+readers_refuse P zero = (λ t. by_form, λ t. by_form)
+readers_refuse P (suc n) =
+    let h = readers_refuse P n in
+    (data_step_refuses P (readers P n) h.0 h.1, cond_step_refuses P (readers P n) h.0 h.1)
 
-data_refuses : (w : ℕ) (P : Scope) → AllRefuse (read_data w P)
+data_refuses : (P : Scope) → AllRefuse (read_data P)
 unfolding read_data
-data_refuses w P t = (readers_refuse w P (length t)).0 t
+data_refuses P t = (readers_refuse P (length t)).0 t
 
-cond_refuses : (w : ℕ) (P : Scope) → AllRefuse (read_cond w P)
+cond_refuses : (P : Scope) → AllRefuse (read_cond P)
 unfolding read_cond
-cond_refuses w P t = (readers_refuse w P (length t)).1 t
+cond_refuses P t = (readers_refuse P (length t)).1 t
 
 mask_refuses : (k n : ℕ) → AllRefuse (mask_of k n)
 unfolding mask_of
@@ -192,8 +192,8 @@ module _ (R : RuleSet) where
     rule_by_refuses RuleKind.star t = giving_refuses _ (e Γ t) (h Γ t)
     rule_by_refuses RuleKind.parallel t = giving_refuses _ (both (mask_of 4 (length R.labels)) (both (e Γ) (e Γ)) t)
         (both_refuses (mask_of 4 (length R.labels)) (both (e Γ) (e Γ)) (mask_refuses 4 (length R.labels)) (both_refuses (e Γ) (e Γ) (h Γ) (h Γ)) t)
-    rule_by_refuses RuleKind.guard t = giving_refuses _ (both (read_cond R.edition.width (guard_scope (attributes R) (length Γ))) (e Γ) t)
-        (both_refuses (read_cond R.edition.width (guard_scope (attributes R) (length Γ))) (e Γ) (cond_refuses R.edition.width (guard_scope (attributes R) (length Γ))) (h Γ) t)
+    rule_by_refuses RuleKind.guard t = giving_refuses _ (both (read_cond (guard_scope (attributes R) (length Γ))) (e Γ) t)
+        (both_refuses (read_cond (guard_scope (attributes R) (length Γ))) (e Γ) (cond_refuses (guard_scope (attributes R) (length Γ))) (h Γ) t)
     rule_by_refuses RuleKind.choice_quantifier t = by_number_refuses (length R.domains) _ (λ d u. giving_refuses _ (e (Γ ++ (d ∷ [])) u) (h (Γ ++ (d ∷ [])) u)) t
     rule_by_refuses RuleKind.parallel_quantifier t = by_number_refuses (length R.domains) _ (λ d u. giving_refuses _ (both (mask_of 4 (length R.labels)) (e (Γ ++ (d ∷ []))) u)
         (both_refuses (mask_of 4 (length R.labels)) (e (Γ ++ (d ∷ []))) (mask_refuses 4 (length R.labels)) (h (Γ ++ (d ∷ []))) u)) t
@@ -221,8 +221,8 @@ module _ (L : Edition) where
   unfolding read_function
   function_refuses domains labels counts i t = giving_refuses function_from _ (both_refuses (repeat (count_for counts i) (number_of Refusal.reference domains)) _
       (repeat_refuses (count_for counts i) (number_of Refusal.reference domains) (number_refuses Refusal.reference domains by_reference))
-      (both_refuses (read_data L.width (at_start_scope L counts i)) _ (data_refuses L.width (at_start_scope L counts i))
-      (for_each_refuses labels _ (λ ds. data_refuses L.width (at_label_scope L counts i (length ds))))) t)
+      (both_refuses (read_data (at_start_scope L counts i)) _ (data_refuses (at_start_scope L counts i))
+      (for_each_refuses labels _ (λ ds. data_refuses (at_label_scope L counts i (length ds))))) t)
 
   functions_refuse : (domains : ℕ) (labels : List (List ℕ)) → AllRefuse (read_functions L domains labels)
   unfolding read_functions read_parameter_counts

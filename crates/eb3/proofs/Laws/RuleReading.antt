@@ -76,8 +76,8 @@ module _ (L : Edition) (domains : ℕ) (labels : List (List ℕ)) where
   function_sound counts i t = two_sound (concat_map one_word) (ParametersRead domains counts i) (spell_both D At (concat_map D) Ls) (Both D At (concat_map D) Ls) (function_words L.width) (FunctionRead counts i)
       (λ ds p. function_from (ds, p)) [] (repeat (count_for counts i) number) (both start each)
       (repeat_sound one_word (λ d. d < domains) number (number_sound Refusal.reference domains) (count_for counts i))
-      (both_sound D At (concat_map D) Ls start each (data_sound L.width (at_start_scope L counts i))
-      (for_each_sound D (AtLabel L counts i) (λ ds. read_data L.width (at_label_scope L counts i (length ds))) (λ ds. data_sound L.width (at_label_scope L counts i (length ds))) labels))
+      (both_sound D At (concat_map D) Ls start each (data_sound (at_start_scope L counts i))
+      (for_each_sound D (AtLabel L counts i) (λ ds. read_data (at_label_scope L counts i (length ds))) (λ ds. data_sound (at_label_scope L counts i (length ds))) labels))
       (λ ds p. refl) (λ ds p h q. (h, q)) t
     where
       D : Data → List ℕ
@@ -93,10 +93,10 @@ module _ (L : Edition) (domains : ℕ) (labels : List (List ℕ)) where
       number = number_of Refusal.reference domains
 
       start : Reader Data
-      start = read_data L.width (at_start_scope L counts i)
+      start = read_data (at_start_scope L counts i)
 
       each : Reader (List Data)
-      each = for_each labels (λ ds. read_data L.width (at_label_scope L counts i (length ds)))
+      each = for_each labels (λ ds. read_data (at_label_scope L counts i (length ds)))
 
   function_counts : (counts : List ℕ) (Fs : List Function) → length counts ≡ length Fs → AllFrom (FunctionRead counts) 0 Fs → counts ≡ map parameter_count Fs
   function_counts counts Fs e h = counts_are counts Fs e (λ i l. let z : 0 + i ≡ i = omega arith in subst (λ j. parameter_count (get_or Fs i no_rule) ≡ count_for counts j) z (all_from_at (FunctionRead counts) 0 Fs h i no_rule l).0.0)

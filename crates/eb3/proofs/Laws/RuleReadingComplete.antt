@@ -120,7 +120,7 @@ module _ (R : RuleSet) (positive : 1 ≤ R.edition.width) (small : (d : ℕ) →
           Δ (E, F) rest h.0.0 ((h.0.1, front_within (words E) (words F) n l), (h.0.2, back_within (words E) (words F) n l))
       step_takes Γ (rule_guard C E) rest h =
           let G : Scope = guard_scope (attributes R) (length Γ) in
-          two_takes (cond_words R.edition.width) (λ C. CondInScope C G) words (Bounded n Γ) rule_guard (read_cond R.edition.width G) (e Γ) (cond_takes R.edition.width positive G) (operand Γ)
+          two_takes (cond_words R.edition.width) (λ C. CondInScope C G) words (Bounded n Γ) rule_guard (read_cond G) (e Γ) (cond_takes G positive) (operand Γ)
           C E rest h.0.0 (h.0.1, back_within (cond_words R.edition.width C) (words E) n (omega arith))
       step_takes Γ (choice_over d E) rest h =
           quantifier_takes RuleKind.choice_quantifier Γ (d ∷ (words E ++ rest)) h.0.1
@@ -291,14 +291,14 @@ module _ (L : Edition) (domains : List ℕ) (labels : List (List ℕ)) (function
       function_takes f F rest h =
           let w : ℕ = L.width in
           let number : Reader ℕ = number_of Refusal.reference (length domains) in
-          let at_start : Reader Data = read_data w (at_start_scope L counts f) in
-          let at_label : List ℕ → Reader Data = λ ds. read_data w (at_label_scope L counts f (length ds)) in
+          let at_start : Reader Data = read_data (at_start_scope L counts f) in
+          let at_label : List ℕ → Reader Data = λ ds. read_data (at_label_scope L counts f (length ds)) in
           ap (giving function_from)
           (both_takes (concat_map one_word) (Parameters f) (spell_both (data_words w) (AtStart f) (concat_map (data_words w)) (AllFor (AtLabel f) labels)) (Both (data_words w) (AtStart f) (concat_map (data_words w)) (AllFor (AtLabel f) labels))
           (repeat (count_for counts f) number) (both at_start (for_each labels at_label))
           (exactly_takes one_word (λ d. d < length domains) number (number_takes Refusal.reference (length domains)) (count_for counts f))
           (both_takes (data_words w) (AtStart f) (concat_map (data_words w)) (AllFor (AtLabel f) labels) at_start (for_each labels at_label)
-          (data_takes w positive (at_start_scope L counts f)) (for_each_takes (data_words w) (AtLabel f) at_label (λ ds. data_takes w positive (at_label_scope L counts f (length ds))) labels))
+          (data_takes (at_start_scope L counts f) positive) (for_each_takes (data_words w) (AtLabel f) at_label (λ ds. data_takes (at_label_scope L counts f (length ds)) positive) labels))
           (F.parameters, (F.at_start, F.at_label)) rest h)
 
       functions_take : (rest : List ℕ) → read_functions L (length domains) labels (functions_words L functions ++ rest) ≡ taken functions rest

@@ -93,7 +93,7 @@ module _ (R : RuleSet) where
 
     guard_at : At 26 RuleKind.guard
     unfolding rule_words
-    guard_at = two_sound (cond_words R.edition.width) (λ c. CondInScope c scope) W (Ok Γ) W (Ok Γ) rule_guard (26 ∷ []) (read_cond R.edition.width scope) (e Γ) (cond_sound R.edition.width scope) (h Γ) (λ c E. refl) (λ c E p q. (p, q)) t
+    guard_at = two_sound (cond_words R.edition.width) (λ c. CondInScope c scope) W (Ok Γ) W (Ok Γ) rule_guard (26 ∷ []) (read_cond scope) (e Γ) (cond_sound scope) (h Γ) (λ c E. refl) (λ c E p q. (p, q)) t
       where
         scope : Scope
         scope = guard_scope (attributes R) (length Γ)

@@ -82,7 +82,7 @@ module _ (R Q : RuleSet) (a : Alike R Q) where
     by_alike RuleKind.action = action_alike Γ t
     by_alike RuleKind.star = refl
     by_alike RuleKind.parallel = λ i. giving (λ p. rule_parallel p.0 p.1.0 p.1.1) (both (mask_of 4 (length (a.same_labels i))) (both (e Γ) (e Γ)) t)
-    by_alike RuleKind.guard = λ i. giving (λ p. rule_guard p.0 p.1) (both (read_cond (a.same_edition i).width (a.same_guards (length Γ) i)) (e Γ) t)
+    by_alike RuleKind.guard = λ i. giving (λ p. rule_guard p.0 p.1) (both (read_cond (a.same_guards (length Γ) i)) (e Γ) t)
     by_alike RuleKind.choice_quantifier = λ i. by_number Refusal.reference (length (a.same_domains i)) (λ d u. giving (choice_over d) (e (Γ ++ (d ∷ [])) u)) t
     by_alike RuleKind.parallel_quantifier = λ i. by_number Refusal.reference (length (a.same_domains i)) (λ d u. giving (λ p. parallel_over d p.0 p.1) (both (mask_of 4 (length (a.same_labels i))) (e (Γ ++ (d ∷ []))) u)) t
     by_alike RuleKind.process_call = call_alike Γ t

@@ -96,7 +96,7 @@ module _ (R : RuleSet) where
   mask = mask_of 4 (length R.labels)
 
   abbrev guard : Reader Cond
-  guard = read_cond R.edition.width (guard_scope (attributes R) 0)
+  guard = read_cond (guard_scope (attributes R) 0)
 
   module _ (e : Reader Term) (h : Sounds spelled (WellFormedTerm R) e) (t : List ℕ) where
     -- After code n, read as of kind k, reading the rest t is sound for the words n ∷ t.
@@ -120,7 +120,7 @@ module _ (R : RuleSet) where
     guard_at : TermAt 26 TermKind.guard
     unfolding words
     guard_at = two_sound (cond_words R.edition.width) GuardScope spelled (WellFormedTerm R) spelled (WellFormedTerm R) Guard (26 ∷ []) guard e
-        (cond_sound R.edition.width (guard_scope (attributes R) 0)) h (λ C E. refl) (λ C E p q. (p, q)) t
+        (cond_sound (guard_scope (attributes R) 0)) h (λ C E. refl) (λ C E p q. (p, q)) t
 
     term_at : (n : ℕ) → TermAt n (term_kind n)
     unfolding words
@@ -173,7 +173,7 @@ module _ (R : RuleSet) (positive : 1 ≤ R.edition.width) where
         (λ Δ p. Parallel Δ p.0 p.1) (mask R) (both e e) (mask_takes 4 (length R.labels)) (both_takes (spelled R) (TermTo n) (spelled R) (TermTo n) e e t t)
         Δ (E, F) rest h.0.0 ((h.0.1, omega (arith, h.1)), (h.0.2, omega (arith, h.1)))
     term_step_takes (Guard C E) rest h = two_takes (cond_words R.edition.width) (GuardScope R) (spelled R) (TermTo n) Guard (guard R) e
-        (cond_takes R.edition.width positive (guard_scope (attributes R) 0)) t C E rest h.0.0 (h.0.1, omega (arith, h.1))
+        (cond_takes (guard_scope (attributes R) 0) positive) t C E rest h.0.0 (h.0.1, omega (arith, h.1))
 
   terms_take : (n : ℕ) → Takes (spelled R) (TermTo n) (terms R n)
   unfolding terms

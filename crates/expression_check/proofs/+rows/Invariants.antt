@@ -12,13 +12,13 @@ abbrev pub decreases-data_row : goal.decreases-data_row
 decreases-data_row l = length l.s.now
 
 abbrev pub invariant-cond_row-loop-more : goal.invariant-cond_row-loop-more
-invariant-cond_row-loop-more l = Going (read_cond 1 (scope l.c)) l.s l.n l.at l.more
+invariant-cond_row-loop-more l = Going (read_cond (scope l.c)) l.s l.n l.at l.more
 
 abbrev pub decreases-cond_row-loop-more : goal.decreases-cond_row-loop-more
 decreases-cond_row-loop-more l = length l.s - l.at
 
 abbrev pub invariant-data_row-loop-more : goal.invariant-data_row-loop-more
-invariant-data_row-loop-more l = Going (read_data 1 (scope l.c)) l.s l.n l.at l.more
+invariant-data_row-loop-more l = Going (read_data (scope l.c)) l.s l.n l.at l.more
 
 abbrev pub decreases-data_row-loop-more : goal.decreases-data_row-loop-more
 decreases-data_row-loop-more l = length l.s - l.at

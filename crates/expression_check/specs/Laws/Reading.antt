@@ -38,13 +38,13 @@ args_ends d h zero t = tail_here t
 args_ends d h (suc n) t = giving_fine (λ p. Cons p.0 p.1) t (both d (args_of d n) t) (both_ends d (args_of d n) h (args_ends d h n) t)
 
 -- Of readers whose operands are read to an end.
-module _ (width : ℕ) (P : Scope) (e : Readers) (d : Ends e.datum) (c : Ends e.condition) where
+module _ (P : Scope) (e : Readers) (d : Ends e.datum) (c : Ends e.condition) where
   two_ends : Ends (both e.datum e.datum)
   two_ends = both_ends e.datum e.datum d d
 
-  data_by_ends : (k : DataKind) → Ends (data_by width P e k)
+  data_by_ends : (k : DataKind) → Ends (data_by P e k)
   data_by_ends DataKind.undefined t = tail_here t
-  data_by_ends DataKind.constant t = giving_fine Constant t (constant_of width P.edition.top t) (constant_ends width P.edition.top t)
+  data_by_ends DataKind.constant t = giving_fine Constant t (constant_of P.edition.width P.edition.top t) (constant_ends P.edition.width P.edition.top t)
   data_by_ends DataKind.variable t = giving_fine Variable t (number_of 5 P.variables t) (number_ends 5 P.variables t)
   data_by_ends (DataKind.pair k) t = giving_fine (λ p. k p.0 p.1) t (both e.datum e.datum t) (two_ends t)
   data_by_ends DataKind.select t = giving_fine (λ p. If p.0 p.1.0 p.1.1) t (both e.condition (both e.datum e.datum) t) (both_ends e.condition (both e.datum e.datum) c two_ends t)
@@ -58,28 +58,28 @@ module _ (width : ℕ) (P : Scope) (e : Readers) (d : Ends e.datum) (c : Ends e.
   cond_by_ends CondKind.always t = tail_here t
   cond_by_ends CondKind.wrong t = tt
 
-  data_step_ends : Ends (data_step width P e)
+  data_step_ends : Ends (data_step P e)
   data_step_ends [] = tt
-  data_step_ends (w ∷ t) = step_fine w t (data_by width P e (data_kind P w) t) (data_by_ends (data_kind P w) t)
+  data_step_ends (w ∷ t) = step_fine w t (data_by P e (data_kind P w) t) (data_by_ends (data_kind P w) t)
 
   cond_step_ends : Ends (cond_step e)
   cond_step_ends [] = tt
   cond_step_ends (w ∷ t) = step_fine w t (cond_by e (cond_kind w) t) (cond_by_ends (cond_kind w) t)
 
-pub readers_end : (width : ℕ) (P : Scope) (n : ℕ) → Ends (readers width P n).datum × Ends (readers width P n).condition
+pub readers_end : (P : Scope) (n : ℕ) → Ends (readers P n).datum × Ends (readers P n).condition
 unfolding readers
-readers_end width P zero = (λ s. tt, λ s. tt)
-readers_end width P (suc n) =
-    let h = readers_end width P n in
-    (data_step_ends width P (readers width P n) h.0 h.1, cond_step_ends width P (readers width P n) h.0 h.1)
+readers_end P zero = (λ s. tt, λ s. tt)
+readers_end P (suc n) =
+    let h = readers_end P n in
+    (data_step_ends P (readers P n) h.0 h.1, cond_step_ends P (readers P n) h.0 h.1)
 
-pub data_ends : (width : ℕ) (P : Scope) → Ends (read_data width P)
+pub data_ends : (P : Scope) → Ends (read_data P)
 unfolding read_data
-data_ends width P s = (readers_end width P (length s)).0 s
+data_ends P s = (readers_end P (length s)).0 s
 
-pub cond_ends : (width : ℕ) (P : Scope) → Ends (read_cond width P)
+pub cond_ends : (P : Scope) → Ends (read_cond P)
 unfolding read_cond
-cond_ends width P s = (readers_end width P (length s)).1 s
+cond_ends P s = (readers_end P (length s)).1 s
 
 -- ── agreement ──
 
@@ -91,11 +91,11 @@ unfolding args_of
 args_same s d g h i zero r le = refl
 args_same s d g h i (suc n) r le = ap (giving _) (both_same s d g (args_of d n) (args_of g n) h i (args_same s d g h i n) r le)
 
-module _ (width : ℕ) (P : Scope) (e f : Readers) (d : Ends e.datum) (c : Ends e.condition) (t : List ℕ) (h : Agree t e f) where
+module _ (P : Scope) (e f : Readers) (d : Ends e.datum) (c : Ends e.condition) (t : List ℕ) (h : Agree t e f) where
   two_same : Same t (both e.datum e.datum) (both f.datum f.datum)
   two_same = both_same t e.datum f.datum e.datum f.datum d h.0 h.0
 
-  pub data_by_same : (k : DataKind) → data_by width P e k t ≡ data_by width P f k t
+  pub data_by_same : (k : DataKind) → data_by P e k t ≡ data_by P f k t
   data_by_same DataKind.undefined = refl
   data_by_same DataKind.constant = refl
   data_by_same DataKind.variable = refl
@@ -114,12 +114,12 @@ module _ (width : ℕ) (P : Scope) (e f : Readers) (d : Ends e.datum) (c : Ends 
   cond_by_same CondKind.wrong = refl
 
 -- The readers themselves, at any depth that is enough.
-abbrev pub whole : ℕ → Scope → Readers
-whole width P = record { datum = read_data width P; condition = read_cond width P }
+abbrev pub whole : Scope → Readers
+whole P = record { datum = read_data P; condition = read_cond P }
 
-module _ (width : ℕ) (P : Scope) where
+module _ (P : Scope) where
   abbrev to : ℕ → Readers
-  to n = readers width P n
+  to n = readers P n
 
   enough : (n m : ℕ) (s : List ℕ) → length s ≤ n → length s ≤ m → ((to n).datum s ≡ (to m).datum s) × ((to n).condition s ≡ (to m).condition s)
   unfolding readers
@@ -130,30 +130,30 @@ module _ (width : ℕ) (P : Scope) where
   enough zero m (w ∷ t) p q = absurd (not-suc-le-zero p)
   enough (suc n) zero (w ∷ t) p q = absurd (not-suc-le-zero q)
   enough (suc n) (suc m) (w ∷ t) p q =
-      let i = readers_end width P n in
+      let i = readers_end P n in
       let h : Agree t (to n) (to m) = (
         λ r le. (enough n m r (le_trans le (le_of_suc-le-suc p)) (le_trans le (le_of_suc-le-suc q))).0,
         λ r le. (enough n m r (le_trans le (le_of_suc-le-suc p)) (le_trans le (le_of_suc-le-suc q))).1,
       ) in (
-        data_by_same width P (to n) (to m) i.0 i.1 t h (data_kind P w),
-        cond_by_same width P (to n) (to m) i.0 i.1 t h (cond_kind w),
+        data_by_same P (to n) (to m) i.0 i.1 t h (data_kind P w),
+        cond_by_same P (to n) (to m) i.0 i.1 t h (cond_kind w),
       )
 
-  to_whole : (t : List ℕ) → Agree t (to (length t)) (whole width P)
+  to_whole : (t : List ℕ) → Agree t (to (length t)) (whole P)
   unfolding read_data read_cond
   to_whole t = (λ r le. (enough (length t) (length r) r le (le_refl (length r))).0, λ r le. (enough (length t) (length r) r le (le_refl (length r))).1)
 
   -- What the first code says of the whole.
-  pub data_case : (s : List ℕ) (k : DataKind) → (length s ≡ 0 → ⊥) → data_kind P (get_or s 0 0) ≡ k → read_data width P s ≡ data_by width P (whole width P) k (drop 1 s)
+  pub data_case : (s : List ℕ) (k : DataKind) → (length s ≡ 0 → ⊥) → data_kind P (get_or s 0 0) ≡ k → read_data P s ≡ data_by P (whole P) k (drop 1 s)
   unfolding read_data readers
   data_case [] k h e = absurd (h refl)
   data_case (w ∷ t) k h e =
-      let i = readers_end width P (length t) in
-      data_by_same width P (to (length t)) (whole width P) i.0 i.1 t (to_whole t) (data_kind P w) ∙ ap (λ j. data_by width P (whole width P) j t) e
+      let i = readers_end P (length t) in
+      data_by_same P (to (length t)) (whole P) i.0 i.1 t (to_whole t) (data_kind P w) ∙ ap (λ j. data_by P (whole P) j t) e
 
-  pub cond_case : (s : List ℕ) (k : CondKind) → (length s ≡ 0 → ⊥) → cond_kind (get_or s 0 0) ≡ k → read_cond width P s ≡ cond_by (whole width P) k (drop 1 s)
+  pub cond_case : (s : List ℕ) (k : CondKind) → (length s ≡ 0 → ⊥) → cond_kind (get_or s 0 0) ≡ k → read_cond P s ≡ cond_by (whole P) k (drop 1 s)
   unfolding read_cond readers
   cond_case [] k h e = absurd (h refl)
   cond_case (w ∷ t) k h e =
-      let i = readers_end width P (length t) in
-      cond_by_same width P (to (length t)) (whole width P) i.0 i.1 t (to_whole t) (cond_kind w) ∙ ap (λ j. cond_by (whole width P) j t) e
+      let i = readers_end P (length t) in
+      cond_by_same P (to (length t)) (whole P) i.0 i.1 t (to_whole t) (cond_kind w) ∙ ap (λ j. cond_by (whole P) j t) e

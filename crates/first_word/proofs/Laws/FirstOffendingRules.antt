@@ -159,17 +159,17 @@ module _ (L : Edition) (one : 1 ≤ L.function_parameters) where
           (both_follows L D n number (both start each) (λ gs. replicate (parameters_of D i) function_parameter ++ gs) (λ gs. expressions L D i ++ gs)
           (repeat_follows (number_of Refusal.reference (length domains)) function_parameter (number_follows L D n (length domains) function_parameter (λ allowed_zeros w t gs. refl)) (count_for counts i))
           (both_follows L D n start each (λ gs. data_code (empty_trace_scope L D i) ∷ gs) (λ gs. map (λ ds. data_code (label_scope L D i (length ds))) labels ++ gs)
-          (data_follows L D (empty_trace_scope L D i) n)
-          (for_each_follows (λ ds. read_data L.width (at_label_scope L counts i (length ds))) (λ ds. data_code (label_scope L D i (length ds))) (λ ds. data_follows L D (label_scope L D i (length ds)) n) labels)))
+          (data_follows L D (empty_trace_scope L D i) refl n)
+          (for_each_follows (λ ds. read_data (at_label_scope L counts i (length ds))) (λ ds. data_code (label_scope L D i (length ds))) (λ ds. data_follows L D (label_scope L D i (length ds)) refl n) labels)))
         where
           number : Reader (List ℕ)
           number = repeat (count_for counts i) (number_of Refusal.reference (length domains))
 
           start : Reader Data
-          start = read_data L.width (at_start_scope L counts i)
+          start = read_data (at_start_scope L counts i)
 
           each : Reader (List Data)
-          each = for_each labels (λ ds. read_data L.width (at_label_scope L counts i (length ds)))
+          each = for_each labels (λ ds. read_data (at_label_scope L counts i (length ds)))
 
       series_follows : (k i : ℕ) → Follows L D n (series k i (read_function L (length domains) labels counts)) (λ gs. functions_from L D k i ++ gs)
       unfolding series followed

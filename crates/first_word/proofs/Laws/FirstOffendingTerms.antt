@@ -122,9 +122,9 @@ module _ (L : Edition) (domains : List ℕ) (labels : List (List ℕ)) (function
           (both_follows L declared n (rule_mask_of rules) (both (e Γ) (e Γ)) mask_due (λ gs. term (term gs)) (mask_follows L declared n 4 (length labels)) (both_follows L declared n (e Γ) (e Γ) term term (operand Γ) (operand Γ)))
 
       guard_follows : Follows L declared n (rule_by rules e Γ RuleKind.guard) (λ gs. condition_code (guard_scope L declared (length Γ)) ∷ term gs)
-      guard_follows = giving_follows L declared n (λ p. rule_guard p.0 p.1) (both (read_cond L.width (Scopes.guard_scope (attributes rules) (length Γ))) (e Γ)) (λ gs. condition_code (guard_scope L declared (length Γ)) ∷ term gs)
-          (both_follows L declared n (read_cond L.width (Scopes.guard_scope (attributes rules) (length Γ))) (e Γ) (λ gs. condition_code (guard_scope L declared (length Γ)) ∷ gs) term
-          (subst (λ P. Follows L declared n (read_cond L.width P) (λ gs. condition_code (guard_scope L declared (length Γ)) ∷ gs)) (same_scope (length Γ)) (condition_follows L declared (guard_scope L declared (length Γ)) n)) (operand Γ))
+      guard_follows = giving_follows L declared n (λ p. rule_guard p.0 p.1) (both (read_cond (Scopes.guard_scope (attributes rules) (length Γ))) (e Γ)) (λ gs. condition_code (guard_scope L declared (length Γ)) ∷ term gs)
+          (both_follows L declared n (read_cond (Scopes.guard_scope (attributes rules) (length Γ))) (e Γ) (λ gs. condition_code (guard_scope L declared (length Γ)) ∷ gs) term
+          (subst (λ P. Follows L declared n (read_cond P) (λ gs. condition_code (guard_scope L declared (length Γ)) ∷ gs)) (same_scope (length Γ)) (condition_follows L declared (guard_scope L declared (length Γ)) refl n)) (operand Γ))
 
       choice_over_follows : Follows L declared n (choice_over_of rules e Γ) (λ gs. choice_domain lower Γ ∷ gs)
       unfolding choice_over_of verdict judge

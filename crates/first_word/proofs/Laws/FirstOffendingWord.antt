@@ -2,7 +2,7 @@
 -- zeros are allowed at the end.
 use Rattle.std.specs.Prelude.{◌≡◌, Bool, T, eqb, ltb, leb, length}
 use Rattle.std.proofs.Math.Path.{refl, ap, sym}
-use Rattle.std.proofs.Common.{◌∙◌, arith}
+use Rattle.std.proofs.Common.{◌∙◌, subst, arith}
 use Rattle.std.proofs.Math.Bool.{true, false}
 use mathlib.Core.List.{List, [], ◌∷◌, ◌++◌}
 use Rattle.std.proofs.Math.Option.{Option, none, some}
@@ -149,12 +149,15 @@ module _ {A : Type 0} (L : Edition) (D : Declared) (due : ℕ → List ℕ → D
 
 -- ── data expressions and conditions ──
 
-module _ (L : Edition) (D : Declared) (P : Scope) where
-  constant_follows : (n : ℕ) → Follows L D n (constant_of L.width P.edition.top) (λ gs. constant P.edition.top L.width [] ∷ gs)
+module _ (L : Edition) (D : Declared) (P : Scope) (same : P.edition ≡ L) where
+  constant_at : (n : ℕ) → Follows L D n (constant_of L.width P.edition.top) (λ gs. constant P.edition.top L.width [] ∷ gs)
   unfolding constant_of verdict judge followed
-  constant_follows n = number_follows_in L D (constant P.edition.top) (λ v x. pick (leb v P.edition.top) x (some Refusal.form)) (λ v u. pick (leb v P.edition.top) (taken v u) (refused Refusal.form))
+  constant_at n = number_follows_in L D (constant P.edition.top) (λ v x. pick (leb v P.edition.top) x (some Refusal.form)) (λ v u. pick (leb v P.edition.top) (taken v u) (refused Refusal.form))
       (λ allowed_zeros vs w t gs. refl) (λ allowed_zeros vs w t gs. refl) (λ allowed_zeros m vs w t gs. refl)
       (λ v u g x h. ap (λ y. pick (leb v P.edition.top) y (some Refusal.form)) (h v) ∙ sym (followed_pick (leb v P.edition.top) (taken v u) (refused Refusal.form) g)) L.width n
+
+  constant_follows : (n : ℕ) → Follows L D n (constant_of P.edition.width P.edition.top) (λ gs. constant P.edition.top L.width [] ∷ gs)
+  constant_follows n = subst (λ (M : Edition). Follows L D n (constant_of M.width P.edition.top) (λ gs. constant P.edition.top L.width [] ∷ gs)) (sym same) (constant_at n)
 
   module _ (n : ℕ) (e : Readers) (d : Follows L D n e.datum (λ gs. data_code P ∷ gs)) (c : Follows L D n e.condition (λ gs. condition_code P ∷ gs)) where
     args_follow : (k : ℕ) → Follows L D n (args_of e.datum k) (λ gs. replicate k (data_code P) ++ gs)
@@ -171,22 +174,22 @@ module _ (L : Edition) (D : Declared) (P : Scope) where
     two_conditions k = giving_follows L D n (λ p. k p.0 p.1) (both e.condition e.condition) (λ gs. condition_code P ∷ condition_code P ∷ gs)
         (both_follows L D n e.condition e.condition (λ gs. condition_code P ∷ gs) (λ gs. condition_code P ∷ gs) c c)
 
-    select_follows : Follows L D n (data_by L.width P e DataKind.select) (λ gs. condition_code P ∷ data_code P ∷ data_code P ∷ gs)
+    select_follows : Follows L D n (data_by P e DataKind.select) (λ gs. condition_code P ∷ data_code P ∷ data_code P ∷ gs)
     select_follows = giving_follows L D n (λ p. If p.0 p.1.0 p.1.1) (both e.condition (both e.datum e.datum)) (λ gs. condition_code P ∷ data_code P ∷ data_code P ∷ gs)
         (both_follows L D n e.condition (both e.datum e.datum) (λ gs. condition_code P ∷ gs) (λ gs. data_code P ∷ data_code P ∷ gs) c
         (both_follows L D n e.datum e.datum (λ gs. data_code P ∷ gs) (λ gs. data_code P ∷ gs) d d))
 
-    attribute_follows : (k : ℕ → Args → Data) (limit : ℕ) → Follows L D n (data_by L.width P e (DataKind.attribute k limit)) (λ gs. function_number limit P ∷ gs)
+    attribute_follows : (k : ℕ → Args → Data) (limit : ℕ) → Follows L D n (data_by P e (DataKind.attribute k limit)) (λ gs. function_number limit P ∷ gs)
     unfolding verdict judge
     attribute_follows k limit = by_number_follows L D n limit (function_number limit P) (λ f gs. replicate (P.arity f) (data_code P) ++ gs) (λ f u. giving (k f) (args_of e.datum (P.arity f) u))
         (λ allowed_zeros w t gs. refl) (λ f b. giving_follows L D n (k f) (args_of e.datum (P.arity f)) (λ gs. replicate (P.arity f) (data_code P) ++ gs) (args_follow (P.arity f)))
 
     module _ (allowed_zeros : ℕ) (gs : List Due) (t : List ℕ) (l : length t ≤ n) where
-      data_at : (g : Data → List ℕ → Option ℕ) → ((a : Data) (u : List ℕ) → length u ≤ n → verdict allowed_zeros L u D gs ≡ g a u) → (w : ℕ) → coded L D allowed_zeros (data_operands L P w) t gs ≡ followed (data_by L.width P e (data_kind P w) t) g
+      data_at : (g : Data → List ℕ → Option ℕ) → ((a : Data) (u : List ℕ) → length u ≤ n → verdict allowed_zeros L u D gs ≡ g a u) → (w : ℕ) → coded L D allowed_zeros (data_operands L P w) t gs ≡ followed (data_by P e (data_kind P w) t) g
       unfolding coded followed verdict judge
       data_at g h w =
           alike Q (eqb w 0) _ _ _ _ (h Undefined t l)
-          (alike Q (eqb w 1) _ _ _ _ (giving_follows L D n Constant (constant_of L.width P.edition.top) (λ gs. constant P.edition.top L.width [] ∷ gs) (constant_follows n) allowed_zeros gs g t l h)
+          (alike Q (eqb w 1) _ _ _ _ (giving_follows L D n Constant (constant_of P.edition.width P.edition.top) (λ gs. constant P.edition.top L.width [] ∷ gs) (constant_follows n) allowed_zeros gs g t l h)
           (alike Q (eqb w 2) _ _ _ _ (giving_follows L D n Variable (number_of Refusal.reference P.variables) (λ gs. variable_number P ∷ gs) (number_follows L D n P.variables (variable_number P) (λ allowed_zeros w t gs. refl)) allowed_zeros gs g t l h)
           (alike Q (eqb w 3) _ _ _ _ (two_data Add allowed_zeros gs g t l h)
           (alike Q (eqb w 4) _ _ _ _ (two_data Subtract allowed_zeros gs g t l h)
@@ -196,7 +199,7 @@ module _ (L : Edition) (D : Declared) (P : Scope) where
           refl)))))))
         where
           Q : Option (List Due) → DataKind → Type 0
-          Q o k = coded L D allowed_zeros o t gs ≡ followed (data_by L.width P e k t) g
+          Q o k = coded L D allowed_zeros o t gs ≡ followed (data_by P e k t) g
 
       condition_at : (g : Cond → List ℕ → Option ℕ) → ((a : Cond) (u : List ℕ) → length u ≤ n → verdict allowed_zeros L u D gs ≡ g a u) → (w : ℕ) → coded L D allowed_zeros (condition_operands P w) t gs ≡ followed (cond_by e (cond_kind w) t) g
       unfolding coded followed
@@ -212,7 +215,7 @@ module _ (L : Edition) (D : Declared) (P : Scope) where
           Q : Option (List Due) → CondKind → Type 0
           Q o k = coded L D allowed_zeros o t gs ≡ followed (cond_by e k t) g
 
-    data_step_follows : Follows L D (suc n) (data_step L.width P e) (λ gs. data_code P ∷ gs)
+    data_step_follows : Follows L D (suc n) (data_step P e) (λ gs. data_code P ∷ gs)
     unfolding verdict followed
     data_step_follows allowed_zeros gs g [] l h = refl
     data_step_follows allowed_zeros gs g (w ∷ t) l h = code_judged L D allowed_zeros (data_operands L P w) t gs ∙ data_at allowed_zeros gs t (omega arith) g (λ a u m. h a u (omega arith)) w
@@ -223,16 +226,16 @@ module _ (L : Edition) (D : Declared) (P : Scope) where
     condition_step_follows allowed_zeros gs g (w ∷ t) l h = code_judged L D allowed_zeros (condition_operands P w) t gs ∙ condition_at allowed_zeros gs t (omega arith) g (λ a u m. h a u (omega arith)) w
 
   -- So a depth of as many codes as there are words is enough, also for a refusal.
-  readers_follow : (n : ℕ) → Follows L D n (readers L.width P n).datum (λ gs. data_code P ∷ gs) × Follows L D n (readers L.width P n).condition (λ gs. condition_code P ∷ gs)
+  readers_follow : (n : ℕ) → Follows L D n (readers P n).datum (λ gs. data_code P ∷ gs) × Follows L D n (readers P n).condition (λ gs. condition_code P ∷ gs)
   unfolding readers
   readers_follow zero = (no_words L D (data_code P), no_words L D (condition_code P))
-  readers_follow (suc n) = let h = readers_follow n in (data_step_follows n (readers L.width P n) h.0 h.1, condition_step_follows n (readers L.width P n) h.0 h.1)
+  readers_follow (suc n) = let h = readers_follow n in (data_step_follows n (readers P n) h.0 h.1, condition_step_follows n (readers P n) h.0 h.1)
 
   -- On any words.
-  pub data_follows : (n : ℕ) → Follows L D n (read_data L.width P) (λ gs. data_code P ∷ gs)
+  pub data_follows : (n : ℕ) → Follows L D n (read_data P) (λ gs. data_code P ∷ gs)
   unfolding read_data
   data_follows n allowed_zeros gs g s l h = (readers_follow (length s)).0 allowed_zeros gs g s (omega arith) (λ a u m. h a u (omega arith))
 
-  pub condition_follows : (n : ℕ) → Follows L D n (read_cond L.width P) (λ gs. condition_code P ∷ gs)
+  pub condition_follows : (n : ℕ) → Follows L D n (read_cond P) (λ gs. condition_code P ∷ gs)
   unfolding read_cond
   condition_follows n allowed_zeros gs g s l h = (readers_follow (length s)).1 allowed_zeros gs g s (omega arith) (λ a u m. h a u (omega arith))

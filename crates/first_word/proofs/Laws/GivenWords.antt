@@ -104,12 +104,12 @@ module _ (R : RuleSet) where
     parallel_follows = giving_follows L D n (λ p. Parallel p.0 p.1.0 p.1.1) (both (mask_of 4 (length R.labels)) (both e e)) (λ gs. mask_due (term (term gs)))
         (both_follows L D n (mask_of 4 (length R.labels)) (both e e) mask_due (λ gs. term (term gs)) (mask_follows L D n 4 (length R.labels)) two_follow)
 
-    condition_in_guard : Follows L D n (read_cond L.width (Scopes.guard_scope (attributes R) 0)) guard_due
-    condition_in_guard = subst (λ P. Follows L D n (read_cond L.width P) guard_due) (same_scope R 0) (condition_follows L D (guard_scope L D 0) n)
+    condition_in_guard : Follows L D n (read_cond (Scopes.guard_scope (attributes R) 0)) guard_due
+    condition_in_guard = subst (λ P. Follows L D n (read_cond P) guard_due) (same_scope R 0) (condition_follows L D (guard_scope L D 0) refl n)
 
     guard_follows : Follows L D n (term_by R e TermKind.guard) (λ gs. guard_due (term gs))
-    guard_follows = giving_follows L D n (λ p. Guard p.0 p.1) (both (read_cond L.width (Scopes.guard_scope (attributes R) 0)) e) (λ gs. guard_due (term gs))
-        (both_follows L D n (read_cond L.width (Scopes.guard_scope (attributes R) 0)) e guard_due term condition_in_guard operand)
+    guard_follows = giving_follows L D n (λ p. Guard p.0 p.1) (both (read_cond (Scopes.guard_scope (attributes R) 0)) e) (λ gs. guard_due (term gs))
+        (both_follows L D n (read_cond (Scopes.guard_scope (attributes R) 0)) e guard_due term condition_in_guard operand)
 
     term_at : (allowed_zeros : ℕ) (gs : List Due) (t : List ℕ) → length t ≤ n → (g : Term → List ℕ → Option ℕ) → ((a : Term) (u : List ℕ) → length u ≤ n → verdict allowed_zeros L u D gs ≡ g a u)
         → (w : ℕ) → coded L D allowed_zeros (running_operands L D w) t gs ≡ followed (term_by R e (term_kind w) t) g

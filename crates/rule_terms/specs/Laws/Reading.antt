@@ -51,8 +51,8 @@ module _ (R : RuleSet) (e : List ℕ → Reader RuleTerm) (d : (Γ : List ℕ) �
   by_ends RuleKind.star t = giving_fine rule_star t (e Γ t) (d Γ t)
   by_ends RuleKind.parallel t = giving_fine (λ p. rule_parallel p.0 p.1.0 p.1.1) t (both (rule_mask_of R) (both (e Γ) (e Γ)) t) (both_ends (rule_mask_of R) (both (e Γ) (e Γ)) (rule_mask_ends R) (both_ends (e Γ) (e Γ) (d Γ) (d Γ)) t)
   by_ends RuleKind.guard t =
-      let C : Reader _ = read_cond R.edition.width (guard_scope (attributes R) (length Γ)) in
-      giving_fine (λ p. rule_guard p.0 p.1) t (both C (e Γ) t) (both_ends C (e Γ) (cond_ends R.edition.width (guard_scope (attributes R) (length Γ))) (d Γ) t)
+      let C : Reader _ = read_cond (guard_scope (attributes R) (length Γ)) in
+      giving_fine (λ p. rule_guard p.0 p.1) t (both C (e Γ) t) (both_ends C (e Γ) (cond_ends (guard_scope (attributes R) (length Γ))) (d Γ) t)
   by_ends RuleKind.choice_quantifier t = choice_over_ends t
   by_ends RuleKind.parallel_quantifier t = parallel_over_ends t
   by_ends RuleKind.process_call t = call_ends R Γ t
@@ -87,7 +87,7 @@ module _ (R : RuleSet) (e f : List ℕ → Reader RuleTerm) (d : (Γ : List ℕ)
   by_same RuleKind.parallel = ap (giving _) (masked_same (both (e Γ) (e Γ)) (both (f Γ) (f Γ)) two_same t (le_refl (length t)))
   by_same RuleKind.guard =
       let P = guard_scope (attributes R) (length Γ) in
-      ap (giving _) (both_same t (read_cond R.edition.width P) (read_cond R.edition.width P) (e Γ) (f Γ) (cond_ends R.edition.width P) (λ r le. refl) (h Γ) t (le_refl (length t)))
+      ap (giving _) (both_same t (read_cond P) (read_cond P) (e Γ) (f Γ) (cond_ends P) (λ r le. refl) (h Γ) t (le_refl (length t)))
   by_same RuleKind.choice_quantifier = by_number_same t 5 (length R.domains) _ _ (λ l r le. ap (giving (choice_over l)) (h (Γ ++ (l ∷ [])) r le)) t (le_refl (length t))
   by_same RuleKind.parallel_quantifier =
       by_number_same t 5 (length R.domains) _ _ (λ l r le. ap (giving (λ p. parallel_over l p.0 p.1)) (masked_same (e (Γ ++ (l ∷ []))) (f (Γ ++ (l ∷ []))) (h (Γ ++ (l ∷ []))) r le)) t (le_refl (length t))

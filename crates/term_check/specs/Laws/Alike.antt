@@ -27,7 +27,7 @@ module _ (R Q : RuleSet) (a : Alike R Q) where
   by_alike e t TermKind.action = action_alike t
   by_alike e t TermKind.star = refl
   by_alike e t TermKind.parallel = λ i. giving (λ p. Parallel p.0 p.1.0 p.1.1) (both (mask_of 4 (length (a.same_labels i))) (both e e) t)
-  by_alike e t TermKind.guard = λ i. giving (λ p. Guard p.0 p.1) (both (read_cond (a.same_edition i).width (a.same_guards 0 i)) e t)
+  by_alike e t TermKind.guard = λ i. giving (λ p. Guard p.0 p.1) (both (read_cond (a.same_guards 0 i)) e t)
   by_alike e t TermKind.done = refl
   by_alike e t TermKind.wrong = refl
   by_alike e t (TermKind.pair k) = refl

@@ -55,8 +55,8 @@ module _ (R : RuleSet) where
     by_ends TermKind.star t = giving_fine Star t (e t) (d t)
     by_ends TermKind.parallel t = giving_fine (λ p. Parallel p.0 p.1.0 p.1.1) t (both masks (both e e) t) (both_ends masks (both e e) (mask_ends 4 (length R.labels)) (both_ends e e d d) t)
     by_ends TermKind.guard t =
-        let C : Reader _ = read_cond R.edition.width (guard_scope (attributes R) 0) in
-        giving_fine (λ p. Guard p.0 p.1) t (both C e t) (both_ends C e (cond_ends R.edition.width (guard_scope (attributes R) 0)) d t)
+        let C : Reader _ = read_cond (guard_scope (attributes R) 0) in
+        giving_fine (λ p. Guard p.0 p.1) t (both C e t) (both_ends C e (cond_ends (guard_scope (attributes R) 0)) d t)
     by_ends TermKind.done t = tail_here t
     by_ends TermKind.wrong t = tt
 
@@ -82,7 +82,7 @@ module _ (R : RuleSet) (e f : Reader Term) (d : Ends e) (t : List ℕ) (h : Same
       ap (giving _) (both_same t (masks R) (masks R) (both e e) (both f f) (mask_ends 4 (length R.labels)) (λ r le. refl) (both_same t e f e f d h h) t (le_refl (length t)))
   by_same TermKind.guard =
       let P = guard_scope (attributes R) 0 in
-      ap (giving _) (both_same t (read_cond R.edition.width P) (read_cond R.edition.width P) e f (cond_ends R.edition.width P) (λ r le. refl) h t (le_refl (length t)))
+      ap (giving _) (both_same t (read_cond P) (read_cond P) e f (cond_ends P) (λ r le. refl) h t (le_refl (length t)))
   by_same TermKind.done = refl
   by_same TermKind.wrong = refl
 
