@@ -21,8 +21,7 @@ use expression_check::{Scope, check_cond};
 use measures::{Joint, Limits, Weight, empty, guard, single, stars};
 use scan::repeats::leading;
 use scan::{behind, last};
-use tables::layout::{LABEL_ROWS, LABEL_WORDS};
-use tables::{MASK_WORDS, check_mask, functions, labels, mask_zero, row_at, size_of};
+use tables::{MASK_WORDS, check_mask, functions, label_row, labels, mask_zero, size_of};
 
 // The reach and the breadth of a given term.
 #[derive(Clone, Copy)]
@@ -99,7 +98,7 @@ impl Weigher<'_> {
         if labels(self.tables) <= l {
             return None;
         }
-        let ds = row_at(self.tables, LABEL_ROWS + LABEL_WORDS * l);
+        let ds = label_row(self.tables, l);
         let m = elements(behind(t), self.tables, ds)?;
         self.leaf(m, single(2 + 2 * ds.len() as u64))
     }
