@@ -18,8 +18,8 @@ ghost use Rattle.declarations.specs.Noting.{LabelsNoted, ExpressionsNoted, Funct
 use expression_check::{Scope, check_data};
 use refusals::Refusal;
 use scan::{count, first, last, number};
-use tables::layout::{AT_LABELS, AT_START, FIRST_CELL, LABEL_ROWS, LABEL_WORDS};
-use tables::{domains, labels, row_at, size_of};
+use tables::layout::{AT_LABELS, AT_START, FIRST_CELL, label_place_from};
+use tables::{domains, label_row, labels, size_of};
 
 /// How many numbers a directory has: a row for each of up to 16 functions, of 3 numbers and one for each of up to 64 labels.
 pub const DIRECTORY: usize = 1072;
@@ -98,7 +98,7 @@ pub fn enter_labels(
     for i in 0..n {
         let u = last(t, left);
         left = parameters(u, 2, d)?;
-        copy(tb, at + LABEL_WORDS * i, &u[..first(u) + 1]);
+        copy(tb, label_place_from(at, i), &u[..first(u) + 1]);
     }
     Ok(left)
 }
@@ -137,7 +137,7 @@ impl Context<'_> {
         for l in 0..k {
             note(dir, at + l, left);
             let c = Scope {
-                variables: 1 + row_at(self.tables, LABEL_ROWS + LABEL_WORDS * l).len(),
+                variables: 1 + label_row(self.tables, l).len(),
                 now: i,
                 before: self.functions,
             };

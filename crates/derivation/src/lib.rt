@@ -9,7 +9,7 @@ ghost use Rattle.derivation.specs.Arms.{ActionDerived, TwoDerived, RightDerived,
 
 use actions::{behind_action, code_at, in_set, join, mask_set};
 use code_numbers::{ACTION, CHOICE, DONE, GUARD, INTERNAL, PARALLEL, SEQUENCE, STAR};
-use expressions::eval_cond;
+use expressions::{eval_cond, truth_of, words_left};
 use listing::{behind_mask, both_done, idle, list, skip};
 use located::Located;
 use paths::{BOTH_DONE, BOTH_MOVE, CHOOSE_LEFT, END, LEFT_MOVES, RIGHT_MOVES, ROUND};
@@ -327,8 +327,8 @@ impl Arrays<'_> {
         ensures derived { Over (DerivedShown x (26 ∷ t.now)) self.old.k self.old self.new (answered self.new result) }
     {
         let c = eval_cond(t, self.store);
-        let u = last(t, c / 65536);
-        if c % 65536 == 0 {
+        let u = last(t, words_left(c));
+        if truth_of(c) == 0 {
             return self.passing(skip(u));
         }
         self.walk(u, x)

@@ -11,6 +11,7 @@ use blocks::opened::Blocks;
 use blocks::{CONTENT_WORDS, WORDS_OF_8, WORDS_OF_64, open};
 use cells::{fill, lay, save};
 use declarations::DIRECTORY;
+use expressions::store;
 use refusals::Refusal;
 use runs::admitted::Admitted;
 use tables::layout::{AT_START, TABLES};
@@ -27,22 +28,17 @@ fn start_store(rules: &Admitted, m: &mut [u16], memory: &mut [u8])
     save(m, memory, functions.cells);
 }
 
-// How many words a store has without old cells, for up to 1,024 cells and for up to 64.
-const NEW_WORDS: usize = 1060;
-
-const FEW_WORDS: usize = 100;
-
 // A store for at most 64 cells, or for the most that there may be: a small rule set does not pay for clearing a large array.
 // Stays two branches: a function with the size as a const parameter would repeat the contract of `start_store` for two lines.
 fn start_memory(rules: &Admitted, memory: &mut [u8])
     ensures { MemoryStarted rules.now.functions.words.now rules.now.tables.now rules.now.functions.directory.now new_store_length rules.now.functions.cells memory.old memory.new }
 {
-    if rules.functions.cells <= 64 {
-        let mut m = [0u16; FEW_WORDS];
+    if rules.functions.cells <= store::FEW_CELLS {
+        let mut m = [0u16; store::FEW_WORDS];
         start_store(rules, &mut m, memory);
         return;
     }
-    let mut m = [0u16; NEW_WORDS];
+    let mut m = [0u16; store::NEW_WORDS];
     start_store(rules, &mut m, memory);
 }
 

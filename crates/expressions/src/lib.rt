@@ -7,7 +7,7 @@
 ghost use Rattle.std.specs.Prelude.{◌≡◌, Bool, [], ◌∷◌, ◌≤◌, ◌<◌, length, drop, get_or};
 ghost use Rattle.eb3.specs.Values.{decode, encode, add, subtract, equal, less};
 ghost use Rattle.expressions.specs.Stores.{stored, reading_in, before_place};
-ghost use Rattle.expressions.specs.Answering.{truth, answer, IsValued, Evaluated, Judged};
+ghost use Rattle.expressions.specs.Answering.{truth, IsValued, Evaluated, Judged};
 ghost use Rattle.expressions.specs.Operands.{operated, connected, Fetched, Paired, Selected, Named, Compared, Joined, Negated};
 
 use code_numbers::{
@@ -15,27 +15,17 @@ use code_numbers::{
 };
 use scan::{behind, first, last};
 
+pub mod answers;
 pub mod store;
 pub mod valued;
 
+use answers::pack;
+pub use answers::{truth_of, words_left};
 pub use valued::Valued;
 
 // The word of undefined.
 // Stays a word: values are words of the store, and an Option of a number would be turned into one wherever a cell is read or written.
 const UNDEFINED: usize = 65535;
-
-// ── answers ──
-
-// Whether a condition holds, 1 or 0, and 65,536 times the words that are left after it.
-// Stays, here and in the functions of conditions below, and where a guard takes the answer apart (listing, derivation, sharing): measured, a condition
-// of 1,000 ands takes 12 % more instructions as a struct, and each level 16 bytes more stack (docs/DESIGN-PASS.md, "Answers packed in one number").
-// `equal`, `less` and `connect` make the 1 or 0 of such an answer.
-fn pack(v: usize, left: usize) -> usize
-    requires { (v < 65536) × (left < 65536) }
-    ensures { (result ≡ answer v left) × (result < 4294967296) }
-{
-    v + 65536 * left
-}
 
 // ── values as words ──
 
@@ -205,10 +195,10 @@ fn selected(t: &[u16], m: &[u16]) -> Valued
     ensures { Selected t.now m.now result × (result.left ≤ length t.now) }
 {
     let c = eval_cond(t, m);
-    let u = last(t, c / 65536);
+    let u = last(t, words_left(c));
     let x = operand(u, m);
     let y = operand(last(u, x.left), m);
-    if c % 65536 == 0 {
+    if truth_of(c) == 0 {
         y
     } else {
         Valued {
@@ -274,8 +264,8 @@ fn joined(connective: Connective, t: &[u16], m: &[u16]) -> usize
     ensures { Joined (connected connective) t.now m.now result × (result < 4294967296) }
 {
     let x = eval_cond(t, m);
-    let y = eval_cond(last(t, x / 65536), m);
-    pack(connect(connective, x % 65536, y % 65536), y / 65536)
+    let y = eval_cond(last(t, words_left(x)), m);
+    pack(connect(connective, truth_of(x), truth_of(y)), words_left(y))
 }
 
 #[cycle(evaluators)]
@@ -284,7 +274,7 @@ fn negated(t: &[u16], m: &[u16]) -> usize
     ensures { Negated t.now m.now result × (result < 4294967296) }
 {
     let x = eval_cond(t, m);
-    pack(usize::from(x % 65536 == 0), x / 65536)
+    pack(usize::from(truth_of(x) == 0), words_left(x))
 }
 
 // Whether the condition at the beginning of the words holds: 1 or 0.

@@ -22,5 +22,17 @@ pub const ROW_WORDS: usize = 2;
 /// From here the cells that `now` reads.
 pub const CELLS: usize = 36;
 
+// The most cells of a rule set.
+const MOST_CELLS: usize = 1024;
+
 /// How many words a store has that holds up to 1,024 cells twice: those that `now` reads, and after them those that `before` reads.
-pub const WORDS: usize = 2084;
+pub const WORDS: usize = CELLS + 2 * MOST_CELLS;
+
+/// How many words a store has that holds up to 1,024 cells once, those that `now` reads.
+pub const NEW_WORDS: usize = CELLS + MOST_CELLS;
+
+/// How many cells are few: a store for them is smaller.
+pub const FEW_CELLS: usize = 64;
+
+/// How many words a store has that holds up to 64 cells once.
+pub const FEW_WORDS: usize = CELLS + FEW_CELLS;

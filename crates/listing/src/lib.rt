@@ -17,7 +17,7 @@ use actions::{behind_action, code_at, in_set, join, mask_set};
 use code_numbers::{ACTION, CHOICE, DONE, GUARD, INTERNAL, PARALLEL, SEQUENCE, STAR};
 use codes::EDITION_1;
 use combining::combine;
-use expressions::eval_cond;
+use expressions::{eval_cond, truth_of, words_left};
 use lister::Lister;
 use scan::{after, behind, first, last};
 use tables::MASK_WORDS;
@@ -253,8 +253,8 @@ impl Lister<'_> {
         ensures listed { Into (ShownListed x (26 ∷ t.now)) self.old self.new result }
     {
         let c = eval_cond(t, self.store);
-        let u = last(t, c / 65536);
-        if c % 65536 == 0 {
+        let u = last(t, words_left(c));
+        if truth_of(c) == 0 {
             return Some(skip(u));
         }
         self.list_shown(u, x)

@@ -22,10 +22,10 @@ use measures::{Joint, Weight, empty, guard, joined, single, stars};
 use refusals::Refusal;
 use scan::repeats::leading;
 use scan::{after, behind, first, last, number};
-use tables::layout::{BREADTH, LABEL_ROWS, LABEL_WORDS, PROCESS_ROWS, PROCESS_WORDS, REACH, SIZE};
+use tables::layout::{BREADTH, REACH, SIZE};
 use tables::{
-    Context, MASK_WORDS, check_arguments, check_mask, domains, entry, functions, labels, mask_zero,
-    processes, row_at, size_of, with,
+    Context, MASK_WORDS, check_arguments, check_mask, domains, functions, label_row, labels,
+    mask_zero, parameters_row, process_entry, processes, size_of, with,
 };
 
 // The most variables in scope: a process's parameters, and one for each quantifier around.
@@ -53,11 +53,10 @@ fn weight_of(tb: &[u32], p: usize) -> Weight
     ensures { measure result ≡ callee tb.now p }
 {
     if p < processes(tb) {
-        let at = PROCESS_ROWS + PROCESS_WORDS * p;
         return Weight {
-            size: entry(tb, at + SIZE),
-            reach: entry(tb, at + REACH),
-            breadth: entry(tb, at + BREADTH),
+            size: process_entry(tb, p, SIZE),
+            reach: process_entry(tb, p, REACH),
+            breadth: process_entry(tb, p, BREADTH),
         };
     }
     empty()
@@ -70,7 +69,7 @@ fn action(t: &[u16], context: &Context) -> Result<Weighed, Refusal>
     ensures { result ≡ answer context.now.tables.now (rule_action_of (declared context.now.tables.now) context.now.variables.now t.now) }
 {
     let n = number(t, Refusal::Reference, labels(context.tables))?;
-    let ds = row_at(context.tables, LABEL_ROWS + LABEL_WORDS * first(t));
+    let ds = label_row(context.tables, first(t));
     let left = check_arguments(last(t, n), context.tables, context.variables, ds)?;
     Ok(Weighed {
         left,
@@ -86,7 +85,7 @@ fn call(t: &[u16], context: &Context) -> Result<Weighed, Refusal>
 {
     let n = number(t, Refusal::Reference, processes(context.tables))?;
     let p = first(t);
-    let ds = row_at(context.tables, PROCESS_ROWS + PROCESS_WORDS * p);
+    let ds = parameters_row(context.tables, p);
     let left = check_arguments(last(t, n), context.tables, context.variables, ds)?;
     Ok(Weighed {
         left,

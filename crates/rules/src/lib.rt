@@ -17,8 +17,8 @@ use refusals::Refusal;
 use rule_terms::{Weighed, check_term};
 use scan::{count, first, last};
 use tables::layout::{
-    BODY, BREADTH, DOMAINS, FUNCTIONS, LABEL_ROWS, LABELS, PROCESS_ROWS, PROCESS_WORDS, PROCESSES,
-    REACH, SIZE, TABLES,
+    BODY, BREADTH, DOMAINS, FUNCTIONS, LABELS, PROCESSES, REACH, SIZE, TABLES, label_place,
+    process_place,
 };
 use tables::{Context, domains};
 
@@ -61,7 +61,7 @@ fn enter_process(tb: &mut [u32; TABLES], t: &[u16], p: usize, w: Weight, left: u
     ensures { tb.new ≡ entered_process tb.old p (take (get_or t.now 0 0 + 1) t.now) w.size w.reach w.breadth left }
 {
     let k = first(t) + 1;
-    let at = PROCESS_ROWS + PROCESS_WORDS * p;
+    let at = process_place(p);
     copy(tb, at, &t[..k]);
     tb[at + SIZE] = w.size;
     tb[at + REACH] = w.reach;
@@ -134,7 +134,7 @@ fn label_section(t: &[u16], tb: &mut [u32; TABLES], dir: &mut [u32]) -> Result<R
     tb[LABELS] = n as u32;
     let d = domains(tb);
     let u = last(t, m);
-    let j = enter_labels(u, tb, n, LABEL_ROWS, d)?;
+    let j = enter_labels(u, tb, n, label_place(0), d)?;
     function_section(last(u, j), tb, dir)
 }
 

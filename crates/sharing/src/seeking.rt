@@ -9,7 +9,7 @@ ghost use Rattle.sharing.specs.Walking.{sought_in};
 
 use code_numbers::{ACTION, CHOICE, DONE, GUARD, INTERNAL, PARALLEL, SEQUENCE, STAR};
 use derivation::{Arrays, Walked, size_before};
-use expressions::eval_cond;
+use expressions::{eval_cond, truth_of, words_left};
 use listing::{behind_mask, both_done};
 use paths::{BOTH_DONE, CHOOSE_LEFT, END, LEFT_MOVES, ROUND};
 use scan::{behind, first, last};
@@ -132,8 +132,8 @@ fn seek_guard(t: &[u16], arrays: &mut Arrays) -> Walked
     ensures sought { Over (Sought (26 ∷ t.now)) arrays.old.k arrays.old arrays.new (sought_in arrays.new result) }
 {
     let c = eval_cond(t, arrays.store);
-    if c % 65536 == 0 {
+    if truth_of(c) == 0 {
         return Walked::Passed;
     }
-    seek(last(t, c / 65536), arrays)
+    seek(last(t, words_left(c)), arrays)
 }

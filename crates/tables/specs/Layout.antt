@@ -2,12 +2,9 @@
 -- one array of words. What they declare is `declared` and `callee` of Tables.antt; src/layout.rt has the same places for the code.
 -- Document 01, "Blocks and the rule stream", items 2 to 5.
 use Rattle.std.specs.Prelude.{List, ℕ, ◌+◌, ◌*◌, get_or}
+use Rattle.eb3.specs.Limits
 
--- How many words the tables are.
-abbrev pub tables_length : ℕ
-tables_length = 500
-
--- ── domains, at most 16 ──
+-- ── domains ──
 
 -- How many domains there are.
 abbrev pub domains_place : ℕ
@@ -15,58 +12,63 @@ domains_place = 0
 
 -- The size of domain d.
 abbrev pub sizes_place : ℕ → ℕ
-sizes_place d = 1 + d
+sizes_place d = domains_place + 1 + d
 
--- ── labels, at most 64 ──
+-- ── labels ──
 
 -- How many labels there are.
 abbrev pub labels_place : ℕ
-labels_place = 17
+labels_place = sizes_place Limits.domains
 
--- How many words a label's row has: how many parameters it has, and their domains, at most two.
+-- How many words a label's row has: how many parameters it has, and their domains.
 abbrev pub label_words : ℕ
-label_words = 3
+label_words = 1 + Limits.label_parameters
 
 -- The row of label l.
 abbrev pub label_place : ℕ → ℕ
-label_place l = 18 + label_words * l
+label_place l = labels_place + 1 + label_words * l
 
 -- ── functions ──
 
 -- How many functions there are.
 abbrev pub functions_place : ℕ
-functions_place = 210
+functions_place = label_place Limits.labels
 
--- ── processes, at most 32 ──
+-- ── processes ──
 
 -- How many processes there are.
 abbrev pub processes_place : ℕ
-processes_place = 211
+processes_place = functions_place + 1
 
--- How many words a process's row has: how many parameters it has, their domains, at most four, and at the places in a row that follow here its measures
--- and where its term begins.
-abbrev pub process_words : ℕ
-process_words = 9
-
--- The row of process p.
-abbrev pub process_place : ℕ → ℕ
-process_place p = 212 + process_words * p
+-- A process's row: how many parameters it has, their domains, and at the places in a row that follow here its measures and where its term begins.
 
 -- In a process's row: the size of its term, cut off at 65,536 as the next two are.
 abbrev pub size_in : ℕ
-size_in = 5
+size_in = 1 + Limits.process_parameters
 
 -- The reach of its term.
 abbrev pub reach_in : ℕ
-reach_in = 6
+reach_in = size_in + 1
 
 -- The breadth of its term.
 abbrev pub breadth_in : ℕ
-breadth_in = 7
+breadth_in = reach_in + 1
 
 -- How many words of the stream are left where its term begins.
 abbrev pub body_in : ℕ
-body_in = 8
+body_in = breadth_in + 1
+
+-- How many words a process's row has.
+abbrev pub process_words : ℕ
+process_words = body_in + 1
+
+-- The row of process p.
+abbrev pub process_place : ℕ → ℕ
+process_place p = processes_place + 1 + process_words * p
+
+-- How many words the tables are.
+abbrev pub tables_length : ℕ
+tables_length = process_place Limits.processes
 
 -- ── the words at these places in tables T ──
 

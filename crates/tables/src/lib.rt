@@ -9,7 +9,7 @@ ghost use Rattle.eb3.specs.RuleSets.{RuleSet, domain_size};
 ghost use Rattle.eb3.specs.TermReading.{mask_of};
 ghost use Rattle.eb3.specs.RuleReading.{argument_of, arguments_of};
 ghost use Rattle.scan.specs.Checking.{checked, last_of};
-ghost use Rattle.tables.specs.Layout.{domain_count, label_count, function_count, process_count};
+ghost use Rattle.tables.specs.Layout.{label_place, process_place, process_words, domain_count, label_count, function_count, process_count};
 ghost use Rattle.tables.specs.Tables.{row, declared, constant_of_domain, variable_of_domain};
 
 use code_numbers::{CONSTANT, VARIABLE};
@@ -18,7 +18,7 @@ use scan::{behind, first, front, last, number};
 
 pub mod layout;
 
-use layout::{DOMAINS, FUNCTIONS, LABELS, PROCESSES, SIZES};
+use layout::{DOMAINS, FUNCTIONS, LABELS, PROCESSES, SIZES, label_place, process_place};
 
 /// How many words a mask has.
 pub const MASK_WORDS: usize = 4;
@@ -102,6 +102,31 @@ pub fn row_at(tb: &[u32], at: usize) -> &[u32]
         return front(&tb[at + 1..], tb[at] as usize);
     }
     &[]
+}
+
+// The domains of label l's parameters.
+// Stays, here and in the two below: l and p are usize with their bound as a clause, since a place in the tables is made of each.
+pub fn label_row(tb: &[u32], l: usize) -> &[u32]
+    requires { l < 4294967296 }
+    ensures { result.now ≡ row tb.now (label_place l) }
+{
+    row_at(tb, label_place(l))
+}
+
+// The domains of process p's parameters.
+pub fn parameters_row(tb: &[u32], p: usize) -> &[u32]
+    requires { p < 4294967296 }
+    ensures { result.now ≡ row tb.now (process_place p) }
+{
+    row_at(tb, process_place(p))
+}
+
+// What process p's row has in a column: a measure of its term, or where the term begins.
+pub fn process_entry(tb: &[u32], p: usize, column: usize) -> u32
+    requires { (p < 4294967296) × (column < process_words) }
+    ensures { result ≡ get_or tb.now (process_place p + column) 0 }
+{
+    entry(tb, process_place(p) + column)
 }
 
 // The size of domain d, or 0 where there is no such domain.

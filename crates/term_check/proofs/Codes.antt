@@ -6,7 +6,7 @@ use mathlib.Core.Path.{◌≡◌, refl, sym, ap, ◌∙◌}
 use mathlib.Core.List.{List}
 use lib.ListN.{length, drop, get_or}
 use native.Mathlib.Decide.{dec_le}
-use Rattle.std.specs.Prelude.{Ok, Err}
+use Rattle.std.specs.Prelude.{Option, None, Ok, Err}
 use Rattle.std.proofs.Common.{inl, inr}
 use Rattle.refusals.specs.declared.Refusal.{Refusal}
 use Rattle.codes.specs.declared.Due.TheVariants.{RunningTerm}
@@ -14,20 +14,20 @@ use Rattle.codes.specs.Sorts.{code_due}
 use Rattle.codes.specs.Laws.Sorts.{InRange, no_running_term}
 use Rattle.codes.specs.Laws.Due.{code_taken, code_refused}
 use Rattle.eb3.specs.Terms.{Term, Star, Sequence, Choice}
-use Rattle.eb3.specs.Measures.{sat, Measure, leaf, nothing, measure_running}
+use Rattle.eb3.specs.Measures.{sat, leaf, nothing, measure_running}
 use Rattle.eb3.specs.Reading.{Read, refused, taken, giving, both}
 use Rattle.eb3.specs.TermReading.{TermKind, term_kind, action_of, term_by, terms, read_term}
-use Rattle.scan.specs.Laws.Checking.{nil_form, behind_len}
+use Rattle.scan.specs.Laws.Checking.{nil_form}
 use Rattle.measures.specs.declared.Weight.{Weight}
 use Rattle.measures.specs.Weighing.{cap, measure, joint_of}
 use Rattle.tables.specs.Tables.{declared}
 use Rattle.measures.specs.declared.Joint.TheVariants as Joint
-use Rattle.term_check.specs.Given.{wrong, weighed_running}
-use Rattle.term_check.specs.Answers.{packed, Packs, weighed_pair}
+use Rattle.term_check.specs.Given.{Weighed, answer_of, weighed_running}
+use Rattle.term_check.specs.Answers.{weighed_pair}
 use Rattle.term_check.specs.Laws.Reading.{term_case}
 use Rattle.term_check.proofs.Parts.{reads}
 
-term_none : (T s : List ℕ) → length s ≡ 0 → wrong ≡ weighed_running (read_term (declared T) s)
+term_none : (T s : List ℕ) → length s ≡ 0 → None ≡ weighed_running (read_term (declared T) s)
 unfolding read_term terms weighed_running
 term_none T s h = rw (nil_form s h)
 
@@ -41,15 +41,15 @@ unfolding weighed_pair weighed_running giving measure_running joint_of
 weighed_choice (refused k) = refl
 weighed_choice (taken s t) = refl
 
-term_wrong : (T s : List ℕ) → (length s ≡ 0 → ⊥) → term_kind (get_or s 0 0) ≡ TermKind.wrong → wrong ≡ weighed_running (read_term (declared T) s)
+term_wrong : (T s : List ℕ) → (length s ≡ 0 → ⊥) → term_kind (get_or s 0 0) ≡ TermKind.wrong → None ≡ weighed_running (read_term (declared T) s)
 unfolding weighed_running
 term_wrong T s h e = sym (ap weighed_running (term_case (declared T) s TermKind.wrong h e))
 
 -- No word, or a code that may not be there.
-pub term_refused : (T s : List ℕ) (k : Refusal) → Err k ≡ code_due RunningTerm s 0 → wrong ≡ weighed_running (read_term (declared T) s)
+pub term_refused : (T s : List ℕ) (k : Refusal) → Err k ≡ code_due RunningTerm s 0 → None ≡ weighed_running (read_term (declared T) s)
 term_refused T s k e = go (dec_le (length s) 0) (code_refused RunningTerm s 0 k e).outside
   where
-    go : Dec (length s ≤ 0) → (0 < length s → InRange RunningTerm (get_or s 0 0) → ⊥) → wrong ≡ weighed_running (read_term (declared T) s)
+    go : Dec (length s ≤ 0) → (0 < length s → InRange RunningTerm (get_or s 0 0) → ⊥) → None ≡ weighed_running (read_term (declared T) s)
     go (yes l) o = term_none T s (omega arith)
     go (no l) o = term_wrong T s (λ z. omega arith) (no_running_term (get_or s 0 0) (o (omega arith)))
 
@@ -74,30 +74,20 @@ module _ (T s t : List ℕ) (w : ℕ) (is : Ok w ≡ code_due RunningTerm s 0) (
   code : get_or s 0 0 ≡ w
   code = (code_taken RunningTerm s 0 w is).code
 
-  by_kind : (k : TermKind) (x : ℕ) → term_kind w ≡ k → x ≡ weighed_running (term_by (declared T) (read_term (declared T)) k t) → x ≡ weighed_running (read_term (declared T) s)
+  by_kind : (k : TermKind) (x : Option Weighed) → term_kind w ≡ k
+      → x ≡ weighed_running (term_by (declared T) (read_term (declared T)) k t) → x ≡ weighed_running (read_term (declared T) s)
   by_kind k x e f = f ∙ ap (λ u. weighed_running (term_by (declared T) (read_term (declared T)) k u)) q ∙ sym (ap weighed_running (term_case (declared T) s k some (ap term_kind code ∙ e)))
 
-  module _ (v : Weight) (small : length s ≤ 8192) where
-    pub internal_fits : measure v ≡ leaf (sat cap) 1 → Packs (length t) (measure v)
-    internal_fits e =
-        let r : v.reach ≡ 1 = ap (λ (m : Measure). m.reach) e in
-        let b : v.breadth ≡ 1 = ap (λ (m : Measure). m.breadth) e in
-        record { few = omega (arith, behind_len s t q); cut_reach = omega arith; cut_breadth = omega arith }
-
-    pub done_fits : measure v ≡ nothing (sat cap) → Packs (length t) (measure v)
-    done_fits e =
-        let r : v.reach ≡ 1 = ap (λ (m : Measure). m.reach) e in
-        let b : v.breadth ≡ 0 = ap (λ (m : Measure). m.breadth) e in
-        record { few = omega (arith, behind_len s t q); cut_reach = omega arith; cut_breadth = omega arith }
-
-  module _ (x : ℕ) where
-    pub term_internal : (v : Weight) → w ≡ 20 → measure v ≡ leaf (sat cap) 1 → x ≡ packed (length t) (measure v) → x ≡ weighed_running (read_term (declared T) s)
+  module _ (x : Option Weighed) where
+    pub term_internal : (v : Weight) → w ≡ 20 → measure v ≡ leaf (sat cap) 1
+        → x ≡ answer_of (length t) (measure v) → x ≡ weighed_running (read_term (declared T) s)
     unfolding weighed_running measure_running
-    term_internal v e f g = by_kind TermKind.internal_step x (ap term_kind e) (g ∙ (λ j. packed (length t) (f j)))
+    term_internal v e f g = by_kind TermKind.internal_step x (ap term_kind e) (g ∙ (λ j. answer_of (length t) (f j)))
 
-    pub term_done : (v : Weight) → Other w → measure v ≡ nothing (sat cap) → x ≡ packed (length t) (measure v) → x ≡ weighed_running (read_term (declared T) s)
+    pub term_done : (v : Weight) → Other w → measure v ≡ nothing (sat cap)
+        → x ≡ answer_of (length t) (measure v) → x ≡ weighed_running (read_term (declared T) s)
     unfolding weighed_running measure_running
-    term_done v o f g = by_kind TermKind.done x (ap term_kind (last_code w (code_taken RunningTerm s 0 w is).sort o)) (g ∙ (λ j. packed (length t) (f j)))
+    term_done v o f g = by_kind TermKind.done x (ap term_kind (last_code w (code_taken RunningTerm s 0 w is).sort o)) (g ∙ (λ j. answer_of (length t) (f j)))
 
     pub term_action : w ≡ 21 → x ≡ weighed_running (action_of (declared T) t) → x ≡ weighed_running (read_term (declared T) s)
     term_action e f = by_kind TermKind.action x (ap term_kind e) f
@@ -117,4 +107,4 @@ module _ (T s t : List ℕ) (w : ℕ) (is : Ok w ≡ code_due RunningTerm s 0) (
     pub term_guard : w ≡ 26 → x ≡ weighed_running (term_by (declared T) (read_term (declared T)) TermKind.guard t) → x ≡ weighed_running (read_term (declared T) s)
     term_guard e f = by_kind TermKind.guard x (ap term_kind e) f
 
-pub ruleset codes = (term_refused, internal_fits, done_fits, term_internal, term_done, term_action, term_sequence, term_choice, term_star, term_parallel, term_guard)
+pub ruleset codes = (term_refused, term_internal, term_done, term_action, term_sequence, term_choice, term_star, term_parallel, term_guard)

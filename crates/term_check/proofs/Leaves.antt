@@ -5,7 +5,7 @@ use native.Mathlib.Omega.{arith}
 use mathlib.Core.Path.{◌≡◌, refl, sym, ap, ◌∙◌, subst}
 use mathlib.Core.Bool.{Bool, true, false}
 use mathlib.Core.List.{List, ◌∷◌, ◌++◌}
-use lib.ListN.{length, drop, get_or, length-drop, length-map}
+use lib.ListN.{length, drop, get_or, length-map}
 use lib.Dec.{ltb}
 use borrow.Author.Tests.{lt-ltb, le-ltb}
 use Rattle.eb3.specs.Generic.Lists.{Within}
@@ -29,11 +29,11 @@ use Rattle.measures.specs.Weighing.{cap, measure}
 use Rattle.tables.specs.Layout.{label_place, label_count}
 use Rattle.tables.specs.Tables.{row, declared}
 use Rattle.tables.specs.Laws.Tables.{labels_length, label_at}
-use Rattle.term_check.specs.Given.{wrong, weighed_running}
-use Rattle.term_check.specs.Answers.{left_after, packed, Packs}
+use Rattle.term_check.specs.Given.{Weighed, answer_of, weighed_running}
+use Rattle.term_check.specs.Answers.{left_after}
 use Rattle.term_check.specs.Laws.Reading.{elements_end}
 use Rattle.std.specs.Prelude.{Option, Some, None}
-use Rattle.term_check.specs.Laws.Answers.{refused_wrong, left_wrong, left_taken}
+use Rattle.term_check.specs.Laws.Answers.{refused_none, left_none, left_taken}
 
 -- An element was read for each size.
 elements_count : (ns t vs u : List ℕ) → elements_of 1 ns t ≡ taken vs u → length vs ≡ length ns
@@ -48,7 +48,7 @@ abbrev performed : List ℕ → ℕ → Reader Term
 performed T k u = giving (perform k) (elements_of 1 (sizes_of (declared T) (label (declared T) k)) u)
 
 module _ (T t : List ℕ) where
-  pub action_none : length t ≡ 0 → wrong ≡ weighed_running (action_of (declared T) t)
+  pub action_none : length t ≡ 0 → None ≡ weighed_running (action_of (declared T) t)
   unfolding action_of by_number number_of then weighed_running
   action_none h = ap (λ u. weighed_running (action_of (declared T) u)) (sym (nil_form t h))
 
@@ -61,9 +61,9 @@ module _ (T t : List ℕ) where
         let g : ltb d (length (declared T).labels) ≡ c = ap (ltb d) (labels_length T ∙ sym i) ∙ e in
         ap (action_of (declared T)) f ∙ ap (λ k. then (pick k (taken d (drop 1 t)) (refused 5)) (performed T)) g
 
-    pub action_high : b ≤ d → wrong ≡ weighed_running (action_of (declared T) t)
+    pub action_high : b ≤ d → None ≡ weighed_running (action_of (declared T) t)
     unfolding then
-    action_high o = refused_wrong _ _ (record { code = 5; read = by_label false (le-ltb d b o); named = refl })
+    action_high o = refused_none _ _ (record { code = 5; read = by_label false (le-ltb d b o); named = refl })
 
     -- ds are the label's domains, u the words after the label, p how many words are left after an element of each domain
     module _ (k : d < b) (ds u : List ℕ) (p : Option ℕ) (o : ds ≡ row T (label_place d)) (l : u ≡ drop 1 t) (f : p ≡ left_after (elements_of 1 (sizes_of (declared T) ds) u)) where
@@ -80,32 +80,24 @@ module _ (T t : List ℕ) where
       behind : p ≡ left_after (elements_of 1 (sizes_of (declared T) ds) (drop 1 t))
       behind = f ∙ ap (λ e. left_after (elements_of 1 (sizes_of (declared T) ds) e)) l
 
-      short : length t ≤ 8192 → length (drop 1 t) ≤ 8192
-      short y = omega (arith, length-drop 1 t)
-
-      pub action_out : p ≡ None → wrong ≡ weighed_running (action_of (declared T) t)
+      pub action_out : p ≡ None → None ≡ weighed_running (action_of (declared T) t)
       action_out g =
-          let a = left_wrong _ (sym g ∙ behind) in
-          refused_wrong _ a.0 (same_refused _ _ a.0 there (giving_refused_as _ _ a.0 a.1))
+          let a = left_none _ (sym g ∙ behind) in
+          refused_none _ a.0 (same_refused _ _ a.0 there (giving_refused_as _ _ a.0 a.1))
 
       module _ (m c : ℕ) (w : Weight) (g : p ≡ Some m) (y : c ≡ length ds) (v : measure w ≡ leaf (sat cap) (2 + 2 * c)) where
         arguments_taken : Taken (drop 1 t) m (elements_of 1 (sizes_of (declared T) ds) (drop 1 t))
         arguments_taken = left_taken (drop 1 t) m _ ends (sym g ∙ behind)
 
-        pub action_fits : length t ≤ 8192 → Packs m (measure w)
-        action_fits e =
-            let a : w.reach ≡ (leaf (sat cap) (2 + 2 * c)).reach = ap (λ k. k.reach) v in
-            let u : w.breadth ≡ (leaf (sat cap) (2 + 2 * c)).breadth = ap (λ k. k.breadth) v in
-            record { few = omega (arith, arguments_taken.short, short e); cut_reach = omega arith; cut_breadth = omega arith }
-
         words_counted : (vs : List ℕ) → length vs ≡ length (sizes_of (declared T) ds) → measure w ≡ leaf (sat cap) (2 + arguments_size 1 (length vs))
         words_counted vs e = v ∙ ap (λ k. leaf (sat cap) (2 + k)) (ap (λ k. 2 * k) (y ∙ sym (e ∙ length-map ds (domain_size (declared T)))) ∙ sym (arguments_double (length vs)))
 
-        pub action_in : (x : ℕ) → x ≡ packed m (measure w) → x ≡ weighed_running (action_of (declared T) t)
+        pub action_in : (x : Option Weighed) → x ≡ answer_of m (measure w) → x ≡ weighed_running (action_of (declared T) t)
         unfolding weighed_running measure_running
         action_in x e =
             let a = arguments_taken in
             let k : action_of (declared T) t ≡ taken (perform d a.value) a.rest = there ∙ giving_taken _ _ a.value a.rest a.read in
-            e ∙ (λ j. packed (a.left j) (words_counted a.value (elements_count (sizes_of (declared T) ds) (drop 1 t) a.value a.rest a.read) j)) ∙ sym (ap weighed_running k)
+            let n : length a.value ≡ length (sizes_of (declared T) ds) = elements_count (sizes_of (declared T) ds) (drop 1 t) a.value a.rest a.read in
+            e ∙ (λ j. answer_of (a.left j) (words_counted a.value n j)) ∙ sym (ap weighed_running k)
 
-pub ruleset actions = (action_none, action_high, action_out, action_fits, action_in)
+pub ruleset actions = (action_none, action_high, action_out, action_in)

@@ -1,6 +1,4 @@
 -- What the proofs of several functions use (document 01, "Unfolding, size and breadth"; refusal 10).
-mod Numbers
-mod Weighers
 mod Values
 mod Leaves
 mod Nested

@@ -1,6 +1,6 @@
 -- A case for each way that the check of a whole given term returns: the tests on cut-off numbers are exact.
 -- Document 01, "Unfolding, size and breadth"; refusal 10.
-use Prim.Native.Nat.{ℕ, ◌/◌, ◌%◌, ◌≤◌, ◌<◌}
+use Prim.Native.Nat.{ℕ, ◌≤◌, ◌<◌}
 use native.Mathlib.Omega.{arith}
 use mathlib.Core.Path.{◌≡◌, refl, sym, ap, ◌∙◌}
 use mathlib.Core.List.{List, [], ◌∷◌}
@@ -16,7 +16,7 @@ use Rattle.scan.specs.Laws.Checking.{nil_form}
 use Rattle.measures.specs.Weighing.{cap}
 use Rattle.tables.specs.Tables.{edition_in, declared}
 use Rattle.term_check.specs.declared.Given.{Given}
-use Rattle.term_check.specs.Given.{wrong, weighed_running, given}
+use Rattle.term_check.specs.Given.{Weighed, weighed_running, given}
 use Rattle.term_check.specs.Laws.Answers.{reach_cut, breadth_cut, taken_size, Got, got, none_read}
 use Rattle.std.specs.Prelude.{Some, None, Option}
 
@@ -59,40 +59,38 @@ module _ (T s : List ℕ) where
       go (taken E []) e = alone_far E (omega (arith, taken_size T s E [] e, size_below_reach 1 E)) ∙ sym (by_reading (taken E []) e)
       go (taken E (w ∷ u)) e = sym (by_reading (taken E (w ∷ u)) e)
 
-  module _ (p : ℕ) (fits : length s ≤ 8192) (e : p ≡ weighed_running (read_term (declared T) s)) where
-    pub given_none : p ≡ wrong → None ≡ given (edition_in T).width (given_term (declared T) s)
-    unfolding given
-    given_none h =
-        let g = none_read T s p fits e h in
-        sym (by_reading (refused g.1.code) g.1.read)
+  pub given_none : None ≡ weighed_running (read_term (declared T) s) → None ≡ given (edition_in T).width (given_term (declared T) s)
+  unfolding given
+  given_none e =
+      let g = none_read (read_term (declared T) s) e in
+      sym (by_reading (refused g.1.code) g.1.read)
 
-    module _ (n : ℕ) (h : p ≡ wrong → ⊥) (i : n ≡ p % 65536) where
-      whole : Got T s p
-      whole = got T s p fits e h
+  module _ (p : Weighed) (fits : length s ≤ 8192) (e : Some p ≡ weighed_running (read_term (declared T) s)) where
+    whole : Got T s p
+    whole = got T s p fits e
 
-      pub given_more : (n ≡ 0 → ⊥) → None ≡ given (edition_in T).width (given_term (declared T) s)
-      given_more o = alone_more whole.value whole.rest (λ z. o (i ∙ whole.left ∙ z)) ∙ sym (by_reading _ whole.read)
+    pub given_more : (p.left ≡ 0 → ⊥) → None ≡ given (edition_in T).width (given_term (declared T) s)
+    given_more o = alone_more whole.value whole.rest (λ z. o (whole.left ∙ z)) ∙ sym (by_reading _ whole.read)
 
-      -- g is the reach, b the breadth
-      module _ (o : n ≡ 0) (g : ℕ) (j : g ≡ p / 65536 % 131072) where
-        to_end : read_term (declared T) s ≡ taken whole.value []
-        to_end = whole.read ∙ ap (taken whole.value) (nil_form whole.rest (sym whole.left ∙ sym i ∙ o))
+    module _ (o : p.left ≡ 0) where
+      to_end : read_term (declared T) s ≡ taken whole.value []
+      to_end = whole.read ∙ ap (taken whole.value) (nil_form whole.rest (sym whole.left ∙ o))
 
-        reach_is : g ≡ sat cap (reach 1 whole.value)
-        reach_is = j ∙ ap (λ (m : Measure). m.reach) whole.measured ∙ reach_cut whole.value
+      reach_is : p.reach ≡ sat cap (reach 1 whole.value)
+      reach_is = ap (λ (m : Measure). m.reach) whole.measured ∙ reach_cut whole.value
 
-        pub given_far : 8192 < g → None ≡ given (edition_in T).width (given_term (declared T) s)
-        given_far l = alone_far whole.value (omega (arith, reach_is)) ∙ sym (by_reading _ to_end)
+      breadth_is : p.breadth ≡ sat cap (breadth whole.value)
+      breadth_is = ap (λ (m : Measure). m.breadth) whole.measured ∙ breadth_cut whole.value
 
-        module _ (r : g ≤ 8192) (b : ℕ) (x : b ≡ p / 8589934592) where
-          breadth_is : b ≡ sat cap (breadth whole.value)
-          breadth_is = x ∙ ap (λ (m : Measure). m.breadth) whole.measured ∙ breadth_cut whole.value
+      pub given_far : 8192 < p.reach → None ≡ given (edition_in T).width (given_term (declared T) s)
+      given_far l = alone_far whole.value (omega (arith, reach_is)) ∙ sym (by_reading _ to_end)
 
-          pub given_broad : 65535 < b → None ≡ given (edition_in T).width (given_term (declared T) s)
-          given_broad l = alone_broad whole.value (omega (arith, reach_is)) (omega (arith, breadth_is)) ∙ sym (by_reading _ to_end)
+      module _ (r : p.reach ≤ 8192) where
+        pub given_broad : 65535 < p.breadth → None ≡ given (edition_in T).width (given_term (declared T) s)
+        given_broad l = alone_broad whole.value (omega (arith, reach_is)) (omega (arith, breadth_is)) ∙ sym (by_reading _ to_end)
 
-          pub given_in : b ≤ 65535 → found g b ≡ given (edition_in T).width (given_term (declared T) s)
-          given_in l =
-              let c : g ≡ reach 1 whole.value = omega (arith, reach_is) in
-              let d : b ≡ breadth whole.value = omega (arith, breadth_is) in
-              (λ z. found (c z) (d z)) ∙ alone_in whole.value (omega (arith, reach_is)) (omega (arith, breadth_is)) ∙ sym (by_reading _ to_end)
+        pub given_in : p.breadth ≤ 65535 → found p.reach p.breadth ≡ given (edition_in T).width (given_term (declared T) s)
+        given_in l =
+            let c : p.reach ≡ reach 1 whole.value = omega (arith, reach_is) in
+            let d : p.breadth ≡ breadth whole.value = omega (arith, breadth_is) in
+            (λ z. found (c z) (d z)) ∙ alone_in whole.value (omega (arith, reach_is)) (omega (arith, breadth_is)) ∙ sym (by_reading _ to_end)

@@ -1,6 +1,6 @@
 -- Stars at the front: the words after them are read under as many stars.
 -- Document 01, "Unfolding, size and breadth"; refusal 10.
-use Prim.Native.Nat.{ℕ, zero, suc, ◌+◌, ◌-◌, ◌%◌, ◌≤◌}
+use Prim.Native.Nat.{ℕ, zero, suc, ◌+◌, ◌-◌, ◌≤◌}
 use native.Mathlib.Numerals.{add-one}
 use native.Mathlib.Omega.{arith}
 use mathlib.Core.Path.{◌≡◌, refl, sym, ap, ◌∙◌}
@@ -15,16 +15,17 @@ use Rattle.eb3.specs.Measures.{sat, star_of, measure_running}
 use Rattle.eb3.specs.Reading.{Read, taken, pick, giving}
 use Rattle.eb3.specs.TermReading.{TermKind, term_kind, read_term}
 use Rattle.scan.specs.Checking.{last_of}
-use Rattle.measures.specs.Weighing.{cap, stars_of}
+use Rattle.measures.specs.declared.Weight.{Weight}
+use Rattle.measures.specs.Weighing.{cap, measure, stars_of}
+use Rattle.std.specs.Prelude.{Option, Some, None}
 use Rattle.tables.specs.Tables.{declared}
 use Rattle.scan.specs.Readings.{RefusedAs}
 use Rattle.scan.specs.Laws.Reading.{giving_refused_as, same_refused}
-use Rattle.term_check.specs.Given.{wrong, weighed_running}
+use Rattle.term_check.specs.Given.{Weighed, answer_of, weighed_running}
 use Rattle.scan.specs.Repeats.{leading}
 use Rattle.scan.specs.Laws.Repeats.{leading_short}
-use Rattle.term_check.specs.Answers.{packed, unpacked, Answer, starred_of}
 use Rattle.term_check.specs.Laws.Reading.{term_case}
-use Rattle.term_check.specs.Laws.Answers.{refused_wrong, Got, got, none_read}
+use Rattle.term_check.specs.Laws.Answers.{refused_none, none_read, measure_said, Got, got}
 use Rattle.refusals.specs.declared.Refusal.{Refusal}
 
 -- ── reading ──
@@ -63,7 +64,7 @@ stars_measured zero E = refl
 stars_measured (suc k) E = ap (star_of (sat cap)) (stars_measured k E)
 
 -- k stars are at the front of t, and r is what is after them
-module _ (T t : List ℕ) (k : ℕ) (r : List ℕ) (p : ℕ) (fits : length t ≤ 8192) (f : k ≡ leading 24 t) (l : r ≡ last_of (length t - k) t) (e : p ≡ weighed_running (read_term (declared T) r)) where
+module _ (T t : List ℕ) (k : ℕ) (r : List ℕ) (f : k ≡ leading 24 t) (l : r ≡ last_of (length t - k) t) where
   behind_stars : r ≡ drop k t
   unfolding last_of
   behind_stars =
@@ -77,27 +78,29 @@ module _ (T t : List ℕ) (k : ℕ) (r : List ℕ) (p : ℕ) (fits : length t �
   unfolding stars_over
   all_read = ap (giving Star) (stars_read (declared T) t ∙ (λ j. stars_over (sym f j) (read_term (declared T) (drop (sym f j) t))) ∙ ap (λ u. stars_over k (read_term (declared T) u)) (sym behind_stars))
 
-  pub star_none : p ≡ wrong → wrong ≡ weighed_running (giving Star (read_term (declared T) t))
-  star_none h =
-      let g = none_read T r p (omega (arith, long)) e h in
-      refused_wrong _ g.0 (same_refused _ _ g.0 all_read (stars_refused (suc k) g.0 _ g.1))
+  pub star_none : None ≡ weighed_running (read_term (declared T) r) → None ≡ weighed_running (giving Star (read_term (declared T) t))
+  star_none e =
+      let g = none_read (read_term (declared T) r) e in
+      refused_none _ g.0 (same_refused _ _ g.0 all_read (stars_refused (suc k) g.0 _ g.1))
 
-  module _ (h : p ≡ wrong → ⊥) where
+  module _ (fits : length t ≤ 8192) (p : Weighed) (e : Some p ≡ weighed_running (read_term (declared T) r)) where
     under : Got T r p
-    under = got T r p (omega (arith, long)) e h
+    under = got T r p (omega (arith, long)) e
 
-    pub star_fits : Answer (length t - k) p
-    star_fits = rw (← long) under.answer
+    pub star_short : p.left ≤ length t - k
+    star_short = omega (arith, long, under.short)
 
-    pub star_in : (x : ℕ) → x ≡ starred_of (k + 1) (length t - k) p → x ≡ weighed_running (giving Star (read_term (declared T) t))
-    unfolding starred_of weighed_running
-    star_in x g =
+    pub star_in : (a x : Weight) → measure a ≡ measure_said (length t - k - p.left) p → measure x ≡ stars_of (k + 1) (measure a)
+        → (y : Option Weighed) → y ≡ answer_of p.left (measure x) → y ≡ weighed_running (giving Star (read_term (declared T) t))
+    unfolding weighed_running
+    star_in a x i h y g =
         let o = under in
-        let m : unpacked (length t - k - p % 65536) p ≡ measure_running (sat cap) 1 o.value = (λ j. unpacked (sym long j - p % 65536) p) ∙ o.measured in
+        let m : measure a ≡ measure_running (sat cap) 1 o.value = i ∙ (λ j. measure_said (sym long j - p.left) p) ∙ o.measured in
         let z : giving Star (read_term (declared T) t) ≡ taken (stars_around (suc k) o.value) o.rest = all_read ∙ ap (stars_over (suc k)) o.read ∙ stars_taken (suc k) o.value o.rest in
-        g ∙ (λ j. packed (o.left j) (stars_of (add-one k j) (m j))) ∙ (λ j. packed (length o.rest) (sym (stars_measured (suc k) o.value) j)) ∙ sym (ap weighed_running z)
+        g ∙ (λ j. answer_of (o.left j) (h j)) ∙ (λ j. answer_of (length o.rest) (stars_of (add-one k j) (m j)))
+        ∙ (λ j. answer_of (length o.rest) (sym (stars_measured (suc k) o.value) j)) ∙ sym (ap weighed_running z)
 
 pub stars_short : (t : List ℕ) (k : ℕ) → k ≡ leading 24 t → k ≤ length t
 stars_short t k e = rw e (leading_short 24 t)
 
-pub ruleset starred_terms = (star_none, star_fits, star_in, stars_short)
+pub ruleset starred_terms = (star_none, star_short, stars_short)

@@ -1,7 +1,7 @@
--- A case for each way that the checks of two terms, a parallel and a guard return. The premises have the form of the facts known there, so that
--- `search` finds them.
+-- A case for each way that the checks of two terms, a parallel and a guard return. The premises have the form of the facts known there: `search` finds
+-- those of the rulesets, and the answers of the cycle of checks give the others.
 -- Document 01, "Unfolding, size and breadth"; refusal 10.
-use Prim.Native.Nat.{ℕ, ◌-◌, ◌%◌, ◌≤◌}
+use Prim.Native.Nat.{ℕ, ◌-◌, ◌≤◌}
 use native.Mathlib.Omega.{arith}
 use mathlib.Core.Path.{◌≡◌, refl, sym, ap, ◌∙◌, subst}
 use mathlib.Core.Bool.{Bool}
@@ -23,19 +23,20 @@ use Rattle.eb3.proofs.Laws.ExpressionReading.{cond_sound}
 use Rattle.eb3.proofs.Laws.Spelling.{cond_length}
 use Rattle.scan.specs.Checking.{checked, last_of, Checked}
 use Rattle.scan.specs.Laws.Checking.{last_len}
-use Rattle.scan.specs.Readings.{Taken}
+use Rattle.scan.specs.Readings.{Taken, RefusedAs}
 use Rattle.scan.specs.Laws.Reading.{checked_refused, checked_taken, giving_refused_as, giving_taken, both_first_as, both_second_as, both_taken, both_behind, same_refused}
 use Rattle.expression_check.specs.Laws.Reading.{cond_ends}
-use Rattle.measures.specs.Weighing.{cap, parallel_by, joint_of}
+use Rattle.measures.specs.declared.Weight.{Weight}
+use Rattle.measures.specs.Weighing.{cap, measure, parallel_by, joint_of}
 use Rattle.tables.specs.Layout.{label_count, function_count}
 use Rattle.tables.specs.Tables.{edition_in, declared}
 use Rattle.tables.specs.Laws.Tables.{labels_length, guard_declared, mask_ends, mask_read}
 use Rattle.measures.specs.declared.Joint.{Joint}
 use Rattle.measures.specs.declared.Joint.TheVariants.{Parallel}
-use Rattle.term_check.specs.Given.{wrong, weighed_running}
-use Rattle.term_check.specs.Answers.{packed, unpacked, Answer, Operands, Operand, joined_of, weighed_pair, guarded_of}
-use Rattle.term_check.specs.Laws.Answers.{refused_wrong, Got, got, none_read}
-use Rattle.std.specs.Prelude.{Ok, Err}
+use Rattle.term_check.specs.Given.{Weighed, answer_of, weighed_running}
+use Rattle.term_check.specs.Answers.{weighed_pair}
+use Rattle.term_check.specs.Laws.Answers.{refused_none, none_read, measure_said, Got, got}
+use Rattle.std.specs.Prelude.{Option, Some, None, Ok, Err}
 use Rattle.refusals.specs.declared.Refusal.{Refusal}
 
 abbrev pub reads : List ℕ → Reader Term
@@ -43,52 +44,54 @@ reads T = read_term (declared T)
 
 -- ── two terms ──
 
-module _ (T t : List ℕ) (c : Joint) (p : ℕ) (fits : length t ≤ 8192) (e : p ≡ weighed_running (read_term (declared T) t)) where
-  pub pair_first : p ≡ wrong → wrong ≡ weighed_pair c (both (read_term (declared T)) (read_term (declared T)) t)
+module _ (T t : List ℕ) (c : Joint) where
+  pub pair_first : None ≡ weighed_running (read_term (declared T) t) → None ≡ weighed_pair c (both (read_term (declared T)) (read_term (declared T)) t)
   unfolding weighed_pair
-  pair_first h =
-      let g = none_read T t p fits e h in
+  pair_first e =
+      let g = none_read (reads T t) e in
       let m = both_first_as (reads T) (reads T) t g.0 g.1 in
       rw m.read
 
-  -- n words are left after the first, r is these
-  module _ (n q : ℕ) (r : List ℕ) (h : p ≡ wrong → ⊥) (i : n ≡ p % 65536) (l : r ≡ last_of n t) (f : q ≡ weighed_running (read_term (declared T) r)) where
+  -- S is the tables after the first term, r the words after it
+  module _ (p : Weighed) (fits : length t ≤ 8192) (e : Some p ≡ weighed_running (read_term (declared T) t))
+      (S : List ℕ) (o : S ≡ T) (r : List ℕ) (l : r ≡ last_of p.left t) where
     first : Got T t p
-    first = got T t p fits e h
+    first = got T t p fits e
 
     rest_is : first.rest ≡ r
-    rest_is = sym first.words ∙ ap (λ k. last_of k t) (sym i) ∙ sym l
+    rest_is = sym first.words ∙ sym l
 
-    long : length r ≡ p % 65536
-    long = ap length (sym rest_is) ∙ sym first.left
-
-    short : length r ≤ 8192
-    short = omega (arith, last_len n t r l)
-
-    pub pair_second : q ≡ wrong → wrong ≡ weighed_pair c (both (read_term (declared T)) (read_term (declared T)) t)
+    pub pair_second : None ≡ weighed_running (read_term (declared S) r) → None ≡ weighed_pair c (both (read_term (declared T)) (read_term (declared T)) t)
     unfolding weighed_pair
-    pair_second o =
-        let g = none_read T r q short f o in
-        let m = both_second_as (reads T) (reads T) t first.value first.rest g.0 first.read (same_refused _ _ g.0 (ap (reads T) rest_is) g.1) in
+    pair_second f =
+        let g = none_read (reads T r) (f ∙ (λ k. weighed_running (reads (o k) r))) in
+        let s : RefusedAs g.0 (reads T first.rest) = same_refused _ _ g.0 (ap (reads T) rest_is) g.1 in
+        let m = both_second_as (reads T) (reads T) t first.value first.rest g.0 first.read s in
         rw m.read
 
-    module _ (o : q ≡ wrong → ⊥) where
+    module _ (q : Weighed) (f : Some q ≡ weighed_running (read_term (declared S) r)) where
       second : Got T r q
-      second = got T r q short f o
+      second = got T r q (omega (arith, last_len p.left t r l)) (f ∙ (λ k. weighed_running (reads (o k) r)))
 
-      pub pair_fits : Operands (length t) p q
-      pair_fits = record { first = first.answer; second = subst (λ k. Answer k q) long second.answer }
+      long : length r ≡ p.left
+      long = ap length (sym rest_is) ∙ sym first.left
 
-      pub pair_in : (x : ℕ) → x ≡ joined_of c (length t) p q → x ≡ weighed_pair c (both (read_term (declared T)) (read_term (declared T)) t)
-      unfolding joined_of weighed_pair
-      pair_in x g =
-          let a = first in
-          let b = second in
-          let m : unpacked (p % 65536 - q % 65536) q ≡ measure_running (sat cap) 1 b.value = (λ j. unpacked (sym long j - q % 65536) q) ∙ b.measured in
-          let z : both (reads T) (reads T) t ≡ taken (a.value, b.value) b.rest = both_taken (reads T) (reads T) t a.value a.rest b.value b.rest a.read (ap (reads T) rest_is ∙ b.read) in
-          g ∙ (λ j. packed (b.left j) (joint_of c (a.measured j) (m j))) ∙ sym (ap (weighed_pair c) z)
+      pub pair_short : q.left ≤ p.left
+      pair_short = omega (arith, long, second.short)
 
-pub ruleset pairs = (pair_first, pair_second, pair_fits, pair_in)
+      pub pair_in : (a b x : Weight) → measure a ≡ measure_said (length t - p.left) p → measure b ≡ measure_said (p.left - q.left) q
+          → measure x ≡ joint_of c (measure a) (measure b)
+          → (y : Option Weighed) → y ≡ answer_of q.left (measure x) → y ≡ weighed_pair c (both (read_term (declared T)) (read_term (declared T)) t)
+      unfolding weighed_pair
+      pair_in a b x i j h y g =
+          let u = first in
+          let v = second in
+          let m : measure b ≡ measure_running (sat cap) 1 v.value = j ∙ (λ k. measure_said (sym long k - q.left) q) ∙ v.measured in
+          let z : both (reads T) (reads T) t ≡ taken (u.value, v.value) v.rest =
+          both_taken (reads T) (reads T) t u.value u.rest v.value v.rest u.read (ap (reads T) rest_is ∙ v.read) in
+          g ∙ (λ k. answer_of (v.left k) (h k)) ∙ (λ k. answer_of (length v.rest) (joint_of c ((i ∙ u.measured) k) (m k))) ∙ sym (ap (weighed_pair c) z)
+
+pub ruleset pairs = (pair_first)
 
 -- ── a mask, then two terms ──
 
@@ -100,7 +103,7 @@ giving_giving f g (taken a t) = refl
 weighed_parallel : (c : Joint) (Δ : Mask) → ((l r : Measure) → joint_of c l r ≡ parallel_of (sat cap) Δ l r) → (s : Read (Term × Term)) → weighed_pair c s ≡ weighed_running (giving (λ p. Terms.Parallel Δ p.0 p.1) s)
 unfolding weighed_pair weighed_running giving measure_running
 weighed_parallel c Δ h (refused k) = refl
-weighed_parallel c Δ h (taken s t) = λ j. packed (length t) (h (measure_running (sat cap) 1 s.0) (measure_running (sat cap) 1 s.1) j)
+weighed_parallel c Δ h (taken s t) = λ j. answer_of (length t) (h (measure_running (sat cap) 1 s.0) (measure_running (sat cap) 1 s.1) j)
 
 -- b is the number of labels, as the code has it
 module _ (T t : List ℕ) (b : ℕ) (p : Checked) (i : b ≡ label_count T) (e : p ≡ checked (mask_of 4 b t)) where
@@ -110,11 +113,12 @@ module _ (T t : List ℕ) (b : ℕ) (p : Checked) (i : b ≡ label_count T) (e :
   as_declared : p ≡ checked (masks t)
   as_declared = e ∙ ap (λ n. checked (mask_of 4 n t)) (i ∙ sym (labels_length T))
 
-  pub parallel_none : (k : Refusal) → p ≡ Err k → wrong ≡ weighed_running (term_by (declared T) (read_term (declared T)) TermKind.parallel t)
-  parallel_none k h = refused_wrong _ k (giving_refused_as _ _ k (both_first_as masks (both (reads T) (reads T)) t k (checked_refused (masks t) k (sym h ∙ as_declared))))
+  pub parallel_none : (k : Refusal) → p ≡ Err k → None ≡ weighed_running (term_by (declared T) (read_term (declared T)) TermKind.parallel t)
+  parallel_none k h =
+      refused_none _ k (giving_refused_as _ _ k (both_first_as masks (both (reads T) (reads T)) t k (checked_refused (masks t) k (sym h ∙ as_declared))))
 
   -- z says whether the mask is zero
-  module _ (n : ℕ) (r : List ℕ) (z : Bool) (x : ℕ) (h : p ≡ Ok n) (l : r ≡ last_of n t) (o : z ≡ zero_mask (take 4 t)) where
+  module _ (n : ℕ) (r : List ℕ) (z : Bool) (x : Option Weighed) (h : p ≡ Ok n) (l : r ≡ last_of n t) (o : z ≡ zero_mask (take 4 t)) where
     mask : Taken t n (masks t)
     mask = checked_taken t n (masks t) (mask_ends 4 (length (declared T).labels) t) (sym h ∙ as_declared)
 
@@ -152,46 +156,54 @@ module _ (T t : List ℕ) (b : ℕ) (p : Checked) (i : b ≡ function_count T) (
   in_scope = e ∙ (λ j. checked (read_cond (record { edition = edition_in T; arity = λ f. 1; now = i j; before = 0; variables = 0 }) t))
       ∙ ap (λ P. checked (read_cond P t)) (sym (guard_declared T 0)) ∙ ap checked width_one
 
-  pub guarded_none : (k : Refusal) → p ≡ Err k → wrong ≡ weighed_running (term_by (declared T) (read_term (declared T)) TermKind.guard t)
-  guarded_none k h = refused_wrong _ k (giving_refused_as _ _ k (both_first_as conditions (reads T) t k (checked_refused (conditions t) k (sym h ∙ in_scope))))
+  pub guarded_none : (k : Refusal) → p ≡ Err k → None ≡ weighed_running (term_by (declared T) (read_term (declared T)) TermKind.guard t)
+  guarded_none k h = refused_none _ k (giving_refused_as _ _ k (both_first_as conditions (reads T) t k (checked_refused (conditions t) k (sym h ∙ in_scope))))
 
-  module _ (n q : ℕ) (r : List ℕ) (fits : length t ≤ 8192) (h : p ≡ Ok n) (l : r ≡ last_of n t) (f : q ≡ weighed_running (read_term (declared T) r)) where
+  -- n words are left after the condition
+  module _ (n : ℕ) (h : p ≡ Ok n) where
     condition : Taken t n (conditions t)
     condition = checked_taken t n (conditions t) (cond_ends (declared T).edition.width (guard_scope (attributes (declared T)) 0) t) (sym h ∙ in_scope)
 
-    behind_is : condition.rest ≡ r
-    behind_is = sym condition.words ∙ sym l
+    pub guarded_behind : n ≤ length t
+    guarded_behind = condition.short
 
-    words_left : length r ≡ n
-    words_left = ap length (sym behind_is) ∙ sym condition.left
+    -- r is these
+    module _ (r : List ℕ) (l : r ≡ last_of n t) where
+      behind_is : condition.rest ≡ r
+      behind_is = sym condition.words ∙ sym l
 
-    few : length r ≤ 8192
-    few = omega (arith, last_len n t r l)
-
-    pub guarded_out : q ≡ wrong → wrong ≡ weighed_running (term_by (declared T) (read_term (declared T)) TermKind.guard t)
-    guarded_out o =
-        let g = none_read T r q few f o in
-        refused_wrong _ g.0 (giving_refused_as _ _ g.0 (both_second_as conditions (reads T) t condition.value condition.rest g.0 condition.read (same_refused _ _ g.0 (ap (reads T) behind_is) g.1)))
-
-    module _ (o : q ≡ wrong → ⊥) where
-      operand : Got T r q
-      operand = got T r q few f o
-
-      pub guarded_fits : Operand (length t) n q
-      guarded_fits = record { answer = subst (λ k. Answer k q) words_left operand.answer; behind = condition.short; few = fits }
-
-      size_taken : length t - n ≡ cond_size 1 condition.value
-      unfolding declared
-      size_taken = ap (λ m. length t - m) condition.left ∙ words_taken (guard_scope (attributes (declared T)) 0) t condition.value condition.rest condition.read
-
-      pub guarded_in : (x : ℕ) → x ≡ guarded_of (length t) n q → x ≡ weighed_running (term_by (declared T) (read_term (declared T)) TermKind.guard t)
-      unfolding guarded_of weighed_running measure_running
-      guarded_in x g =
+      pub guarded_out : None ≡ weighed_running (read_term (declared T) r)
+          → None ≡ weighed_running (term_by (declared T) (read_term (declared T)) TermKind.guard t)
+      guarded_out f =
           let a = condition in
-          let b = operand in
-          let m : unpacked (n - q % 65536) q ≡ measure_running (sat cap) 1 b.value = (λ j. unpacked (sym words_left j - q % 65536) q) ∙ b.measured in
-          let z : giving (λ s. Guard s.0 s.1) (both conditions (reads T) t) ≡ taken (Guard a.value b.value) b.rest =
-          giving_taken _ _ (a.value, b.value) b.rest (both_taken conditions (reads T) t a.value a.rest b.value b.rest a.read (ap (reads T) behind_is ∙ b.read)) in
-          g ∙ (λ j. packed (b.left j) (guard_of (sat cap) (size_taken j) (m j))) ∙ sym (ap weighed_running z)
+          let g = none_read (reads T r) f in
+          let m : RefusedAs g.0 (reads T a.rest) = same_refused _ _ g.0 (ap (reads T) behind_is) g.1 in
+          refused_none _ g.0 (giving_refused_as _ _ g.0 (both_second_as conditions (reads T) t a.value a.rest g.0 a.read m))
 
-pub ruleset guards = (guarded_none, guarded_out, guarded_fits, guarded_in)
+      module _ (fits : length t ≤ 8192) (q : Weighed) (f : Some q ≡ weighed_running (read_term (declared T) r)) where
+        operand : Got T r q
+        operand = got T r q (omega (arith, last_len n t r l)) f
+
+        words_left : length r ≡ n
+        words_left = ap length (sym behind_is) ∙ sym condition.left
+
+        pub guarded_short : q.left ≤ n
+        guarded_short = omega (arith, words_left, operand.short)
+
+        size_taken : length t - n ≡ cond_size 1 condition.value
+        unfolding declared
+        size_taken = ap (λ m. length t - m) condition.left
+            ∙ words_taken (guard_scope (attributes (declared T)) 0) t condition.value condition.rest condition.read
+
+        pub guarded_in : (a x : Weight) → measure a ≡ measure_said (n - q.left) q → measure x ≡ guard_of (sat cap) (length t - n) (measure a)
+            → (y : Option Weighed) → y ≡ answer_of q.left (measure x) → y ≡ weighed_running (term_by (declared T) (read_term (declared T)) TermKind.guard t)
+        unfolding weighed_running measure_running
+        guarded_in a x i k y g =
+            let u = condition in
+            let v = operand in
+            let m : measure a ≡ measure_running (sat cap) 1 v.value = i ∙ (λ j. measure_said (sym words_left j - q.left) q) ∙ v.measured in
+            let z : giving (λ s. Guard s.0 s.1) (both conditions (reads T) t) ≡ taken (Guard u.value v.value) v.rest =
+            giving_taken _ _ _ v.rest (both_taken conditions (reads T) t u.value u.rest v.value v.rest u.read (ap (reads T) behind_is ∙ v.read)) in
+            g ∙ (λ j. answer_of (v.left j) (k j)) ∙ (λ j. answer_of (length v.rest) (guard_of (sat cap) (size_taken j) (m j))) ∙ sym (ap weighed_running z)
+
+pub ruleset guards = (guarded_none, guarded_out, guarded_short)

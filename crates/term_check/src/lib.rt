@@ -11,8 +11,8 @@ ghost use Rattle.eb3.specs.Reading.{giving, both};
 ghost use Rattle.eb3.specs.TermReading.{elements_of, TermKind, action_of, term_by, read_term, given_term};
 ghost use Rattle.measures.specs.Weighing.{measure};
 ghost use Rattle.tables.specs.Tables.{edition_in, declared};
-ghost use Rattle.term_check.specs.Given.{weighed_running, given};
-ghost use Rattle.term_check.specs.Answers.{left_after, packed, Packs, weighed_pair};
+ghost use Rattle.term_check.specs.Given.{answer_of, weighed_running, given};
+ghost use Rattle.term_check.specs.Answers.{left_after, weighed_pair};
 ghost use Rattle.term_check.specs.Lending.{Kept, said};
 
 use code_numbers::{ACTION, CHOICE, CONSTANT, GUARD, INTERNAL, PARALLEL, SEQUENCE, STAR};
@@ -21,8 +21,7 @@ use expression_check::{Scope, check_cond};
 use measures::{Joint, Limits, Weight, empty, guard, single, stars};
 use scan::repeats::leading;
 use scan::{behind, last};
-use tables::layout::{LABEL_ROWS, LABEL_WORDS};
-use tables::{MASK_WORDS, check_mask, functions, labels, mask_zero, row_at, size_of};
+use tables::{MASK_WORDS, check_mask, functions, label_row, labels, mask_zero, size_of};
 
 // The reach and the breadth of a given term.
 #[derive(Clone, Copy)]
@@ -64,9 +63,8 @@ fn elements(t: &[u16], tb: &[u32], ds: &[u32]) -> Option<usize>
 impl Weigher<'_> {
     // A term that was read, with what it measures.
     fn leaf(&mut self, left: usize, w: Weight) -> Option<usize>
-        requires { Packs left (measure w) }
-        ensures kept { Kept self.old self.new result }
-        ensures read { said self.new result ≡ packed left (measure w) }
+        ensures kept { Kept self.old self.new }
+        ensures read { said self.new result ≡ answer_of left (measure w) }
     {
         self.reach = w.reach;
         self.breadth = w.breadth;
@@ -89,7 +87,7 @@ impl Weigher<'_> {
     #[tactic(auto, using(crate::proofs::Leaves::actions))]
     fn action(&mut self, t: &[u16]) -> Option<usize>
         requires { length t.now ≤ 8192 }
-        ensures kept { Kept self.old self.new result }
+        ensures kept { Kept self.old self.new }
         ensures read { said self.new result ≡ weighed_running (action_of (declared self.old.tables.now) t.now) }
     {
         if t.len() == 0 {
@@ -99,7 +97,7 @@ impl Weigher<'_> {
         if labels(self.tables) <= l {
             return None;
         }
-        let ds = row_at(self.tables, LABEL_ROWS + LABEL_WORDS * l);
+        let ds = label_row(self.tables, l);
         let m = elements(behind(t), self.tables, ds)?;
         self.leaf(m, single(2 + 2 * ds.len() as u64))
     }
@@ -109,7 +107,7 @@ impl Weigher<'_> {
     #[tactic(auto, using(crate::proofs::Nested::starred_terms))]
     fn starred(&mut self, t: &[u16]) -> Option<usize>
         requires { length t.now ≤ 8192 }
-        ensures kept { Kept self.old self.new result }
+        ensures kept { Kept self.old self.new }
         ensures read { said self.new result ≡ weighed_running (giving Star (read_term (declared self.old.tables.now) t.now)) }
     {
         let k = leading(t, STAR);
@@ -124,7 +122,7 @@ impl Weigher<'_> {
     #[tactic(auto, using(crate::proofs::Parts::pairs))]
     fn two_terms(&mut self, t: &[u16], joint: Joint) -> Option<usize>
         requires { length t.now ≤ 8192 }
-        ensures kept { Kept self.old self.new result }
+        ensures kept { Kept self.old self.new }
         ensures read { said self.new result ≡ weighed_pair joint (both (read_term (declared self.old.tables.now)) (read_term (declared self.old.tables.now)) t.now) }
     {
         let n = self.check(t)?;
@@ -138,7 +136,7 @@ impl Weigher<'_> {
     #[tactic(auto, using(crate::proofs::Parts::parallels))]
     fn in_parallel(&mut self, t: &[u16]) -> Option<usize>
         requires { length t.now ≤ 8192 }
-        ensures kept { Kept self.old self.new result }
+        ensures kept { Kept self.old self.new }
         ensures read { said self.new result ≡ weighed_running (term_by (declared self.old.tables.now) (read_term (declared self.old.tables.now)) TermKind.parallel t.now) }
     {
         let Ok(n) = check_mask(t, MASK_WORDS, labels(self.tables)) else {
@@ -152,7 +150,7 @@ impl Weigher<'_> {
     #[tactic(auto, using(crate::proofs::Parts::guards))]
     fn guarded(&mut self, t: &[u16]) -> Option<usize>
         requires { length t.now ≤ 8192 }
-        ensures kept { Kept self.old self.new result }
+        ensures kept { Kept self.old self.new }
         ensures read { said self.new result ≡ weighed_running (term_by (declared self.old.tables.now) (read_term (declared self.old.tables.now)) TermKind.guard t.now) }
     {
         let c = Scope {
@@ -172,7 +170,7 @@ impl Weigher<'_> {
     #[tactic(auto, using(crate::proofs::Codes::codes))]
     fn check(&mut self, s: &[u16]) -> Option<usize>
         requires { length s.now ≤ 8192 }
-        ensures kept { Kept self.old self.new result }
+        ensures kept { Kept self.old self.new }
         ensures read { said self.new result ≡ weighed_running (read_term (declared self.old.tables.now) s.now) }
     {
         let Ok(w) = code_due(s, 0, Due::RunningTerm) else {

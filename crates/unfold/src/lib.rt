@@ -25,8 +25,8 @@ use code_numbers::{
 use rows::{action, condition};
 use scan::{first, last};
 use scope::Scope;
-use tables::layout::{BODY, PROCESS_ROWS, PROCESS_WORDS};
-use tables::{Context, MASK_WORDS, entry, processes, row_at, size_of, with};
+use tables::layout::BODY;
+use tables::{Context, MASK_WORDS, parameters_row, process_entry, processes, size_of, with};
 use values::arguments_of;
 use writer::Writer;
 
@@ -172,8 +172,7 @@ fn body(scope: &Scope, n: usize, p: usize, out: &mut Writer) -> Option<usize>
     ensures { Puts (Enters scope.now.words.now scope.now.context.tables.now n p scope.now.context.variables.now) out.old out.new result }
 {
     let s = last(scope.words, n);
-    let row = PROCESS_ROWS + PROCESS_WORDS * p;
-    let k = row_at(scope.context.tables, row).len();
+    let k = parameters_row(scope.context.tables, p).len();
     if 8 < k {
         return None;
     }
@@ -184,7 +183,7 @@ fn body(scope: &Scope, n: usize, p: usize, out: &mut Writer) -> Option<usize>
     let mut places = [0; 8];
     let values = &mut places[..k];
     arguments_of(s, scope.context.variables, values);
-    let start = entry(scope.context.tables, row + BODY) as usize;
+    let start = process_entry(scope.context.tables, p, BODY) as usize;
     let context = Context {
         tables: scope.context.tables,
         variables: values,
@@ -267,7 +266,7 @@ pub fn unfold_main(t: &[u16], tb: &[u32], out: &mut [u8]) -> usize
         return 0;
     }
     let p = count - 1;
-    let start = entry(tb, PROCESS_ROWS + PROCESS_WORDS * p + BODY) as usize;
+    let start = process_entry(tb, p, BODY) as usize;
     let context = Context {
         tables: tb,
         variables: &t[..0],

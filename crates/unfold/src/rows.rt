@@ -10,8 +10,7 @@ use super::writer::Writer;
 use code_numbers::{ACTION, CONSTANT, GUARD, VARIABLE};
 use codes::{EDITION_1, code_at, operands_after, words_after};
 use scan::{behind, first, last};
-use tables::layout::{LABEL_ROWS, LABEL_WORDS};
-use tables::row_at;
+use tables::label_row;
 
 // The front of an expression; a variable's becomes a constant's.
 fn put_front(front: &[u16], vars: &[u16], out: &mut Writer) -> Option<()>
@@ -64,8 +63,7 @@ pub fn action(scope: &Scope, n: usize, out: &mut Writer) -> Option<usize>
         return None;
     }
     out.head(ACTION as u16, &s[..1])?;
-    let row = LABEL_ROWS + LABEL_WORDS * first(s);
-    let k = row_at(scope.context.tables, row).len();
+    let k = label_row(scope.context.tables, first(s)).len();
     put_row(scope, s.len() - 1, k, out)
 }
 

@@ -1,3 +1,4 @@
+use Rattle.scan.specs.Checking.{last_of}
 use Rattle.derivation.proofs.Sides.{both_none_right, both_none_left, both_made, sides_none_left, sides_left_made, sides_none_right, sides_right_made, sides_pair, at_place}
 use Rattle.std.proofs.Common.{rules}
 use lib.ListN.{drop, length}
@@ -33,14 +34,14 @@ arrays::Arrays::derive_guard-skip-requires t c = omega (arith, last_len _ _ _ c.
 pub arrays::Arrays::derive_guard-passing-requires : goal.arrays::Arrays::derive_guard-passing-requires
 arrays::Arrays::derive_guard-passing-requires t c = omega (arith, c.skip.ensures.0, last_len _ _ _ c.last-u.ensures)
 
-pub arrays::Arrays::derive_guard-returns-then-c-eq0-clause-derived : goal.arrays::Arrays::derive_guard-returns-then-c-eq0-clause-derived
-arrays::Arrays::derive_guard-returns-then-c-eq0-clause-derived t c = derived_path c.passing.ensures.path (guard_shut _ _ _ _ _ c.eval_cond-c.ensures.0 c.last-u.ensures _ c.requires c.args.self.now.due _ _ _ _ c.if-c-eq0.true c.skip.ensures.0 c.skip.ensures.1 c.passing.ensures.passed.0)
+pub arrays::Arrays::derive_guard-returns-then-truth_of-eq0-clause-derived : goal.arrays::Arrays::derive_guard-returns-then-truth_of-eq0-clause-derived
+arrays::Arrays::derive_guard-returns-then-truth_of-eq0-clause-derived t c = derived_path c.passing.ensures.path (guard_shut _ _ _ _ _ c.eval_cond-c.ensures.0 (c.last-u.ensures ∙ ap (λ n. last_of n c.args.t.now) c.words_left.ensures) _ c.requires c.args.self.now.due _ _ _ _ (sym c.truth_of.ensures ∙ c.if-truth_of-eq0.true) c.skip.ensures.0 c.skip.ensures.1 c.passing.ensures.passed.0)
 
 pub arrays::Arrays::derive_guard-walk-requires : goal.arrays::Arrays::derive_guard-walk-requires
 arrays::Arrays::derive_guard-walk-requires t c = (omega (arith, last_len _ _ _ c.last-u.ensures), omega (arith, last_len _ _ _ c.last-u.ensures))
 
 pub arrays::Arrays::derive_guard-returns-clause-derived : goal.arrays::Arrays::derive_guard-returns-clause-derived
-arrays::Arrays::derive_guard-returns-clause-derived t c = guard_open _ _ _ _ _ c.eval_cond-c.ensures.0 c.last-u.ensures _ c.requires c.args.self.now.due _ _ _ _ c.if-c-eq0.false c.walk.ensures.derived
+arrays::Arrays::derive_guard-returns-clause-derived t c = guard_open _ _ _ _ _ c.eval_cond-c.ensures.0 (c.last-u.ensures ∙ ap (λ n. last_of n c.args.t.now) c.words_left.ensures) _ c.requires c.args.self.now.due _ _ _ _ (λ z. c.if-truth_of-eq0.false (c.truth_of.ensures ∙ z)) c.walk.ensures.derived
 
 pub arrays::Arrays::derive_left-skip-requires : goal.arrays::Arrays::derive_left-skip-requires
 arrays::Arrays::derive_left-skip-requires t c = omega (arith, last_len _ _ _ c.last.ensures)

@@ -3,9 +3,13 @@ use Rattle.expressions.proofs.Cases.{paired, joined, negated, named, select_seco
 use Rattle.expressions.proofs.Fronts.{handed, data_constant, data_variable, data_sum, data_difference, data_selection, data_present, data_past, data_none, cond_equality, cond_order, cond_conjunction, cond_disjunction, cond_negation, cond_truism}
 use Rattle.expressions.specs.Operands.{operated, connected}
 use native.Mathlib.Omega.{arith}
-use mathlib.Core.Path.{refl, ap}
+use mathlib.Core.Path.{refl, ap, sym, ◌∙◌}
+use lib.Dec.{eqb}
+use mir.Val.{bool_byte}
+use Rattle.scan.specs.Checking.{last_of}
+use Rattle.expressions.specs.Answering.{answer}
 use Rattle.expressions.proofs.+evaluators.Goals as goal
-use Rattle.expressions.proofs.+evaluators.Goals.{eval_data-in-1, eval_data-in-2, eval_data-in-3, eval_data-in-4, eval_data-in-5, eval_data-in-6, eval_data-in-7, eval_data-in_default, selected-then-c-eq0, selected-else-c-eq0}
+use Rattle.expressions.proofs.+evaluators.Goals.{eval_data-in-1, eval_data-in-2, eval_data-in-3, eval_data-in-4, eval_data-in-5, eval_data-in-6, eval_data-in-7, eval_data-in_default, selected-then-truth_of-eq0, selected-else-truth_of-eq0}
 
 pub attribute-returns : goal.attribute-returns
 attribute-returns t c = (named c.args.t.now _ _ _ _ _ _ c.behind.ensures c.operand-x.ensures.0 c.first.ensures.0 c.cell.ensures.0 refl, omega (arith, behind_len))
@@ -32,12 +36,15 @@ pub joined-eval_cond-y-requires : goal.joined-eval_cond-y-requires
 joined-eval_cond-y-requires t c = (omega (arith, last_len), omega (arith, last_len))
 
 pub joined-returns : goal.joined-returns
-joined-returns t c =
-    (joined _ _ _ _ _ (connected c.args.connective) _ _ c.eval_cond-x.ensures.0 c.last.ensures c.eval_cond-y.ensures.0 c.connect.ensures.0 c.pack.ensures.0, c.pack.ensures.1)
+joined-returns t c = (
+  joined _ _ _ _ _ (connected c.args.connective) _ _ c.eval_cond-x.ensures.0 (c.last.ensures ∙ ap (λ n. last_of n c.args.t.now) c.words_left.ensures) c.eval_cond-y.ensures.0
+      (λ p q e f. c.connect.ensures.0 p q (c.truth_of.ensures ∙ e) (c.truth_of-2.ensures ∙ f)) (c.pack.ensures.0 ∙ ap (answer c.connect.result) c.words_left-2.ensures),
+  c.pack.ensures.1,
+)
 
 pub negated-returns : goal.negated-returns
 negated-returns t c =
-    (negated _ _ _ c.eval_cond-x.ensures.0 _ _ c.from.ensures c.pack.ensures.0, c.pack.ensures.1)
+    (negated _ _ _ c.eval_cond-x.ensures.0 _ _ (c.from.ensures ∙ ap (λ n. bool_byte (eqb n 0)) c.truth_of.ensures) (c.pack.ensures.0 ∙ ap (answer c.from.result) c.words_left.ensures), c.pack.ensures.1)
 
 pub operand-returns-in-1 : goal.operand-returns-in-1
 operand-returns-in-1 t c = (data_constant _ _ _ _ c.behind-t.ensures _ c.first-w.ensures.0 c.in-1.is c.constant.ensures.0, omega (arith, behind_len))
@@ -70,7 +77,7 @@ eval_data-returns t c = elim c.match-w.branch [
 ]
 
 pub selected-returns : goal.selected-returns
-selected-returns t c = elim c.if-c-eq0.branch [
-  | selected-then-c-eq0 w ↦ (select_second _ _ _ _ _ _ _ c.eval_cond-c.ensures.0 c.last-u.ensures c.operand-x.ensures.0 c.last.ensures c.operand-y.ensures.0 _ (ap (λ y. y.0) w.result-is) (ap (λ y. y.1.0) w.result-is) w.if-c-eq0.true, omega (arith, last_len, ap (λ y. y.1.0) w.result-is))
-  | selected-else-c-eq0 w ↦ (select_first _ _ _ _ _ _ _ c.eval_cond-c.ensures.0 c.last-u.ensures c.operand-x.ensures.0 c.last.ensures c.operand-y.ensures.0 _ (ap (λ y. y.0) w.result-is) (ap (λ y. y.1.0) w.result-is) w.if-c-eq0.false, omega (arith, last_len, ap (λ y. y.1.0) w.result-is))
+selected-returns t c = elim c.if-truth_of-eq0.branch [
+  | selected-then-truth_of-eq0 w ↦ (select_second _ _ _ _ _ _ _ c.eval_cond-c.ensures.0 (c.last-u.ensures ∙ ap (λ n. last_of n c.args.t.now) c.words_left.ensures) c.operand-x.ensures.0 c.last.ensures c.operand-y.ensures.0 _ (ap (λ y. y.0) w.result-is) (ap (λ y. y.1.0) w.result-is) (sym c.truth_of.ensures ∙ w.if-truth_of-eq0.true), omega (arith, last_len, ap (λ y. y.1.0) w.result-is))
+  | selected-else-truth_of-eq0 w ↦ (select_first _ _ _ _ _ _ _ c.eval_cond-c.ensures.0 (c.last-u.ensures ∙ ap (λ n. last_of n c.args.t.now) c.words_left.ensures) c.operand-x.ensures.0 c.last.ensures c.operand-y.ensures.0 _ (ap (λ y. y.0) w.result-is) (ap (λ y. y.1.0) w.result-is) (λ z. w.if-truth_of-eq0.false (c.truth_of.ensures ∙ z)), omega (arith, last_len, ap (λ y. y.1.0) w.result-is))
 ]

@@ -1,9 +1,8 @@
 -- What an answer of the check says of the reading: what was read, the words after it and its measures (`got`), or that nothing was (`none_read`);
--- and where only the words left are asked, `left_taken` and `left_wrong`.
+-- and where only the words left are asked, `left_taken` and `left_none`.
 -- Document 01, "Unfolding, size and breadth"; refusal 10.
-use Rattle.std.specs.Prelude.{Some, None, ℕ, ◌+◌, ◌-◌, ◌*◌, ◌/◌, ◌%◌, ◌≤◌, ◌<◌, ◌≡◌, List, ◌++◌, length}
-use Rattle.std.proofs.Common.{mod-eq_of_lt, zero-add, arith, sym, ap, ◌∙◌, subst, lit<, length-append}
-use Rattle.std.proofs.Math.Nat.{div-eq_of_lt, add-mul-mod_self_left, add-mul-div_left, div-div-eq-div-mul}
+use Rattle.std.specs.Prelude.{Some, None, ℕ, ◌+◌, ◌-◌, ◌≤◌, ◌≡◌, List, ◌++◌, length}
+use Rattle.std.proofs.Common.{arith, ap, ◌∙◌, subst, length-append}
 use Rattle.std.proofs.Math.Path.{refl}
 use Rattle.eb3.specs.Terms.{Term}
 use Rattle.eb3.specs.Sizes.{size, reach, breadth}
@@ -22,27 +21,11 @@ use Rattle.scan.specs.Laws.Checking.{tail_short, tail_at}
 use Rattle.scan.specs.Readings.{Taken, RefusedAs}
 use Rattle.measures.specs.Weighing.{cap}
 use Rattle.tables.specs.Tables.{declared}
-use Rattle.term_check.specs.Given.{wrong, weighed_running}
-use Rattle.term_check.specs.Answers.{left_after, packed, unpacked, Answer}
+use Rattle.term_check.specs.Given.{Weighed, weighed_running}
+use Rattle.term_check.specs.Answers.{left_after}
 use Rattle.term_check.specs.Laws.Reading.{term_ends}
 use Rattle.refusals.specs.declared.Refusal.{Refusal}
 use Rattle.refusals.specs.Numbers.{refusal}
-
--- ── the numbers in one ──
-
-module _ (n g b p : ℕ) (e : p ≡ n + 65536 * (g + 131072 * b)) (small : n < 65536) where
-  pub left_packed : p % 65536 ≡ n
-  left_packed = ap (λ x. x % 65536) e ∙ add-mul-mod_self_left n 65536 (g + 131072 * b) ∙ mod-eq_of_lt small
-
-  behind_left : p / 65536 ≡ g + 131072 * b
-  behind_left = ap (λ x. x / 65536) e ∙ add-mul-div_left n (g + 131072 * b) {y = 65536} (lit< tt) ∙ ap (λ x. x + (g + 131072 * b)) (div-eq_of_lt small) ∙ zero-add (g + 131072 * b)
-
-  module _ (cut : g < 131072) where
-    pub reach_packed : p / 65536 % 131072 ≡ g
-    reach_packed = ap (λ x. x % 131072) behind_left ∙ add-mul-mod_self_left g 131072 b ∙ mod-eq_of_lt cut
-
-    pub breadth_packed : p / 8589934592 ≡ b
-    breadth_packed = sym (div-div-eq-div-mul p 65536 131072) ∙ ap (λ x. x / 131072) behind_left ∙ add-mul-div_left g b {y = 131072} (lit< tt) ∙ ap (λ x. x + b) (div-eq_of_lt cut) ∙ zero-add b
 
 -- ── a term's measures ──
 
@@ -56,12 +39,6 @@ module _ (E : Term) where
   size_cut : (measure_running (sat cap) 1 E).size ≡ sat cap (size 1 E)
   size_cut = ap (λ (m : Measure). m.size) (measure_running_sat cap 1 E)
 
-  pub reach_small : (measure_running (sat cap) 1 E).reach ≤ 65536
-  reach_small = omega (arith, reach_cut)
-
-  pub breadth_small : (measure_running (sat cap) 1 E).breadth ≤ 65536
-  breadth_small = omega (arith, breadth_cut)
-
 -- A running term's size is the words that it took.
 pub taken_size : (T t : List ℕ) (E : Term) (u : List ℕ) → read_term (declared T) t ≡ taken E u → length t ≡ size 1 E + length u
 unfolding declared
@@ -71,10 +48,10 @@ taken_size T t E u e =
 
 -- ── words left ──
 
-pub left_wrong : {A : Type 0} (r : Read A) → None ≡ left_after r → (k : Refusal) × RefusedAs k r
+pub left_none : {A : Type 0} (r : Read A) → None ≡ left_after r → (k : Refusal) × RefusedAs k r
 unfolding left_after
-left_wrong (refused k) e = (refusal k, record { code = k; read = refl; named = refl })
-left_wrong (taken a u) e = absurd (let z : ◌≡◌ {A = ℕ} 0 1 = cc in omega arith)
+left_none (refused k) e = (refusal k, record { code = k; read = refl; named = refl })
+left_none (taken a u) e = absurd (let z : ◌≡◌ {A = ℕ} 0 1 = cc in omega arith)
 
 pub left_taken : {A : Type 0} (t : List ℕ) (n : ℕ) (r : Read A) → Fine t r → Some n ≡ left_after r → Taken t n r
 unfolding left_after
@@ -85,60 +62,45 @@ left_taken t n (taken a u) f e =
 
 -- ── what was read ──
 
-pub refused_wrong : (r : Read Term) (k : Refusal) → RefusedAs k r → wrong ≡ weighed_running r
+pub refused_none : (r : Read Term) (k : Refusal) → RefusedAs k r → None ≡ weighed_running r
 unfolding weighed_running
-refused_wrong r k h = rw h.read
+refused_none r k h = rw h.read
 
-pub record Got (T t : List ℕ) (p : ℕ) : Type 0 where
+pub none_read : (r : Read Term) → None ≡ weighed_running r → (k : Refusal) × RefusedAs k r
+unfolding weighed_running
+none_read (refused k) e = (refusal k, record { code = k; read = refl; named = refl })
+none_read (taken E u) e = absurd (let z : ◌≡◌ {A = ℕ} 0 1 = cc in omega arith)
+
+-- The measures that an answer says of a term of n words.
+abbrev pub measure_said : ℕ → Weighed → Measure
+measure_said n p = record { size = n; reach = p.reach; breadth = p.breadth }
+
+pub record Got (T t : List ℕ) (p : Weighed) : Type 0 where
   pub value : Term
   pub rest : List ℕ
   pub read : read_term (declared T) t ≡ taken value rest
-  pub left : p % 65536 ≡ length rest
-  pub words : last_of (p % 65536) t ≡ rest
-  pub measured : unpacked (length t - p % 65536) p ≡ measure_running (sat cap) 1 value
-  pub answer : Answer (length t) p
+  pub left : p.left ≡ length rest
+  pub words : last_of p.left t ≡ rest
+  pub short : p.left ≤ length t
+  pub measured : measure_said (length t - p.left) p ≡ measure_running (sat cap) 1 value
 
-module _ (T t : List ℕ) (p : ℕ) (fits : length t ≤ 8192) where
-  -- E is read, and u is left after it
-  module _ (E : Term) (u : List ℕ) (e : read_term (declared T) t ≡ taken E u) (f : p ≡ packed (length u) (measure_running (sat cap) 1 E)) where
-    shorter : length u ≤ length t
-    shorter = omega (arith, taken_size T t E u e)
-
-    at_left : p % 65536 ≡ length u
-    at_left = left_packed (length u) (measure_running (sat cap) 1 E).reach (measure_running (sat cap) 1 E).breadth p f (omega (arith, shorter))
-
-    at_reach : p / 65536 % 131072 ≡ (measure_running (sat cap) 1 E).reach
-    at_reach = reach_packed (length u) (measure_running (sat cap) 1 E).reach (measure_running (sat cap) 1 E).breadth p f (omega (arith, shorter)) (omega (arith, reach_small E))
-
-    at_breadth : p / 8589934592 ≡ (measure_running (sat cap) 1 E).breadth
-    at_breadth = breadth_packed (length u) (measure_running (sat cap) 1 E).reach (measure_running (sat cap) 1 E).breadth p f (omega (arith, shorter)) (omega (arith, reach_small E))
-
-    at_size : length t - p % 65536 ≡ (measure_running (sat cap) 1 E).size
-    at_size = omega (arith, at_left, taken_size T t E u e, size_cut E)
-
-    got_taken : Got T t p
-    got_taken = record {
-      value = E;
-      rest = u;
-      read = e;
-      left = at_left;
-      words = ap (λ n. last_of n t) at_left ∙ tail_at u t (subst (Fine t) e (term_ends (declared T) t));
-      measured = λ j. record { size = at_size j; reach = at_reach j; breadth = at_breadth j };
-      answer = record { short = fits; left = omega (arith, at_left, shorter); reach = omega (arith, at_reach, reach_small E); breadth = omega (arith, at_breadth, breadth_small E) };
-    }
-
-  pub got : p ≡ weighed_running (read_term (declared T) t) → (p ≡ wrong → ⊥) → Got T t p
-  unfolding weighed_running
-  got e h = go (read_term (declared T) t) refl e
-    where
-      go : (r : Read Term) → read_term (declared T) t ≡ r → p ≡ weighed_running r → Got T t p
-      go (refused k) q f = absurd (h f)
-      go (taken E u) q f = got_taken E u q f
-
-  pub none_read : p ≡ weighed_running (read_term (declared T) t) → p ≡ wrong → (k : Refusal) × RefusedAs k (read_term (declared T) t)
-  unfolding weighed_running
-  none_read e h = go (read_term (declared T) t) refl e
-    where
-      go : (r : Read Term) → read_term (declared T) t ≡ r → p ≡ weighed_running r → (k : Refusal) × RefusedAs k (read_term (declared T) t)
-      go (refused k) q f = (refusal k, record { code = k; read = q; named = refl })
-      go (taken E u) q f = absurd (let z : ⊥ = omega (arith, f, h, reach_small E, breadth_small E, shorter E u q f) in z)
+pub got : (T t : List ℕ) (p : Weighed) → length t ≤ 8192 → Some p ≡ weighed_running (read_term (declared T) t) → Got T t p
+unfolding weighed_running
+got T t p fits e = go (read_term (declared T) t) refl e
+  where
+    go : (r : Read Term) → read_term (declared T) t ≡ r → Some p ≡ weighed_running r → Got T t p
+    go (refused k) q f = absurd (let z : ◌≡◌ {A = ℕ} 0 1 = cc in omega arith)
+    go (taken E u) q f =
+        let i : p.left ≡ length u = cc in
+        let g : p.reach ≡ (measure_running (sat cap) 1 E).reach = cc in
+        let b : p.breadth ≡ (measure_running (sat cap) 1 E).breadth = cc in
+        let s : length t - p.left ≡ (measure_running (sat cap) 1 E).size = omega (arith, i, taken_size T t E u q, size_cut E) in
+        record {
+          value = E;
+          rest = u;
+          read = q;
+          left = i;
+          words = ap (λ n. last_of n t) i ∙ tail_at u t (subst (Fine t) q (term_ends (declared T) t));
+          short = omega (arith, i, taken_size T t E u q);
+          measured = λ j. record { size = s j; reach = g j; breadth = b j };
+        }

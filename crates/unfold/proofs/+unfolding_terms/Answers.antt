@@ -10,7 +10,7 @@ use borrow.Author.Rules.{rules}
 use Rattle.unfold.proofs.+unfolding_terms.Goals as goal
 
 pub body-returns : goal.body-returns
-body-returns t c = body_put _ _ _ _ _ _ _ _ c.last-s.ensures c.row_at-k.ensures _ _ _ _ (c.arguments_of.ensures ∙ ap (λ k. from 0 k (argument_at c.args.scope.now.context.variables.now c.last-s.result.now)) (length-take-le _ _ (omega arith))) c.entry-start.ensures refl _ c.in_ok-unfold.ensures
+body-returns t c = body_put _ _ _ _ _ _ _ _ c.last-s.ensures c.parameters_row-k.ensures _ _ _ _ (c.arguments_of.ensures ∙ ap (λ k. from 0 k (argument_at c.args.scope.now.context.variables.now c.last-s.result.now)) (length-take-le _ _ (omega arith))) c.process_entry-start.ensures refl _ c.in_ok-unfold.ensures
 
 pub copies-loop-x-init : goal.copies-loop-x-init
 copies-loop-x-init t c = search quantifiers

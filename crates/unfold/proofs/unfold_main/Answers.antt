@@ -11,4 +11,4 @@ returns-then-count-eq0 c =
     ]
 
 pub returns : goal.returns
-returns c = main_put _ _ _ _ c.processes-count.ensures.0 _ _ _ c.entry-start.ensures refl c.min-room.ensures _ _ _ c.unfold_into.ensures c.unwrap_or.ensures
+returns c = main_put _ _ _ _ c.processes-count.ensures.0 _ _ _ c.process_entry-start.ensures refl c.min-room.ensures _ _ _ c.unfold_into.ensures c.unwrap_or.ensures

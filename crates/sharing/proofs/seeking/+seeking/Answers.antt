@@ -1,3 +1,4 @@
+use Rattle.scan.specs.Checking.{last_of}
 use Rattle.std.proofs.Common.{rules}
 use mathlib.Core.Path.{refl, sym, ap, ◌∙◌}
 use lib.Dec.{lit<}
@@ -21,14 +22,14 @@ seek-returns-in-23-clause-sought t c = at_front _ _ _ _ _ _ _ _ 23 _ c.first-w.e
 pub seek-returns-in_default-clause-sought : goal.seek-returns-in_default-clause-sought
 seek-returns-in_default-clause-sought t c = other_sought _ _ _ _ _ _ _ c.first-w.ensures.0 c.args.arrays.now.due (search rules) refl
 
-pub seek_guard-returns-then-c-eq0-clause-sought : goal.seek_guard-returns-then-c-eq0-clause-sought
-seek_guard-returns-then-c-eq0-clause-sought t c = guard_shut _ _ _ _ c.eval_cond-c.ensures.0 refl _ _ _ _ c.if-c-eq0.true c.args.arrays.now.due refl
+pub seek_guard-returns-then-truth_of-eq0-clause-sought : goal.seek_guard-returns-then-truth_of-eq0-clause-sought
+seek_guard-returns-then-truth_of-eq0-clause-sought t c = guard_shut _ _ _ _ c.eval_cond-c.ensures.0 refl _ _ _ _ (sym c.truth_of.ensures ∙ c.if-truth_of-eq0.true) c.args.arrays.now.due refl
 
 pub seek_guard-seek-requires : goal.seek_guard-seek-requires
 seek_guard-seek-requires t c = (omega (arith, last_len _ _ _ c.last.ensures), omega (arith, last_len _ _ _ c.last.ensures))
 
 pub seek_guard-returns-clause-sought : goal.seek_guard-returns-clause-sought
-seek_guard-returns-clause-sought t c = guard_open _ _ _ _ c.eval_cond-c.ensures.0 c.last.ensures _ _ _ _ _ c.if-c-eq0.false c.seek.ensures.sought
+seek_guard-returns-clause-sought t c = guard_open _ _ _ _ c.eval_cond-c.ensures.0 (c.last.ensures ∙ ap (λ n. last_of n c.args.t.now) c.words_left.ensures) _ _ _ _ _ (λ z. c.if-truth_of-eq0.false (c.truth_of.ensures ∙ z)) c.seek.ensures.sought
 
 pub seek_parallel-returns-then-both_done-clause-sought : goal.seek_parallel-returns-then-both_done-clause-sought
 seek_parallel-returns-then-both_done-clause-sought t c = parallel_done _ _ _ _ _ _ _ c.behind_mask-t.ensures _ c.both_done.ensures _ _ c.if-both_done.true c.only-r.ensures.one.0 c.only-r.ensures.one.1 c.args.arrays.now.few.0 c.args.arrays.now.due (decided_path c.only-r.ensures.path (decided_sought c.only-r.new.arrays c.decide.new.self _ _ c.decide.ensures.decided))

@@ -4,6 +4,7 @@ use lib.ListN.{drop}
 use lib.Dec.{lit<}
 use native.Mathlib.Omega.{arith}
 use borrow.Author.Rules.{rules}
+use Rattle.scan.specs.Checking.{last_of}
 use Rattle.scan.specs.Laws.Checking.{part, back_rest}
 use Rattle.listing.proofs.Answers.{at_store, two_listed}
 use Rattle.listing.proofs.Arms.{internal_listed, choice_listed, sequence_right, sequence_lost, sequence_left, at_front, other_listed}
@@ -25,11 +26,11 @@ list_combined-returns-clause-listed t c =
     masked_made _ _ _ _ _ _ _ c.behind_mask-t.ensures _ c.in_ok-n.ensures.listed c.in_ok-n.ensures.kept.same_length _ c.last.ensures _ _ _ (at_store c.in_ok-n.ensures.kept.same_store c.in_ok-left.ensures.listed)
     c.in_ok-left.ensures.kept.same_length c.in_ok-n.ensures.kept.no_fewer c.in_ok-left.ensures.kept.no_fewer (omega arith) _ c.mask_set.ensures _ (part c.args.self.now.count c.list_shown-2.new.self.acts.now) _ _ c.in_ok-c.ensures (back_rest c.list_shown-2.new.self.acts.now c.combine.new.acts c.args.self.now.count)
 
-pub list_guard-returns-then-c-eq0-clause-listed : goal.list_guard-returns-then-c-eq0-clause-listed
-list_guard-returns-then-c-eq0-clause-listed t c = guard_shut _ _ _ _ c.eval_cond-c.ensures.0 c.last-u.ensures _ _ _ c.if-c-eq0.true c.skip.ensures.1
+pub list_guard-returns-then-truth_of-eq0-clause-listed : goal.list_guard-returns-then-truth_of-eq0-clause-listed
+list_guard-returns-then-truth_of-eq0-clause-listed t c = guard_shut _ _ _ _ c.eval_cond-c.ensures.0 (c.last-u.ensures ∙ ap (λ n. last_of n c.args.t.now) c.words_left.ensures) _ _ _ (sym c.truth_of.ensures ∙ c.if-truth_of-eq0.true) c.skip.ensures.1
 
 pub list_guard-returns-clause-listed : goal.list_guard-returns-clause-listed
-list_guard-returns-clause-listed t c = guard_open _ _ _ _ c.eval_cond-c.ensures.0 c.last-u.ensures _ _ _ _ _ c.if-c-eq0.false c.list_shown.ensures.listed
+list_guard-returns-clause-listed t c = guard_open _ _ _ _ c.eval_cond-c.ensures.0 (c.last-u.ensures ∙ ap (λ n. last_of n c.args.t.now) c.words_left.ensures) _ _ _ _ _ (λ z. c.if-truth_of-eq0.false (c.truth_of.ensures ∙ z)) c.list_shown.ensures.listed
 
 pub list_masked-returns-then-idle-clause-listed : goal.list_masked-returns-then-idle-clause-listed
 list_masked-returns-then-idle-clause-listed t c =
