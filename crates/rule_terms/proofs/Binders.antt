@@ -8,6 +8,7 @@ use Rattle.eb3.specs.Expressions.{Cond}
 use Rattle.eb3.specs.Spelling.{cond_words}
 use Rattle.eb3.specs.Scopes.{Scope, guard_scope, CondInScope}
 use Rattle.eb3.specs.RuleSets.{RuleTerm, rule_guard, choice_over, parallel_over, domain_size, attributes}
+use Rattle.eb3.specs.Sizes.{cond_size}
 use Rattle.eb3.specs.Measures.{sat, guard_of, guard_size, measure_term}
 use Rattle.eb3.specs.Reading.{Read, refused, taken, Reader, giving, then, both, number_of}
 use Rattle.eb3.specs.ExpressionReading.{read_cond}
@@ -36,10 +37,11 @@ use Rattle.rule_terms.specs.declared.Quantifier.TheVariants.{Choice, Parallel}
 -- ── a condition, then a term ──
 
 -- A condition's size is the words that it took.
-words_taken : (P : Scope) (t : List ℕ) (C : Cond) (u : List ℕ) → read_cond P t ≡ taken C u → length t - length u ≡ guard_size 1 C
-words_taken P t C u e =
-    let h : (t ≡ cond_words 1 C ++ u) × CondInScope C P = subst (λ r. Sound (cond_words 1) (λ D. CondInScope D P) t r) e (cond_sound P t) in
-    omega (arith, ap length h.0, length-append (cond_words 1 C) u, cond_length 1 C, guard_size_one C)
+words_taken : (P : Scope) → P.edition.width ≡ 1 → (t : List ℕ) (C : Cond) (u : List ℕ) → read_cond P t ≡ taken C u → length t - length u ≡ guard_size 1 C
+words_taken P one t C u e =
+    let w : ℕ = P.edition.width in
+    let h : (t ≡ cond_words w C ++ u) × CondInScope C P = subst (λ r. Sound (cond_words w) (λ D. CondInScope D P) t r) e (cond_sound P t) in
+    omega (arith, ap length h.0, length-append (cond_words w C) u, cond_length w C, ap (λ v. cond_size v C) one, guard_size_one C)
 
 -- b is the number of functions, as the code has it
 pub condition_in : (T Γ t : List ℕ) (b : ℕ) (p : Checked) → b ≡ function_count T → p ≡ checked (read_cond (record { edition = edition_in T; arity = λ f. 1; now = b; before = 0; variables = length Γ }) t)
@@ -55,19 +57,12 @@ module _ (T Γ : List ℕ) where
     abbrev guards : Read RuleTerm
     guards = giving (λ s. rule_guard s.0 s.1) (both conditions (terms T Γ) t)
 
-    width_one : read_cond (guard_scope (attributes (declared T)) (length Γ)) t ≡ conditions t
-    unfolding declared
-    width_one = refl
-
-    as_declared : p ≡ checked (conditions t)
-    as_declared = e ∙ ap checked width_one
-
     pub guard_none : (k : Refusal) → p ≡ Err k → Err k ≡ answer T guards
-    guard_none k h = refused_in (declared T) (callee T) _ k (giving_refused_as _ _ k (both_first_as conditions (terms T Γ) t k (checked_refused (conditions t) k (sym h ∙ as_declared))))
+    guard_none k h = refused_in (declared T) (callee T) _ k (giving_refused_as _ _ k (both_first_as conditions (terms T Γ) t k (checked_refused (conditions t) k (sym h ∙ e))))
 
     module _ (n : ℕ) (r : List ℕ) (q : Answer) (h : p ≡ Ok n) (l : r ≡ last_of n t) (f : q ≡ answer T (terms T Γ r)) where
       got_condition : Taken t n (conditions t)
-      got_condition = checked_taken t n (conditions t) (cond_ends (declared T).edition.width (guard_scope (attributes (declared T)) (length Γ)) t) (sym h ∙ as_declared)
+      got_condition = checked_taken t n (conditions t) (cond_ends (guard_scope (attributes (declared T)) (length Γ)) t) (sym h ∙ e)
 
       pub guard_out : (k : Refusal) → q ≡ Err k → Err k ≡ answer T guards
       guard_out k o =
@@ -76,7 +71,7 @@ module _ (T Γ : List ℕ) where
 
       size_taken : (c : ℕ) → c ≡ length t - n → c ≡ guard_size (declared T).edition.width got_condition.value
       unfolding declared
-      size_taken c d = d ∙ ap (λ m. length t - m) got_condition.left ∙ words_taken (guard_scope (attributes (declared T)) (length Γ)) t got_condition.value got_condition.rest got_condition.read
+      size_taken c d = d ∙ ap (λ m. length t - m) got_condition.left ∙ words_taken (guard_scope (attributes (declared T)) (length Γ)) refl t got_condition.value got_condition.rest got_condition.read
 
       -- c is the condition's size
       pub guard_in : (m c d : ℕ) (v x : Weight) → q ≡ found m v → c ≡ d → d ≡ length t - n → measure x ≡ guard_of (sat cap) c (measure v) → found m x ≡ answer T guards

@@ -138,23 +138,20 @@ pub ruleset parallels = (parallel_none, parallel_in)
 -- ── a condition, then a term ──
 
 -- A condition's size is the words that it took.
-words_taken : (P : Scope) (t : List ℕ) (C : Cond) (u : List ℕ) → read_cond P t ≡ taken C u → length t - length u ≡ cond_size 1 C
+words_taken : (P : Scope) (t : List ℕ) (C : Cond) (u : List ℕ) → read_cond P t ≡ taken C u → length t - length u ≡ cond_size P.edition.width C
 words_taken P t C u e =
-    let h : (t ≡ cond_words 1 C ++ u) × CondInScope C P = subst (λ r. Sound (cond_words 1) (λ D. CondInScope D P) t r) e (cond_sound P t) in
-    omega (arith, ap length h.0, length-append (cond_words 1 C) u, cond_length 1 C)
+    let w : ℕ = P.edition.width in
+    let h : (t ≡ cond_words w C ++ u) × CondInScope C P = subst (λ r. Sound (cond_words w) (λ D. CondInScope D P) t r) e (cond_sound P t) in
+    omega (arith, ap length h.0, length-append (cond_words w C) u, cond_length w C)
 
 -- b is the number of functions, as the code has it
 module _ (T t : List ℕ) (b : ℕ) (p : Checked) (i : b ≡ function_count T) (e : p ≡ checked (read_cond (record { edition = edition_in T; arity = λ f. 1; now = b; before = 0; variables = 0 }) t)) where
   abbrev conditions : Reader Cond
   conditions = read_cond (guard_scope (attributes (declared T)) 0)
 
-  width_one : read_cond (guard_scope (attributes (declared T)) 0) t ≡ conditions t
-  unfolding declared
-  width_one = refl
-
   in_scope : p ≡ checked (conditions t)
   in_scope = e ∙ (λ j. checked (read_cond (record { edition = edition_in T; arity = λ f. 1; now = i j; before = 0; variables = 0 }) t))
-      ∙ ap (λ P. checked (read_cond P t)) (sym (guard_declared T 0)) ∙ ap checked width_one
+      ∙ ap (λ P. checked (read_cond P t)) (sym (guard_declared T 0))
 
   pub guarded_none : (k : Refusal) → p ≡ Err k → None ≡ weighed_running (term_by (declared T) (read_term (declared T)) TermKind.guard t)
   guarded_none k h = refused_none _ k (giving_refused_as _ _ k (both_first_as conditions (reads T) t k (checked_refused (conditions t) k (sym h ∙ in_scope))))
@@ -162,7 +159,7 @@ module _ (T t : List ℕ) (b : ℕ) (p : Checked) (i : b ≡ function_count T) (
   -- n words are left after the condition
   module _ (n : ℕ) (h : p ≡ Ok n) where
     condition : Taken t n (conditions t)
-    condition = checked_taken t n (conditions t) (cond_ends (declared T).edition.width (guard_scope (attributes (declared T)) 0) t) (sym h ∙ in_scope)
+    condition = checked_taken t n (conditions t) (cond_ends (guard_scope (attributes (declared T)) 0) t) (sym h ∙ in_scope)
 
     pub guarded_behind : n ≤ length t
     guarded_behind = condition.short
