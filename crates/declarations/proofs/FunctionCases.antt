@@ -42,7 +42,7 @@ module _ (T t : List ℕ) (n i : ℕ) (p : Checked) (e : p ≡ checked (read_dat
   expressions_out j h = both_out (start_of T n i) (labels_for T n i) t p j start h
 
   pub expressions_in : (r : List ℕ) (q : Checked) (m : ℕ) → p ≡ Ok m → r ≡ last_of m t → q ≡ checked (labels_for T n i r) → q ≡ checked (both (start_of T n i) (labels_for T n i) t)
-  expressions_in r q m h s f = both_in (start_of T n i) (labels_for T n i) t r p q m (data_ends (edition_in T).width _) start h s f
+  expressions_in r q m h s f = both_in (start_of T n i) (labels_for T n i) t r p q m (data_ends _) start h s f
 
 -- ── a function ──
 

@@ -134,7 +134,7 @@ module _ (t T D₀ R u D D₁ : List ℕ) (n i k at left l : ℕ) (p : Checked) 
 
   module _ (m : ℕ) (h : p ≡ Ok m) where
     it : (d : Data) × (this u ≡ taken d (last_of m u))
-    it = got this (data_ends (edition_in T).width _) u m p here h
+    it = got this (data_ends _) u m p here h
 
     left_short : length u ≡ left
     left_short = ap length is_u ∙ last_length left t s.short
@@ -143,7 +143,7 @@ module _ (t T D₀ R u D D₁ : List ℕ) (n i k at left l : ℕ) (p : Checked) 
     tail = subst (λ v. Tail v t) (sym is_u) (last_tail left t)
 
     passed_here : Tail (last_of m u) u × (length (last_of m u) ≡ m)
-    passed_here = passed u m (this u) (data_ends (edition_in T).width _ u) (sym h ∙ here)
+    passed_here = passed u m (this u) (data_ends _ u) (sym h ∙ here)
 
     behind : Tail (last_of m u) t
     behind = tail_on (last_of m u) u t tail passed_here.0

@@ -83,7 +83,7 @@ module _ (T t D D₁ : List ℕ) (n i at : ℕ) (g : D₁ ≡ set D at (length t
         kept = λ j b. l.kept j (omega arith) ∙ noted_other D D₁ at _ g j b;
         found = λ whole b u tl small room f.
             let k = both_taken (start_of T n i) (label_expressions T n i (label_count T)) t b u f in
-            let v : k.0 ≡ r = left_is (start_of T n i) (data_ends (edition_in T).width _) t p m b.0 k.0 (e ∙ ap (λ S. checked (read_data S t)) (start_scope T n i)) h k.1 ∙ sym s in
+            let v : k.0 ≡ r = left_is (start_of T n i) (data_ends _) t p m b.0 k.0 (e ∙ ap (λ S. checked (read_data S t)) (start_scope T n i)) h k.1 ∙ sym s in
             let rest : label_expressions T n i (label_count T) r ≡ taken b.1 u = ap (label_expressions T n i (label_count T)) (sym v) ∙ k.2 in
             let place : get_or D₂ at 0 ≡ length t % 4294967296 = l.kept at (omega arith) ∙ noted_here D D₁ at _ g (omega arith) in (
               stands_noted _ whole t D₂ at b.0 k.0 tl small place k.1,

@@ -19,7 +19,7 @@ module _ (L : Edition) (d : ℕ) (labels : List (List ℕ)) (counts : List ℕ) 
       let later = for_each labels (λ ds. read_data (at_label_scope L counts i (length ds))) in
       giving_fine function_from t (both parameters (both start later) t)
       (both_ends parameters (both start later) (repeat_ends (count_for counts i) (number_of 5 d) (number_ends 5 d))
-      (both_ends start later (data_ends L.width (at_start_scope L counts i)) (for_each_ends labels _ (λ ds. data_ends L.width (at_label_scope L counts i (length ds))))) t)
+      (both_ends start later (data_ends (at_start_scope L counts i)) (for_each_ends labels _ (λ ds. data_ends (at_label_scope L counts i (length ds))))) t)
 
   pub functions_end : (k i : ℕ) → Ends (series k i (read_function L d labels counts))
   functions_end k i = series_ends k i (read_function L d labels counts) function_ends
