@@ -32,7 +32,7 @@ use Rattle.rules.specs.Filling.{Placed}
 use Rattle.rules.specs.Sections.{process_weighed, main_weighed}
 use Rattle.rule_terms.specs.Weighed.{Answer, found}
 use Rattle.scan.specs.Readings.{RefusedAs}
-use Rattle.scan.specs.Refusing.{refused_number}
+use Rattle.scan.specs.Laws.Refusing.{refused_number}
 use Rattle.eb3.proofs.Laws.Refusals.{process_refuses}
 use Rattle.refusals.specs.declared.Refusal.{Refusal}
 use Rattle.refusals.specs.Numbers.{number}

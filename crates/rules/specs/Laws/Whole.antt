@@ -25,7 +25,7 @@ use Rattle.measures.specs.Weighing.{cap, measure}
 use Rattle.measures.specs.declared.Weight.{Weight}
 use Rattle.scan.specs.Checking.{last_of}
 use Rattle.scan.specs.Laws.Checking.{behind_part}
-use Rattle.scan.specs.Refusing.{refused_number}
+use Rattle.scan.specs.Laws.Refusing.{refused_number}
 use Rattle.rules.specs.declared.Rules.{Rules}
 use Rattle.rules.specs.Sections.{rules_weighed, found_rules}
 use Rattle.refusals.specs.Numbers.{number, refusal}
