@@ -15,8 +15,8 @@ use Rattle.eb3.specs.Terms.{VisibleAction, visible, Mask}
 use Rattle.eb3.specs.Spelling.{number_words, arguments_words}
 use Rattle.eb3.proofs.Laws.Sizes.{arguments_double}
 use Rattle.eb3.proofs.Laws.Spelling.{arguments_length}
-use Rattle.actions.specs.Codes.{arguments_code, action_code, Small, Closed, ActionAt}
-use Rattle.actions.specs.Laws.Codes.{label_in, label_back, arguments_back}
+use Rattle.actions.specs.Codes.{arguments_code, action_code, Small, Closed, ActionAt, label_in}
+use Rattle.actions.specs.Laws.Codes.{label_back, arguments_back}
 use Rattle.actions.specs.Sets.{in_set, mask_word, mask_set}
 
 -- ── the number of arguments after a label ──

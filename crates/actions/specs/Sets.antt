@@ -4,7 +4,7 @@ use Rattle.std.specs.Prelude.{Bool, false, cond, ℕ, ◌+◌, ◌*◌, ◌/◌,
 use Rattle.std.proofs.Math.ListN.{get_or}
 use Rattle.std.specs.Int.Bits.{bit_or}
 use Rattle.eb3.specs.Terms.{Mask}
-use Rattle.actions.specs.Laws.Codes.{label_in}
+use Rattle.actions.specs.Codes.{label_in}
 
 abbrev pub bit_at : ℕ → ℕ → Bool
 bit_at x label = eqb (x / 2 ^ label % 2) 1

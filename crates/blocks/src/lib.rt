@@ -62,8 +62,8 @@ pub fn under_255(x: u64) -> u64
 
 // What eight bytes add: to a, and to b besides eight times the a before them. In 16 bits, and with
 // the weights 24 to 17, not 8 to 1 (no powers of two): so the compiler multiplies all eight at once.
-// Stays written out: with the bytes added one by one in its place, the sums of 62 blocks take 1.19 times the instructions (123,166 for 103,132, callgrind); in a
-// loop over the weights, an invariant would be of the first i products, where `Eight` names each byte.
+// Stays written out: with the bytes added one by one in its place, the sums of 62 blocks take 1.19 times the instructions (123,166 for 103,132, callgrind);
+// in a loop over the weights, an invariant would be of the first i products, where `Eight` names each byte.
 fn eight(x: &[u8; 8]) -> Pair
     ensures { Eight x.now result }
 {

@@ -7,7 +7,8 @@ use Rattle.eb3.specs.Refusal
 use Rattle.eb3.specs.Generic.Lists.{one_of, all_of, one_of_more}
 use Rattle.eb3.proofs.Laws.DemandOne.{refusals}
 use Rattle.refusals.specs.declared.Refusal.{Refusal as Why}
-use Rattle.refusals.specs.Numbers.{number, number_refusal}
+use Rattle.refusals.specs.Numbers.{number}
+use Rattle.refusals.specs.Laws.Numbers.{number_refusal}
 use Rattle.eb3.specs.Terms.{Action, internal, visible}
 use Rattle.eb3.specs.Answers.{Answer, refused, answered, Sizes, Moved, Ran, Written, Tabled}
 use Rattle.measures.specs.declared.Limits.{Limits}

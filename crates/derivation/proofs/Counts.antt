@@ -14,8 +14,7 @@ use Rattle.eb3.specs.Reading.{pick}
 use Rattle.eb3.specs.Terms.{Term, Done, Internal, Perform, Sequence, Choice, Star, Parallel, Guard, VisibleAction, visible, Mask, done?}
 use Rattle.eb3.specs.Moves.{Move, moves}
 use Rattle.eb3.specs.Sizes.{size, zero_mask}
-use Rattle.actions.specs.Codes.{action_code}
-use Rattle.actions.specs.Laws.Codes.{masked_code}
+use Rattle.actions.specs.Codes.{action_code, masked_code}
 use Rattle.actions.specs.Sets.{in_set, mask_set, has_all}
 use Rattle.actions.specs.Laws.Sets.{in_mask_set, in_either, within_set}
 use Rattle.listing.specs.Listing.{Fits, code_of, codes, holding, room}

@@ -1,4 +1,5 @@
--- The answer of a walk in one number, by what it is: below `passed` where the path was found; from `passed` on where it was not (document 01, "Moves, in order").
+-- The answer of a walk in one number, by what it is: below `passed` where the path was found; from `passed` on where it was not (document 01, "Moves, in
+-- order").
 use mathlib.Core.Path.{◌≡◌, refl, sym, ap, ◌∙◌, subst}
 use mathlib.Core.List.{List, ◌++◌}
 use Prim.Native.Nat.{ℕ, ◌+◌, ◌-◌, ◌/◌, ◌%◌, ◌≤◌, ◌<◌}

@@ -1,4 +1,5 @@
--- What a walk over a term is lent on its way to move k (document 01, "Moves, in order"): it leaves the arrays in their places, as long as they were, and the store as it was; and what it answers.
+-- What a walk over a term is lent on its way to move k (document 01, "Moves, in order"): it leaves the arrays in their places, as long as they were, and
+-- the store as it was; and what it answers.
 use Rattle.std.specs.Prelude.{◌≡◌, ⊤, List, ℕ, ◌+◌, ◌≤◌, ◌<◌, length}
 use Rattle.expressions.specs.Answering.{answer}
 use Rattle.derivation.specs.Derived.{passed, full}
@@ -15,7 +16,8 @@ pub record Kept (b e : Arrays) : Type 0 where
   pub path_length : length e.path.now ≡ length b.path.now
   pub acts_length : length e.acts.now ≡ length b.acts.now
 
--- The answer of a walk that left the arrays so, in one number: where the path begins; or the words left after the term and what is left of k; or that there was no room.
+-- The answer of a walk that left the arrays so, in one number: where the path begins; or the words left after the term and what is left of k; or that there
+-- was no room.
 abbrev pub answered : Arrays → Walked → ℕ
 answered e Found = e.at
 answered e Passed = passed + answer e.left e.k

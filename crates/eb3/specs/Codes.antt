@@ -66,7 +66,8 @@ counted spell xs = length xs ∷ concat_map spell xs
 abbrev pub alone : ℕ → List ℕ
 alone n = n ∷ []
 
--- The stream's items 2 to 5; where the edition does not write functions' parameter counts (edition 1), a function is its parameter's domain and its expressions.
+-- The stream's items 2 to 5; where the edition does not write functions' parameter counts (edition 1), a function is its parameter's domain and its
+-- expressions.
 pub record SectionWords (R : RuleSet) (F : Function) (P : Process) : Type 0 where
   pub sections : rules_words R
       ≡ counted alone R.domains ++ (counted (counted alone) R.labels ++ (functions_words R.edition R.functions ++ counted (process_words R.edition.width) R.processes))

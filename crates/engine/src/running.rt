@@ -16,8 +16,8 @@ use runs::main_process::{Totals, run_main};
 use tables::layout::TABLES;
 
 // An opened file, decoded into lent words. What was counted at each reader is added to the table at the end.
-// Stays, here and below: the words, the table, the term, the memory and the spare buffer are lent apart, as in runs::main_process (its `finish` says why). That the words
-// have room for the blocks is the clause of `blocks::join`, whose line says why.
+// Stays, here and below: the words, the table, the term, the memory and the spare buffer are lent apart, as in runs::main_process (its `finish` says why).
+// That the words have room for the blocks is the clause of `blocks::join`, whose line says why.
 fn run_in(
     file: &Blocks,
     words: &mut [u16],

@@ -1,5 +1,5 @@
--- What each part of listing leaves of the array that moves are listed in (document 01, "Moves, in order"): the store is as it was, the array is the same and as long as it was,
--- and no fewer moves are listed. What is answered is the words left.
+-- What each part of listing leaves of the array that moves are listed in (document 01, "Moves, in order"): the store is as it was, the array is the same
+-- and as long as it was, and no fewer moves are listed. What is answered is the words left.
 use Rattle.std.specs.Prelude.{◌≡◌, List, ℕ, ◌≤◌, length, Option, IfSome}
 use Rattle.listing.specs.declared.lister.Lister.{Lister}
 

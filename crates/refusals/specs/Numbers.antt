@@ -1,11 +1,9 @@
--- The number of each refusal, and the refusal of each number: the one is the other's inverse from 1 to 13.
+-- The number of each refusal, the refusal of each number, and what it is to be refused by a refusal's number.
 -- Document 01, the table under "Operations"; document 02, K1.
-use Rattle.std.specs.Prelude.{◌≡◌, refl, Bool, true, false, ◌||◌, List, [], ◌∷◌, ℕ, T, eqb}
-use Rattle.std.proofs.Common.{sym, ap, ◌∙◌, subst, eqb→eq}
+use Rattle.std.specs.Prelude.{◌≡◌, ℕ, eqb}
 use Rattle.eb3.specs.Refusal as named
 use Rattle.eb3.specs.Reading.{pick}
 use Rattle.eb3.specs.Answers.{Answer, refused}
-use Rattle.eb3.specs.Generic.Lists.{one_of}
 use Rattle.refusals.specs.declared.Refusal.{Refusal}
 use Rattle.refusals.specs.declared.Refusal.TheVariants.{Length, Block, Edition, Form, Reference, Kind, Size, Breadth, Space, Term, Stranger, NotOffered, Reader}
 
@@ -28,46 +26,8 @@ number Reader = named.reader
 unfoldable pub refusal : ℕ → Refusal
 refusal k = pick (eqb k 1) Length (pick (eqb k 2) Block (pick (eqb k 3) Edition (pick (eqb k 4) Form (pick (eqb k 5) Reference (pick (eqb k 6) Kind (pick (eqb k 7) Size (pick (eqb k 8) Breadth (pick (eqb k 9) Space (pick (eqb k 10) Term (pick (eqb k 11) Stranger (pick (eqb k 12) NotOffered Reader)))))))))))
 
-pub refusal_number : (r : Refusal) → refusal (number r) ≡ r
-unfolding refusal
-refusal_number Length = refl
-refusal_number Block = refl
-refusal_number Edition = refl
-refusal_number Form = refl
-refusal_number Reference = refl
-refusal_number Kind = refl
-refusal_number Size = refl
-refusal_number Breadth = refl
-refusal_number Space = refl
-refusal_number Term = refl
-refusal_number Stranger = refl
-refusal_number NotOffered = refl
-refusal_number Reader = refl
-
-abbrev AllNumbers : List ℕ → Type 0
-AllNumbers [] = Unit {0}
-AllNumbers (n ∷ ns) = (number (refusal n) ≡ n) × AllNumbers ns
-
-among : (ns : List ℕ) → AllNumbers ns → (k : ℕ) → T (one_of ns k) → number (refusal k) ≡ k
-unfolding one_of
-among [] a k t = absurd t
-among (n ∷ ns) a k t = go (eqb k n) (λ u. subst (λ x. number (refusal x) ≡ x) (sym (eqb→eq k n u)) a.0) (among ns a.1 k) t
-  where
-    go : (b : Bool) → (T b → number (refusal k) ≡ k) → (T (one_of ns k) → number (refusal k) ≡ k) → T (b || one_of ns k) → number (refusal k) ≡ k
-    go true g h u = g tt
-    go false g h u = h u
-
--- Every operation refuses by some of these.
-pub number_refusal : (k : ℕ) → T (one_of named.of_any k) → number (refusal k) ≡ k
-unfolding refusal
-number_refusal = among named.of_any (refl, (refl, (refl, (refl, (refl, (refl, (refl, (refl, (refl, (refl, (refl, (refl, (refl, tt)))))))))))))
-
 -- An answer that is refused by the number of refusal k.
 pub record RefusedBy {A : Type 0} (k : Refusal) (a : Answer A) : Type 0 where
   pub code : ℕ
   pub is : a ≡ refused code
   pub named : k ≡ refusal code
-
--- An operation's answer is refused by the number itself, as all numbers that operations refuse by are refusals'.
-pub refused_by : {A : Type 0} (k : Refusal) (a : Answer A) → ((j : ℕ) → a ≡ refused j → T (one_of named.of_any j)) → RefusedBy k a → a ≡ refused (number k)
-refused_by k a within h = h.is ∙ ap refused (sym (ap number h.named ∙ number_refusal h.code (within h.code h.is)))

@@ -1,5 +1,5 @@
--- A case for each way that one number's step returns: what it does to the term and to the cells in the store is what the memory machine does, however the term is
--- held (document 01, "Memory and the history machine"; "Operations": Run).
+-- A case for each way that one number's step returns: what it does to the term and to the cells in the store is what the memory machine does, however the
+-- term is held (document 01, "Memory and the history machine"; "Operations": Run).
 use mathlib.Core.Path.{◌≡◌, refl, sym, subst}
 use mathlib.Core.List.{List}
 use mathlib.Core.Option.{Option as Maybe, none, some}

@@ -1,5 +1,5 @@
--- A run of the memory machine, its term held in one of the two ways (document 01, "Memory and the history machine"; "Operations": Run): one move, one number, and a
--- list of them.
+-- A run of the memory machine, its term held in one of the two ways (document 01, "Memory and the history machine"; "Operations": Run): one move, one
+-- number, and a list of them.
 use Rattle.std.specs.Prelude.{◌≡◌, List, ℕ, ◌≤◌, length, Option, None, Some}
 use Rattle.std.proofs.Math.Option.{Option as Maybe, none, some}
 use Rattle.std.proofs.Math.ListN.{get_elem?}

@@ -60,7 +60,8 @@ pub record Once (H : Holding) (R : RuleSet) (s : Situation (Sem_M (attributes R)
   pub kept : (reply (system (Sem_M (attributes R))) s k).0 ≡ refused → size ≡ n
   pub after : Situated H R (reply (system (Sem_M (attributes R))) s k).1 size ws' M'
 
--- Of the stream t, the directory D, n words of ws and the store M, which are ws' and M' afterwards, where no successor has more words than the bound; and Z besides.
+-- Of the stream t, the directory D, n words of ws and the store M, which are ws' and M' afterwards, where no successor has more words than the bound; and Z
+-- besides.
 abbrev pub Steps : (H : Holding) (bound : ℕ) (Z : Type 0) (t D : List ℕ) (w functions c n k : ℕ) (ws M ws' M' : List ℕ) (r : Option Done) → Type 0
 Steps H bound Z t D w functions c n k ws M ws' M' r =
     (R : RuleSet) (T : List ℕ) → Ruled R t T D w functions c → (s : Situation (Sem_M (attributes R))) → Situated H R s n ws M → reach R.edition.width s.term ≤ bound → Once H R s n k ws' M' r × Z

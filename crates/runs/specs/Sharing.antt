@@ -1,4 +1,5 @@
--- The term of a run held in few words over the start's unfolding, and the room that its moves take (document 01, "Memory and the history machine"; "Operations": Run).
+-- The term of a run held in few words over the start's unfolding, and the room that its moves take (document 01, "Memory and the history machine";
+-- "Operations": Run).
 use Rattle.std.specs.Prelude.{◌≡◌, List, ℕ, ◌≤◌, length, take}
 use Rattle.eb3.specs.Terms.{Term}
 use Rattle.eb3.specs.Scopes.{guard_scope}

@@ -1,4 +1,5 @@
--- A case for each way that the beginning of a parallel's successor returns (document 01, "Moves, in order"). The premises have the form of what the code says there.
+-- A case for each way that the beginning of a parallel's successor returns (document 01, "Moves, in order"). The premises have the form of what the code
+-- says there.
 use mathlib.Core.Path.{◌≡◌, refl, sym, ap, ◌∙◌, subst}
 use mathlib.Core.Bool.{Bool, true, false, cond}
 use mathlib.Core.List.{List, [], ◌∷◌, ◌++◌}

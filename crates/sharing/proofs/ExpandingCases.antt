@@ -7,29 +7,20 @@ use native.Mathlib.Omega.{arith}
 use lib.ListN.{length, take, drop, set, get_or, length-append, length-set}
 use lib.Seq.{take_at, length-take-le}
 use Rattle.eb3.specs.Scopes.{Scope}
-use Rattle.eb3.specs.Terms.{Term, Done, Internal, Perform, Sequence, Choice, Star, Parallel, Guard}
+use Rattle.eb3.specs.Terms.{Term}
 use Rattle.eb3.specs.Spelling.{words}
 use Rattle.scan.specs.Checking.{last_of}
 use Rattle.expressions.specs.Answering.{answer}
-use Rattle.listing.specs.Listing.{TermAt}
+use Rattle.listing.specs.Listing.{Fits, TermAt}
+use Rattle.listing.specs.Laws.Fits.{fits_length}
 use Rattle.listing.specs.Laws.Operands.{answer_is, front_form}
 use Rattle.sharing.specs.Shared.{Shared, Ended, Part, Then, Beside, term_of, part_word, shared_words, PartAt, Stands}
 use Rattle.sharing.specs.Beginning.{put_at}
+use Rattle.sharing.specs.Laws.Shared.{size_some}
 use Rattle.sharing.specs.Splicing.{Expanded, PartExpanded, DoneExpanded}
 use Rattle.sharing.proofs.BeginningPuts.{put_one, put_length, put_behind}
 
 -- ── a part ──
-
-pub words_some : (width : ℕ) (E : Term) → 1 ≤ length (words width E)
-unfolding words
-words_some width Done = omega arith
-words_some width Internal = omega arith
-words_some width (Perform a) = omega arith
-words_some width (Sequence E F) = omega arith
-words_some width (Choice E F) = omega arith
-words_some width (Star E) = omega arith
-words_some width (Parallel Δ E F) = omega arith
-words_some width (Guard C E) = omega arith
 
 -- e are the words from the part's place on, of which k are left after the part.
 module _ (u e : List ℕ) (w k : ℕ) (high : 32 ≤ w) (is : e ≡ last_of (w - 32) u) (skipped : (k ≤ length e) × ((P : Scope) (E : Term) (rest : List ℕ) → TermAt e P E rest → k ≡ length rest)) where
@@ -68,9 +59,21 @@ done_made left at entry h = record {
 pub expand_front : (s t u entry exit : List ℕ) (w k at r : ℕ) → w ≡ get_or s 0 0 → t ≡ drop 1 s → w ≡ k → 0 < k → Expanded (k ∷ t) u at entry exit r → Expanded s u at entry exit r
 expand_front s t u entry exit w k at r a b e z h = subst (λ v. Expanded v u at entry exit r) (sym (front_form s t w k a b e z)) h
 
--- Where the array has no place left, nothing is written: every term has at least one word.
+-- The term that a shared term means fits, as its parts do,
+term_fits : (u : List ℕ) (P : Scope) (S : Shared) → Stands u P S → Fits P (term_of S)
+unfolding term_of
+term_fits u P Ended st = tt
+term_fits u P (Part l E) st = st.1.there.fits
+term_fits u P (Then S l F) st = (term_fits u P S st.0, st.1.there.fits)
+term_fits u P (Beside S T) st = (refl, term_fits u P S st.0, term_fits u P T st.1)
+
+-- so that it has at least one word:
+words_some : (u : List ℕ) (P : Scope) (S : Shared) → Stands u P S → 1 ≤ length (words P.edition.width (term_of S))
+words_some u P S st = omega (arith, fits_length P (term_of S) (term_fits u P S st), size_some P.edition.width (term_of S))
+
+-- where the array has no place left, nothing is written.
 pub expand_none : (s u entry : List ℕ) (at : ℕ) → length entry ≤ at → Expanded s u at entry entry 0
-expand_none s u entry at h = record { same_length = refl; right = λ P S rest e st room. absurd (omega (arith, words_some P.edition.width (term_of S))) }
+expand_none s u entry at h = record { same_length = refl; right = λ P S rest e st room. absurd (omega (arith, words_some u P S st)) }
 
 -- Equal answers have equal numbers, where the first number of each is at most 65,535.
 pub answered_same : (left left' n n' : ℕ) → answer left n ≡ answer left' n' → left ≤ 65535 → left' ≤ 65535 → (left ≡ left') × (n ≡ n')

@@ -1,9 +1,9 @@
 // The successor of a move, built along its path within a part of the lent buffer (document 01, "Operations"; "Moves, in order"). What
 // comes after the moving operand and stays is in the same order in the successor: so only the successor's beginning is
 // written on the way, with the number of words at the end of the term that go on from there, and these are copied at once.
-// Stays: words are a slice, with the clause that they are at most 65,535. A struct of the slice with that fact in a ghost field was proved in this file, and the
-// library was the same byte for byte. It is no plainer: 13 clauses go, but each ensures says s.entry.words.now for s.now, and the file is 16 lines longer; with a
-// model, by which a clause says s.now again, begin takes 352 bytes a level for 304 (docs/DESIGN-PASS.md, "A struct for words").
+// Stays: words are a slice, with the clause that they are at most 65,535. A struct of the slice with that fact in a ghost field was proved in this file,
+// and the library was the same byte for byte. It is no plainer: 13 clauses go, but each ensures says s.entry.words.now for s.now, and the file is 16 lines
+// longer; with a model, by which a clause says s.now again, begin takes 352 bytes a level for 304 (docs/DESIGN-PASS.md, "A struct for words").
 #![tactic(auto)]
 
 ghost use Rattle.std.specs.Prelude.{◌≡◌, true, false, ◌+◌, ◌*◌, ◌≤◌, [], ◌∷◌, length, get_or};

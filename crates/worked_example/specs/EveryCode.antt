@@ -151,7 +151,8 @@ file = 0 ∷ 0 ∷ 188 ∷ 158 ∷ (as_bytes (take 254 stream_of_words) ++ (1 �
 --   17 (k, m): 6; 6; 1. Process 1, the sequence: 20; the larger of 1 + 6 + 13 = 20 and 26, 26 (right); 2.
 --   18 (2, 1): 6; 6; 1. Its star: 7; 2 + 6 + 6 = 14; 2. Internal or that: 9; 14 (right); 3. Process 2, that or internal: 11; 14 (left); 4.
 --   Guard true, process 2: 13; 14 (operand); 4.
---   Choice over three elements: inner 13; 13 (size); 2; outer 20; 20 (size); 3. In sequence with the guard: 34; the larger of 1 + 20 + 13 = 34 and 14, 34 (left); 4.
+--   Choice over three elements: inner 13; 13 (size); 2; outer 20; 20 (size); 3.
+--   In sequence with the guard: 34; the larger of 1 + 20 + 13 = 34 and 14, 34 (left); 4.
 --   Parallel over two keys, mask zero: 5 + 20 + 20 = 45; 5 + 26 + 26 = 57; 2 + 2 = 4.
 --   On label 18: 5 + 34 + 13 = 52; 5 + 34 + 14 = 53; 4 + 4 + 16 = 24.
 --   Main, on label 17: 5 + 45 + 52 = 102; 5 + 57 + 53 = 115; 4 + 24 + 96 = 124. C is 2 + 3.

@@ -6,15 +6,7 @@ use Rattle.std.proofs.Math.Dec.{eqb_refl}
 use Rattle.eb3.specs.Generic.AllLists.{All}
 use Rattle.eb3.specs.Terms.{VisibleAction, Action, internal, visible, Mask, bit, in_mask, same_action}
 use Rattle.eb3.proofs.Laws.Terms.{same_action→eq, same_action_refl}
-use Rattle.actions.specs.Codes.{arguments_code, action_code, Small}
-
--- The label of the action whose number is `code`, where this isn't 0.
-unfoldable pub label_in : ℕ → ℕ
-label_in code = (code - 1) % 64
-
--- Whether a number is that of an action in a mask.
-unfoldable pub masked_code : Mask → ℕ → Bool
-masked_code Δ code = cond (eqb code 0) false (bit Δ (label_in code))
+use Rattle.actions.specs.Codes.{arguments_code, action_code, label_in, masked_code, Small}
 
 -- ── a number taken apart ──
 

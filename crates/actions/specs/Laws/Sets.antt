@@ -12,7 +12,7 @@ use Rattle.std.specs.Int.Bits.{bit_or}
 use Rattle.std.proofs.lemmas.Nat.{or_shr, or_mod}
 use Rattle.std.proofs.Math.Pow.{high}
 use Rattle.eb3.specs.Terms.{Mask, bit}
-use Rattle.actions.specs.Laws.Codes.{label_in, masked_code}
+use Rattle.actions.specs.Codes.{label_in, masked_code}
 use Rattle.actions.specs.Sets.{bit_at, in_set, mask_word, mask_set, has_all}
 
 -- ── the bits of a number of two parts ──

@@ -21,7 +21,8 @@ use Rattle.eb3.proofs.Laws.Answers.{and_then_answered, answered_injective, pick_
 use Rattle.measures.specs.declared.Limits.{Limits}
 use Rattle.admission.specs.Answering.{limits, admitted}
 use Rattle.refusals.specs.declared.Refusal.{Refusal}
-use Rattle.refusals.specs.Numbers.{number, RefusedBy, refused_by}
+use Rattle.refusals.specs.Numbers.{number, RefusedBy}
+use Rattle.refusals.specs.Laws.Numbers.{refused_by}
 
 refused_from : (a : Answer RuleSet) (k : Refusal) → Err k ≡ admitted (and_then a λ R. answered (sizes_needed R)) → RefusedBy k a
 unfolding admitted and_then

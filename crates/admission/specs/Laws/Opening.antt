@@ -20,7 +20,8 @@ use Rattle.blocks.specs.Opening.{opening}
 use Rattle.blocks.specs.Laws.Opening.{unopened}
 use Rattle.admission.specs.Answering.{admitted, read_whole}
 use Rattle.refusals.specs.declared.Refusal.{Refusal}
-use Rattle.refusals.specs.Numbers.{number, refused_by}
+use Rattle.refusals.specs.Numbers.{number}
+use Rattle.refusals.specs.Laws.Numbers.{refused_by}
 use Rattle.measures.specs.declared.Limits.{Limits}
 
 -- ── the stream ──

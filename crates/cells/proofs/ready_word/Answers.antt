@@ -1,4 +1,4 @@
--- One case for each kind of word below the cells (`PreparingLaws`).
+-- One case for each kind of word below the cells (`specs/Laws/Preparing`).
 use mathlib.Core.Path.{ap}
 use Prim.Native.Nat.{◌%◌}
 use Rattle.cells.specs.Laws.Preparing.{ready_variable, ready_old, ready_row, ready_none}

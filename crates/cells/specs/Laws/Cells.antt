@@ -1,18 +1,19 @@
--- Laws of cells alone, without a store: how many there are, and that the cells of the first functions come first.
+-- Laws of cells alone, without a store: where each function's are, and that the cells of the first functions come first.
 -- Document 01, "Memory and the history machine".
-use Rattle.std.specs.Prelude.{◌≡◌, List, [], ◌∷◌, length}
+use Rattle.std.specs.Prelude.{◌≡◌, [], ◌∷◌}
 use Rattle.std.proofs.Math.Path.{refl, ap}
 use Rattle.std.proofs.Common.{◌∙◌}
 use Rattle.std.proofs.Math.Option.{Option}
-use Prim.Native.Nat.{ℕ, zero, suc, ◌+◌, ◌*◌, ◌≤◌, ◌<◌}
+use Prim.Native.Nat.{ℕ, zero, suc, ◌+◌, ◌≤◌, ◌<◌}
 use native.Mathlib.Omega.{arith}
 use Rattle.std.proofs.Math.Decide.{ℕ_discrete}
-use Rattle.std.proofs.Math.ListN.{get_or, length-append, get_or-append}
-use Rattle.eb3.specs.Values.{Value, undefined}
+use Rattle.std.proofs.Math.ListN.{get_or, get_or-append}
+use Rattle.eb3.specs.Values.{undefined}
 use Rattle.eb3.specs.Expressions.{Reading}
 use Rattle.eb3.specs.Terms.{VisibleAction}
-use Rattle.eb3.specs.Attributes.{Attributes, domain, evaluate}
-use Rattle.eb3.specs.Cells.{cell_count, cell_index, offset, cell_at, concat_tabulate, tabulate, cells_up_to}
+use Rattle.eb3.specs.Attributes.{Attributes, domain}
+use Rattle.eb3.specs.Cells.{cell_count, cell_index, offset, cells_up_to}
+use Rattle.eb3.proofs.Laws.Cells.{length_cells}
 
 -- ── the places of a function's cells ──
 
@@ -45,24 +46,9 @@ pub next_offset : (A : Attributes) (f : ℕ) → offset A (suc f) ≡ offset A f
 unfolding offset
 next_offset A f = refl
 
--- ── how many cells there are ──
-
-concat_length : (n m : ℕ) (h : ℕ → List Value) → ((x : ℕ) → length (h x) ≡ m) → length (concat_tabulate n h) ≡ n * m
-unfolding concat_tabulate
-concat_length zero m h e = omega arith
-concat_length (suc n) m h e = omega (arith, length-append (h zero) (concat_tabulate n (λ x. h (suc x))), e zero, concat_length n m (λ x. h (suc x)) (λ x. e (suc x)))
-
-tabulate_length : (ns : List ℕ) (h : List ℕ → Value) → length (tabulate ns h) ≡ cell_count ns
-unfolding tabulate cell_count
-tabulate_length [] h = refl
-tabulate_length (n ∷ ns) h = concat_length n (cell_count ns) (λ x. tabulate ns (λ xs. h (x ∷ xs))) (λ x. tabulate_length ns (λ xs. h (x ∷ xs)))
+-- ── the first cells ──
 
 module _ (A : Attributes) (o : Option VisibleAction) (b : Reading) where
-  pub cells_counted : (i : ℕ) → length (cells_up_to A o b i) ≡ offset A i
-  unfolding cells_up_to offset
-  cells_counted zero = refl
-  cells_counted (suc i) = length-append (cells_up_to A o b i) _ ∙ (λ j. cells_counted i j + tabulate_length (domain A i) (evaluate A o (cell_at A (cells_up_to A o b i)) b i) j)
-
   -- The cells of the functions below f are the first cells.
   pub cells_first : (f i : ℕ) → f ≤ i → (c : ℕ) → c < offset A f → get_or (cells_up_to A o b i) c undefined ≡ get_or (cells_up_to A o b f) c undefined
   unfolding cells_up_to
@@ -73,4 +59,4 @@ module _ (A : Attributes) (o : Option VisibleAction) (b : Reading) where
           → get_or (cells_up_to A o b (suc i)) c undefined ≡ get_or (cells_up_to A o b f) c undefined
       go k (yes e) = rw e
       go k (no n) =
-          get_or-append (cells_up_to A o b i) _ undefined c (omega (arith, cells_counted i, offset_mono A f i (omega arith))) ∙ k (omega arith)
+          get_or-append (cells_up_to A o b i) _ undefined c (omega (arith, length_cells A o b i, offset_mono A f i (omega arith))) ∙ k (omega arith)

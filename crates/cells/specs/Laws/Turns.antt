@@ -16,7 +16,7 @@ use Rattle.eb3.specs.Terms.{VisibleAction}
 use Rattle.eb3.specs.Attributes.{Attributes, domain, function, expression, variables_in_scope, number_of_functions, apply_in_domain, evaluate}
 use Rattle.eb3.proofs.Laws.Attributes.{apply_cong}
 use Rattle.eb3.specs.Cells.{cell_count, offset, total_cells, cell_at, cells_up_to}
-use Rattle.eb3.proofs.Laws.Cells.{renewed}
+use Rattle.eb3.proofs.Laws.Cells.{length_cells, renewed}
 use Rattle.scan.specs.Checking.{last_of}
 use Rattle.expressions.specs.declared.valued.Valued.{Valued}
 use Rattle.expressions.specs.Stores.{stored, row_place, now_place, before_place, cell_in, reading_in, variable_in, environment_in, parameter_place, argument_place, old_cells_place, begin_place}
@@ -24,7 +24,7 @@ use Rattle.expressions.specs.Answering.{DataAt, Evaluated}
 use Rattle.expressions.specs.Laws.Answering.{data_parted, data_at_most}
 use Rattle.cells.specs.Layout.{RowLaid}
 use Rattle.cells.specs.Filling.{arguments_of, Ready, Filling, Filled}
-use Rattle.cells.specs.Laws.Cells.{cells_below, next_offset, cells_counted, cells_first}
+use Rattle.cells.specs.Laws.Cells.{cells_below, next_offset, cells_first}
 use Rattle.cells.specs.Agreement.{Agree, data_agrees}
 use Rattle.cells.specs.Reads.{Begun}
 use Rattle.cells.specs.Laws.Reads.{row_cells, row_index, begun_reads}
@@ -251,7 +251,7 @@ module _ (A : Attributes) (o : Option VisibleAction) (b : Reading) (t D M : List
       let e : f ≡ number_of_functions A = omega (arith, filling.functions) in
       let p : Partly A o b M M' (total_cells A) = subst (λ i. Partly A o b M M' (offset A i)) e q in
       record {
-        cells = λ c k. p.begun.words c (omega (arith, cells_counted A o b (number_of_functions A)));
+        cells = λ c k. p.begun.words c (omega (arith, length_cells A o b (number_of_functions A)));
         kept_below = p.kept_below;
         kept_above = p.kept_above;
       }

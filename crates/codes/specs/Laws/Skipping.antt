@@ -55,7 +55,7 @@ row_append : (w : ℕ) (xs ys : List Piece) → row_words w (xs ++ ys) ≡ row_w
 row_append w [] ys = refl
 row_append w (x ∷ xs) ys = ap (λ l. piece_words w x ++ l) (row_append w xs ys) ∙ sym (append_assoc (piece_words w x) (row_words w xs) (row_words w ys))
 
-all_append : {A : Type 0} (Q : A → Type 0) (xs ys : List A) → All Q xs → All Q ys → All Q (xs ++ ys)
+pub all_append : {A : Type 0} (Q : A → Type 0) (xs ys : List A) → All Q xs → All Q ys → All Q (xs ++ ys)
 all_append Q [] ys h k = k
 all_append Q (x ∷ xs) ys h k = (h.0, all_append Q xs ys h.1 k)
 

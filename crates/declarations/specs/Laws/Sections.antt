@@ -38,10 +38,7 @@ domains_read t ds u e =
     words_length [] = refl
     words_length (d ∷ ds) = ap suc (words_length ds)
 
--- Functions: as many as were asked for, of one parameter each.
-abbrev IsTaken : {A : Type 0} → Read A → Type 0
-IsTaken (refused k) = ⊥
-IsTaken (taken a v) = Unit
+-- ── functions: as many as were asked for, of one parameter each ──
 
 -- What a reading gives has a property.
 abbrev Gives : {A : Type 0} → (A → Type 0) → Read A → Type 0

@@ -1,4 +1,5 @@
--- Every successor of an accepted term is accepted again (`accepted_again`; document 01, "Unfolding, size and breadth": no move enlarges G or W, and refusal 10).
+-- Every successor of an accepted term is accepted again (`accepted_again`; document 01, "Unfolding, size and breadth": no move enlarges G or W, and refusal
+-- 10).
 use Rattle.std.specs.Prelude.{◌≡◌, refl, Bool, true, false, ◌&&◌, List, ℕ}
 use Rattle.std.proofs.Common.{ap, sym, ◌∙◌}
 use Rattle.std.proofs.Math.Option.{Option, none, some}

@@ -1,4 +1,5 @@
--- The demands fix the operations (document 01, "Operations"; document 02, K1): ours meet them (`ours`), and any six that meet them are ours (`theirs`); `the_engine` is both.
+-- The demands fix the operations (document 01, "Operations"; document 02, K1): ours meet them (`ours`), and any six that meet them are ours (`theirs`);
+-- `the_engine` is both.
 use Rattle.std.specs.Prelude.{◌≡◌, Bool, ◌&&◌, ◌⊎◌, ℕ, ◌+◌, ◌-◌, ◌≤◌, ◌<◌, leb}
 use Rattle.std.proofs.Math.Path.{refl, ap, sym}
 use Rattle.std.proofs.Common.{◌∙◌, subst, inl, inr, arith, leb→le}

@@ -1,5 +1,5 @@
--- The history machine of Demanded is that of eb3 (Machines): from every list of numbers it comes to an end, and to one only (document 01, "Memory and the history
--- machine"), and every number does what it does there (document 02, K1).
+-- The history machine of Demanded is that of eb3 (Machines): from every list of numbers it comes to an end, and to one only (document 01, "Memory and the
+-- history machine"), and every number does what it does there (document 02, K1).
 use Rattle.std.specs.Prelude.{◌≡◌, ◌⊎◌, length}
 use Rattle.std.proofs.Math.Path.{refl, ap, sym, subst}
 use Rattle.std.proofs.Common.{◌∙◌, inl, inr}

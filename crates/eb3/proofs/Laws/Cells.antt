@@ -59,7 +59,7 @@ get_d_tabulate (n ∷ ns) h (x ∷ xs) z w =
     ∙ get_d_tabulate ns (λ xs. h (x ∷ xs)) xs z w.1
 
 module _ (A : Attributes) where
-  length_cells : (o : Option VisibleAction) (b : Reading) (i : ℕ) → length (cells_up_to A o b i) ≡ offset A i
+  pub length_cells : (o : Option VisibleAction) (b : Reading) (i : ℕ) → length (cells_up_to A o b i) ≡ offset A i
   unfolding cells_up_to offset
   length_cells o b zero = refl
   length_cells o b (suc i) = length-append (cells_up_to A o b i) _ ∙ (λ j. length_cells o b i j + length_tabulate (domain A i) (evaluate A o (cell_at A (cells_up_to A o b i)) b i) j)

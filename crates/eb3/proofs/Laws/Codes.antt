@@ -1,5 +1,5 @@
--- The codes are these (`number_codes`, `expression_codes`, `term_codes`, `rule_codes`, `section_words`; document 01, "Values and conditions" and "Blocks and the rule
--- stream").
+-- The codes are these (`number_codes`, `expression_codes`, `term_codes`, `rule_codes`, `section_words`; document 01, "Values and conditions" and "Blocks
+-- and the rule stream").
 use Rattle.std.specs.Prelude.{refl, List, ℕ}
 use Rattle.eb3.specs.Expressions.{Data, Args, Cond}
 use Rattle.eb3.specs.Terms.{Term, Mask}

@@ -1,4 +1,5 @@
--- Document 01, "Values and conditions" and "Memory and the history machine": the meanings hold (`data_meanings`, `condition_meanings`, `domain_meanings`, `environment_meanings`, `reading_meanings`, `state_meanings`, `step_states`).
+-- Document 01, "Values and conditions" and "Memory and the history machine": the meanings hold (`data_meanings`, `condition_meanings`, `domain_meanings`,
+-- `environment_meanings`, `reading_meanings`, `state_meanings`, `step_states`).
 use Rattle.std.specs.Prelude.{◌≡◌, Bool, true, false, ◌&&◌, ◌||◌, T, ltb, length, get_or}
 use Rattle.std.proofs.Math.Path.{refl, ap}
 use Rattle.std.proofs.Math.Option.{some, some-injective, none-ne-some}

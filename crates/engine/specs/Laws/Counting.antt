@@ -15,7 +15,8 @@ use Rattle.eb3.specs.Operations.{cells_needed, memory_fits, term_in, listed, cou
 use Rattle.given.specs.Giving.{given_in}
 use Rattle.refusals.specs.declared.Refusal.{Refusal}
 use Rattle.refusals.specs.declared.Refusal.TheVariants.{Space}
-use Rattle.refusals.specs.Numbers.{number, refusal, refusal_number}
+use Rattle.refusals.specs.Numbers.{number, refusal}
+use Rattle.refusals.specs.Laws.Numbers.{refusal_number}
 use Rattle.engine.specs.Counting.{counted_as}
 
 module _ (rules term memory : List ℕ) where

@@ -12,7 +12,7 @@ use Rattle.eb3.specs.Bytes.{written}
 use Rattle.tables.specs.Layout.{label_count, function_count}
 use Rattle.declarations.specs.Directory.{row_width, at_start_in}
 use Rattle.expressions.specs.Stores.{now_place}
-use Rattle.cells.specs.Laws.Cells.{cells_counted}
+use Rattle.eb3.proofs.Laws.Cells.{length_cells}
 use Rattle.steps.specs.Laws.Ruled.{labels_there, functions_there}
 use Rattle.cells.specs.Filling.{Filling, Filled}
 use Rattle.cells.specs.Preparing.{Prepared, Saved}
@@ -31,7 +31,7 @@ unfolding initial_cells
 memory_started t T D M M₁ M₂ B B' w n c ew en l₁ l₂ prepared filled saved R form d ec room fits =
     let A = attributes R in
     let cells = initial_cells A in
-    let k : length cells ≡ total_cells A = cells_counted A none no_reading (number_of_functions A) in
+    let k : length cells ≡ total_cells A = length_cells A none no_reading (number_of_functions A) in
     let ew' : w ≡ row_width (length R.labels) = ew ∙ ap (λ x. row_width x) (labels_there R form t T D d) in
     let en' : n ≡ length R.functions = en ∙ functions_there R form t T D d in
     let p : Prepared D M M₁ (row_width (length R.labels)) (length R.functions) (total_cells A) = subst (λ x. Prepared D M M₁ (row_width (length R.labels)) (length R.functions) x) ec (subst (λ x. Prepared D M M₁ (row_width (length R.labels)) x c) en' (subst (λ x. Prepared D M M₁ x n c) ew' (prepared (omega arith)))) in

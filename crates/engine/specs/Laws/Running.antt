@@ -19,7 +19,8 @@ use Rattle.runs.specs.declared.main_process.Totals.{Totals}
 use Rattle.engine.specs.Running.{ran_as, RunDone}
 use Rattle.refusals.specs.declared.Refusal.{Refusal}
 use Rattle.refusals.specs.declared.Refusal.TheVariants.{Space, Reader}
-use Rattle.refusals.specs.Numbers.{number, refusal, refusal_number}
+use Rattle.refusals.specs.Numbers.{number, refusal}
+use Rattle.refusals.specs.Laws.Numbers.{refusal_number}
 
 module _ (rules list table term memory spare_term spare_memory : List ℕ) where
   abbrev Leaves : Result Totals Refusal → List ℕ → List ℕ → List ℕ → List ℕ → Type 0

@@ -19,7 +19,8 @@ use Rattle.eb3.specs.Operations.{cells_needed, main_reach, term_fits, memory_fit
 use Rattle.engine.specs.Starting.{started_as, StartDone}
 use Rattle.refusals.specs.declared.Refusal.{Refusal}
 use Rattle.refusals.specs.declared.Refusal.TheVariants.{Space}
-use Rattle.refusals.specs.Numbers.{number, refusal, refusal_number}
+use Rattle.refusals.specs.Numbers.{number, refusal}
+use Rattle.refusals.specs.Laws.Numbers.{refusal_number}
 
 module _ (rules term memory : List ℕ) where
   by_whole : (w : Written ℕ) (r : Result ℕ Refusal) (term' memory' : List ℕ) → start rules term memory ≡ w → r ≡ started_as w.answer → term' ≡ w.term → memory' ≡ w.memory → StartDone rules term memory r term' memory'

@@ -35,7 +35,8 @@ use Rattle.given.specs.Asking.{asked_of, event_asked, asked_as, Chooses}
 use Rattle.engine.specs.Stepping.{moved_as, Done, stepped_from, stepped}
 use Rattle.refusals.specs.declared.Refusal.{Refusal}
 use Rattle.refusals.specs.declared.Refusal.TheVariants.{Space, Stranger}
-use Rattle.refusals.specs.Numbers.{number, refusal, refusal_number}
+use Rattle.refusals.specs.Numbers.{number, refusal}
+use Rattle.refusals.specs.Laws.Numbers.{refusal_number}
 use Rattle.engine.specs.declared.stepping.Step.{Step}
 
 -- ── one operation ──

@@ -1,5 +1,5 @@
--- For refusals 4, 5 and 6 (document 01, "Operations"): what holds of what is declared and due (FirstOffendingWord) stays so after a word that passes: `step`. Domains have elements, parameters have
--- domains, only the next word due may be one that nothing can meet. For constants of one word.
+-- For refusals 4, 5 and 6 (document 01, "Operations"): what holds of what is declared and due (FirstOffendingWord) stays so after a word that passes:
+-- `step`. Domains have elements, parameters have domains, only the next word due may be one that nothing can meet. For constants of one word.
 use Rattle.std.specs.Prelude.{◌≡◌, refl, Bool, true, false, ◌&&◌, ◌⊎◌, List, [], ◌∷◌, ◌++◌, map, ℕ, zero, suc, ◌+◌, ◌≤◌, T, eqb, ltb, leb, length, get_or, replicate}
 use Rattle.std.proofs.Common.{inl, inr, arith, ltb→lt, leb→le, length-append}
 use Rattle.std.proofs.Math.Option.{Option, none, some}

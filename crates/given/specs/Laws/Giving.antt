@@ -30,7 +30,8 @@ use Rattle.given.specs.declared.giving.Given.{Given}
 use Rattle.admission.specs.Knowing.{Known}
 use Rattle.given.specs.Giving.{checked_as, TermChecked, given_in, given_as, Described, GivenDone, found_term}
 use Rattle.refusals.specs.declared.Refusal.{Refusal}
-use Rattle.refusals.specs.Numbers.{number, refusal_number, RefusedBy, refused_by}
+use Rattle.refusals.specs.Numbers.{number, RefusedBy}
+use Rattle.refusals.specs.Laws.Numbers.{refusal_number, refused_by}
 
 module _ (rules term words₀ : List ℕ) (n : ℕ) (words' T D ws : List ℕ) (decoded : words' ≡ stream rules ++ drop (254 * n) words₀) where
   pub given_refused : (k : Refusal) → admission rules ≡ refused (number k) → GivenDone rules term words₀ n (Err k) words' T D ws

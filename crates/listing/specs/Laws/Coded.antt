@@ -14,7 +14,8 @@ use Rattle.codes.specs.Laws.Shapes.{one_parameter}
 use Rattle.expressions.specs.Answering.{Plain, CondAt}
 use Rattle.actions.specs.Codes.{Closed}
 use Rattle.listing.specs.Listing.{Fits, TermAt}
-use Rattle.listing.specs.Rows.{terms_words, RowAt, row_of_one}
+use Rattle.listing.specs.Rows.{terms_words, RowAt}
+use Rattle.listing.specs.Laws.Rows.{row_of_one}
 
 abbrev pub pieces : List Term → List Piece
 pieces [] = []

@@ -15,8 +15,8 @@ use Rattle.eb3.specs.Scopes.{Scope}
 use Rattle.eb3.specs.Terms.{Term, Done, Internal, Perform, Sequence, Choice, Star, Parallel, Guard, VisibleAction, internal, visible, Mask, bit, in_mask, same_action, done?}
 use Rattle.eb3.specs.Moves.{Move, move, moves, sequenced, left_move, right_move, synchronised, outside_mask?, synchronise?, parallel_moves}
 use Rattle.eb3.specs.Sizes.{zero_mask}
-use Rattle.actions.specs.Codes.{action_code, Small}
-use Rattle.actions.specs.Laws.Codes.{label_in, masked_code, masked_is, same_code, same_test}
+use Rattle.actions.specs.Codes.{action_code, Small, label_in, masked_code}
+use Rattle.actions.specs.Laws.Codes.{masked_is, same_code, same_test}
 use Rattle.listing.specs.Listing.{Fits, code_of, codes}
 use Rattle.listing.specs.Combining.{outside, equal_to, pairs, combined}
 use Rattle.listing.specs.Laws.Outside.{combined_none}

@@ -1,4 +1,5 @@
--- What a weighed answer says of the reading: `..-out`, that it was refused, and `..-refused`, by which number; `..-got`, what was read, the words after it and its measures.
+-- What a weighed answer says of the reading: `..-out`, that it was refused, and `..-refused`, by which number; `..-got`, what was read, the words after it
+-- and its measures.
 -- Document 01, "Blocks and the rule stream", item 5; "Unfolding, size and breadth".
 use Rattle.std.specs.Prelude.{ℕ, refl, List, Err}
 use Rattle.std.proofs.Common.{arith, ◌∙◌}
@@ -11,7 +12,7 @@ use Rattle.scan.specs.Checking.{last_of}
 use Rattle.scan.specs.Ends.{Fine}
 use Rattle.scan.specs.Laws.Checking.{tail_at, tail_short}
 use Rattle.scan.specs.Readings.{Taken, RefusedAs}
-use Rattle.scan.specs.Refusing.{refused_number}
+use Rattle.scan.specs.Laws.Refusing.{refused_number}
 use Rattle.eb3.specs.RuleReading.{read_rule_term}
 use Rattle.eb3.proofs.Laws.Refusals.{Refuses, rule_term_refuses}
 use Rattle.measures.specs.declared.Weight.{Weight}

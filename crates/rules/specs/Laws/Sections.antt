@@ -1,6 +1,6 @@
 -- One process read and entered, then the rest: what the check of the processes answers, case by case.
 -- Document 01, "Blocks and the rule stream", items 2 to 5; refusals 4 to 6.
-use Rattle.std.specs.Prelude.{◌≡◌, refl, List, [], ◌∷◌, ℕ, zero, suc, ◌+◌, ◌-◌, ◌≤◌, length, get_or, take, Ok, Err}
+use Rattle.std.specs.Prelude.{◌≡◌, refl, List, [], ◌∷◌, ℕ, zero, suc, ◌+◌, ◌-◌, ◌≤◌, length, get_or, take, Err}
 use Rattle.std.proofs.Math.Path.{ap, sym, subst}
 use Rattle.std.proofs.Common.{◌∙◌, arith, length-append}
 use Rattle.eb3.specs.Editions.{Edition}
@@ -30,28 +30,14 @@ use Rattle.declarations.specs.Bounds.{Bounded, Narrow}
 use Rattle.declarations.specs.Laws.Processes.{process_alike, term_alike, Front, process_front, narrow_next, next_declares}
 use Rattle.rules.specs.Filling.{Placed}
 use Rattle.rules.specs.Sections.{process_weighed, main_weighed}
+use Rattle.rules.specs.Laws.Answers.{IsFound, found_in, refusal_in}
+use Rattle.rule_terms.specs.declared.Weighed.{Weighed}
 use Rattle.rule_terms.specs.Weighed.{Answer, found}
 use Rattle.scan.specs.Readings.{RefusedAs}
-use Rattle.scan.specs.Refusing.{refused_number}
+use Rattle.scan.specs.Laws.Refusing.{refused_number}
 use Rattle.eb3.proofs.Laws.Refusals.{process_refuses}
 use Rattle.refusals.specs.declared.Refusal.{Refusal}
 use Rattle.refusals.specs.Numbers.{number}
-
-abbrev IsFound : Answer → Type 0
-IsFound (Ok a) = Unit
-IsFound (Err k) = ⊥
-
-abbrev refusal_in : Refusal → Answer → Refusal
-refusal_in d (Ok a) = d
-refusal_in d (Err k) = k
-
-abbrev left_in : Answer → ℕ
-left_in (Ok a) = a.left
-left_in (Err k) = 0
-
-abbrev weight_in : Weight → Answer → Weight
-weight_in d (Ok a) = a.weight
-weight_in d (Err k) = d
 
 -- What an answer says of the reading that it is of.
 abbrev Reads : RuleSet → (ℕ → Measure) → Read Process → ℕ → Weight → Type 0
@@ -60,7 +46,7 @@ Reads R M r n w = (P : Process) × (u : List ℕ) × (r ≡ taken P u) × (n ≡
 pub found_reads : (R : RuleSet) (M : ℕ → Measure) (r : Read Process) (n : ℕ) (w : Weight) → found n w ≡ process_weighed R M r → Reads R M r n w
 unfolding process_weighed
 found_reads R M (refused k) n w e = absurd (subst IsFound e tt)
-found_reads R M (taken P u) n w e = (P, u, refl, ap left_in e, ap (λ x. measure (weight_in w x)) e)
+found_reads R M (taken P u) n w e = (P, u, refl, ap (found_in (λ (a : Weighed). a.left) 0) e, ap (λ x. measure (found_in (λ (a : Weighed). a.weight) w x)) e)
 
 pub refused_reads : (R : RuleSet) (M : ℕ → Measure) (r : Read Process) (k : Refusal) → Err k ≡ process_weighed R M r → RefusedAs k r
 unfolding process_weighed

@@ -1,6 +1,6 @@
 -- From what the check of a rule set answers to what Admit answers of its words: the end, then main's measures.
 -- Document 01, "Blocks and the rule stream", items 2 to 5; refusals 4 to 6.
-use Rattle.std.specs.Prelude.{◌≡◌, refl, List, ℕ, ◌≤◌, ◌<◌, T, ltb, length, Ok, Err, Result}
+use Rattle.std.specs.Prelude.{◌≡◌, refl, List, ℕ, ◌≤◌, ◌<◌, T, ltb, length, Err}
 use Rattle.std.proofs.Math.Path.{ap}
 use Rattle.std.proofs.Common.{sym, ◌∙◌, subst, arith, ltb→lt, lt→ltb}
 use Rattle.eb3.specs.Refusal
@@ -25,31 +25,12 @@ use Rattle.measures.specs.Weighing.{cap, measure}
 use Rattle.measures.specs.declared.Weight.{Weight}
 use Rattle.scan.specs.Checking.{last_of}
 use Rattle.scan.specs.Laws.Checking.{behind_part}
-use Rattle.scan.specs.Refusing.{refused_number}
+use Rattle.scan.specs.Laws.Refusing.{refused_number}
 use Rattle.rules.specs.declared.Rules.{Rules}
 use Rattle.rules.specs.Sections.{rules_weighed, found_rules}
+use Rattle.rules.specs.Laws.Answers.{IsFound, found_in, refusal_in}
 use Rattle.refusals.specs.Numbers.{number, refusal}
 use Rattle.refusals.specs.declared.Refusal.{Refusal}
-
-abbrev IsFound : Result Rules Refusal → Type 0
-IsFound (Ok a) = Unit
-IsFound (Err k) = ⊥
-
-abbrev refusal_in : Refusal → Result Rules Refusal → Refusal
-refusal_in d (Ok a) = d
-refusal_in d (Err k) = k
-
-abbrev left_in : Result Rules Refusal → ℕ
-left_in (Ok a) = a.left
-left_in (Err k) = 0
-
-abbrev cells_in : Result Rules Refusal → ℕ
-cells_in (Ok a) = a.cells
-cells_in (Err k) = 0
-
-abbrev weight_in : Weight → Result Rules Refusal → Weight
-weight_in d (Ok a) = a.weight
-weight_in d (Err k) = d
 
 -- What an answer says of the reading that it is of.
 pub record Whole (t : List ℕ) (r : Read RuleSet) (left cells : ℕ) (w : Weight) : Type 0 where
@@ -66,8 +47,8 @@ whole_by : (L : Edition) (t : List ℕ) (r : Read RuleSet) → Sound rules_words
 unfolding rules_weighed
 whole_by L t (refused k) s left cells w e = absurd (subst IsFound e tt)
 whole_by L t (taken R rest) s left cells w e =
-    let l : left ≡ length rest = ap left_in e in
-    let c : cells ≡ total_cells (attributes R) = ap cells_in e in
+    let l : left ≡ length rest = ap (found_in (λ (a : Rules). a.left) 0) e in
+    let c : cells ≡ total_cells (attributes R) = ap (found_in (λ (a : Rules). a.cells) 0) e in
     record {
       R = R;
       rest = rest;
@@ -76,7 +57,7 @@ whole_by L t (taken R rest) s left cells w e =
       end = behind_part (rules_words R) rest t left s.0 l;
       cells_are = c;
       few = omega (arith, c, cells_below R s.1.0);
-      weighs = ap (λ x. measure (weight_in w x)) e;
+      weighs = ap (λ x. measure (found_in (λ (a : Rules). a.weight) w x)) e;
     }
 
 -- In an edition that is defined.

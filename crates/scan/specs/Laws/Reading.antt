@@ -10,7 +10,8 @@ use Rattle.scan.specs.Ends.{Fine}
 use Rattle.scan.specs.Laws.Checking.{tail_at, tail_short, number_word}
 use Rattle.refusals.specs.declared.Refusal.{Refusal}
 use Rattle.refusals.specs.declared.Refusal.TheVariants.{Form}
-use Rattle.refusals.specs.Numbers.{refusal, number, refusal_number, number_refusal}
+use Rattle.refusals.specs.Numbers.{refusal, number}
+use Rattle.refusals.specs.Laws.Numbers.{refusal_number, number_refusal}
 use Rattle.scan.specs.Readings.{Taken, RefusedAs}
 
 pub checked_refused : {A : Type 0} (r : Read A) (k : Refusal) → Err k ≡ checked r → RefusedAs k r

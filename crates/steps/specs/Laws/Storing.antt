@@ -7,7 +7,7 @@ use Rattle.eb3.specs.Expressions.{no_reading}
 use Rattle.eb3.specs.Terms.{VisibleAction, visible}
 use Rattle.eb3.specs.Attributes.{Attributes, number_of_functions}
 use Rattle.eb3.specs.Cells.{total_cells, cell_at, initial_cells, renew}
-use Rattle.eb3.proofs.Laws.Cells.{initial_values, values_at_most, renew_at_most}
+use Rattle.eb3.proofs.Laws.Cells.{length_cells, initial_values, values_at_most, renew_at_most}
 use Rattle.eb3.specs.Values.{ValuesAtMost}
 use Rattle.eb3.specs.RuleSets.{RuleSet, label, attributes}
 use Rattle.eb3.proofs.Laws.RuleSets.{functions_counted}
@@ -16,7 +16,6 @@ use Rattle.eb3.specs.WellFormedness.{WellFormedAction, Form}
 use Rattle.eb3.proofs.Laws.Editions.{top_is_65534}
 use Rattle.expressions.specs.Stores.{stored, row_place}
 use Rattle.cells.specs.Layout.{Laid}
-use Rattle.cells.specs.Laws.Cells.{cells_counted}
 use Rattle.cells.specs.Laws.Reads.{row_cells}
 use Rattle.cells.specs.Laws.Readying.{domain_of}
 
@@ -34,11 +33,11 @@ module _ (R : RuleSet) (form : Form R) where
 
   pub initial_counted : length (initial_cells A) ≡ total_cells A
   unfolding initial_cells
-  initial_counted = cells_counted A none no_reading (number_of_functions A)
+  initial_counted = length_cells A none no_reading (number_of_functions A)
 
   pub renewed_counted : (cells : List Value) (a : VisibleAction) → length (renew A cells a) ≡ total_cells A
   unfolding renew
-  renewed_counted cells a = cells_counted A (some a) (cell_at A cells) (number_of_functions A)
+  renewed_counted cells a = length_cells A (some a) (cell_at A cells) (number_of_functions A)
 
   pub initial_at_most : ValuesAtMost 65534 (initial_cells A)
   initial_at_most =

@@ -1,5 +1,5 @@
--- What is left of a path is an end of it, wherever the path leads; and where it leads with each decision, and what a marked path says there (document 01, "Moves, in
--- order").
+-- What is left of a path is an end of it, wherever the path leads; and where it leads with each decision, and what a marked path says there (document 01,
+-- "Moves, in order").
 use Rattle.std.specs.Prelude.{◌≡◌, refl, Bool, ◌&&◌, cond, List, ◌++◌, ℕ, ◌≤◌, eqb, length, drop, get_or}
 use Rattle.std.proofs.Math.Path.{sym}
 use Rattle.std.proofs.Common.{ap, ◌∙◌, arith}

@@ -1,5 +1,5 @@
--- The beginning of a successor and its parts, which call one another, meet their contracts (document 01, "Moves, in order"). The measure is four times the words of the
--- term at hand, with less for a part than for what calls it on the same words. Where a part returns, a case of proofs/ says what it answers.
+-- The beginning of a successor and its parts, which call one another, meet their contracts (document 01, "Moves, in order"). The measure is four times the
+-- words of the term at hand, with less for a part than for what calls it on the same words. Where a part returns, a case of proofs/ says what it answers.
 use Prim.Native.Nat.{◌+◌, ◌*◌}
 use lib.ListN.{length}
 use Rattle.sharing.proofs.writer.Writer.+beginning.Given as goal

@@ -8,7 +8,8 @@ use Rattle.eb3.specs.Generic.Lists.{one_of, all_of, one_of_more}
 use Rattle.eb3.proofs.Laws.Refusals.{Refuses}
 use Rattle.scan.specs.Readings.{RefusedAs}
 use Rattle.refusals.specs.declared.Refusal.{Refusal}
-use Rattle.refusals.specs.Numbers.{number, number_refusal}
+use Rattle.refusals.specs.Numbers.{number}
+use Rattle.refusals.specs.Laws.Numbers.{number_refusal}
 
 pub refused_number : {A : Type 0} (r : Read A) (k : Refusal) → Refuses r → RefusedAs k r → r ≡ refused (number k)
 unfolding all_of one_of
