@@ -85,8 +85,7 @@ fn admit_sized<const WORDS: usize>(file: &Blocks) -> Result<Limits, Refusal>
 }
 
 // Admit: C, G, W and the start term's size, or the first refusal of 1 to 8.
-// Stays, with its choice among the sizes: they are const parameters, and a closure has none, so the other operations, which choose among others
-// (crates/engine), cannot share it.
+// Stays, with its choice among the sizes: the other operations (engine/src/envelope.rt) have arrays for the directory and a term besides.
 pub fn admit(rules: &[u8]) -> Result<Limits, Refusal>
     ensures { result ≡ admitted (admit rules.now) }
 {

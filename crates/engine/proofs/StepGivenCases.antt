@@ -1,5 +1,5 @@
 -- A case for each way that Move and Present return, from what was given and asked for (document 01, "Operations": Move and Present).
-use mathlib.Core.Path.{◌≡◌, sym, ◌∙◌}
+use mathlib.Core.Path.{◌≡◌, ap, sym, ◌∙◌}
 use mathlib.Core.List.{List}
 use Prim.Native.Nat.{ℕ, ◌≤◌, ◌<◌}
 use native.Mathlib.Omega.{arith}
@@ -8,19 +8,19 @@ use Rattle.eb3.specs.Terms.{Term}
 use Rattle.eb3.specs.WellFormedness.{Form}
 use Rattle.eb3.specs.Bytes.{word_count}
 use Rattle.eb3.specs.Memory.{cell_room}
-use Rattle.eb3.specs.Answers.{Moved as Answer_moved, Written}
+use Rattle.eb3.specs.Answers.{Answer, refused, answered, Moved as Answer_moved, Written}
+use Rattle.eb3.specs.Operations.{writing}
+use Rattle.engine.specs.Enveloping.{OnAnswer, TermCall}
+use Rattle.std.specs.Borrow.{Bor}
 use Rattle.declarations.specs.Declaring.{Declares}
 use Rattle.runs.specs.declared.admitted.Admitted.{Admitted}
-use Rattle.given.specs.declared.giving.Given.{Given}
-use Rattle.given.specs.Giving.{GivenDone, found_term}
-use Rattle.given.specs.Laws.Giving.{told_refused}
+use Rattle.given.specs.Giving.{given_in}
 use Rattle.given.specs.declared.asking.Request.{Request}
 use Rattle.given.specs.declared.asking.Wanted.{Wanted}
 use Rattle.given.specs.Asking.{asked_as}
 use Rattle.engine.specs.Describing.{DescribedBy}
-use Rattle.engine.specs.Stepping.{Done, stepped, SteppedAt, Steps}
-use Rattle.engine.specs.Laws.Stepping.{step_refused, step_given, asked_stranger, Choosing, asked_wanted, stranger_done, short_term, short_memory, short_next_memory, with_room}
-use Rattle.engine.proofs.MadeCases.{found}
+use Rattle.engine.specs.Stepping.{moved_as, Done, stepped_from, stepped, SteppedAt, Steps}
+use Rattle.engine.specs.Laws.Stepping.{asked_stranger, Choosing, asked_wanted, stranger_done, short_term, short_memory, short_next_memory, with_room}
 use Rattle.std.specs.Prelude.{Err, Result, Some, None, Option}
 use Rattle.refusals.specs.declared.Refusal.{Refusal}
 use Rattle.refusals.specs.declared.Refusal.TheVariants.{Space, Stranger}
@@ -66,14 +66,16 @@ module _ {rules : Admitted} {s : List ℕ} (memory next_term next_memory : List 
           with_room R E memory next_term next_memory request y.choose y.asked_so (omega (arith, eg)) (omega (arith, by.cells_are)) (omega (arith, by.cells_are)) r term' memory'
           (step R E y.choose by l (omega (arith, eg)) m y.chooses)
 
--- ── bytes given ──
+-- ── from the bytes ──
 
-module _ {rules term words₀ : List ℕ} {n : ℕ} {a : Result Given Refusal} {words' T D ws : List ℕ} (d : GivenDone rules term words₀ n a words' T D ws) (memory : List ℕ) (request : Request) (next_term next_memory : List ℕ) where
-  pub stepped_refused : (j : Refusal) → a ≡ Err j → Done (stepped rules term memory request next_term next_memory) (Err j) next_term next_memory
-  stepped_refused j e = step_refused rules term memory next_term next_memory request j (told_refused rules term words₀ n a words' T D ws d j e)
-
-  pub stepped_done : {c g : ℕ} (e : a ≡ found_term c g) {made : Admitted} {s : List ℕ} → DescribedBy made (found d e).rule_set (found d e).running_term s → (r : Result Step Refusal) (term' memory' : List ℕ)
-      → Steps made s g memory request next_term next_memory r term' memory' → Done (stepped rules term memory request next_term next_memory) r term' memory'
-  stepped_done e by r term' memory' h =
-      let f = found d e in
-      step_given rules term memory next_term next_memory request f.rule_set f.running_term f.given_so r term' memory' (h f.rule_set f.running_term by f.reach_is)
+-- Of the closure's state, these are the buffers.
+pub stepped_given : {F : Type 0} (calls : F → Bor Admitted → Bor (List ℕ) → ℕ → Result Step Refusal → F → Type 0) {f f' : F} (rules term : List ℕ) {r : Result Step Refusal} → OnAnswer (TermCall calls) f (given_in rules term) r f'
+    → (memory : List ℕ) (request : Request) (term_of memory_of : F → List ℕ)
+    → ((x : Bor Admitted) (s : Bor (List ℕ)) (g : ℕ) → calls f x s g r f' → Steps x.now s.now g memory request (term_of f) (memory_of f) r (term_of f') (memory_of f'))
+    → Done (stepped rules term memory request (term_of f) (memory_of f)) r (term_of f') (memory_of f')
+unfolding OnAnswer stepped moved_as
+stepped_given calls {f} {f'} rules term {r} h memory request term_of memory_of says = go (given_in rules term) h
+  where
+    go : (a : Answer (RuleSet × Term)) → OnAnswer (TermCall calls) f a r f' → Done (writing (term_of f) (memory_of f) a (stepped_from request memory (term_of f) (memory_of f))) r (term_of f') (memory_of f')
+    go (refused k) h = record { answer = h.0; term_after = ap term_of h.1; memory_after = ap memory_of h.1 }
+    go (answered p) h = says h.rules h.words h.most h.called p.0 p.1 h.described h.most_is

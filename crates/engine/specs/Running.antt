@@ -1,8 +1,12 @@
 -- What Run answers and leaves, by the specification's operation, which is the history machine's run (document 01, "Operations"; "Memory and the history
 -- machine"; document 02, K1).
 use Rattle.std.specs.Prelude.{◌≡◌, List, ℕ, Ok, Err, Result}
-use Rattle.eb3.specs.Answers.{Answer, refused, answered, Ran as Answer_ran}
-use Rattle.eb3.specs.Operations.{run, ScratchAfter}
+use Rattle.eb3.specs.Refusal
+use Rattle.eb3.specs.RuleSets.{RuleSet}
+use Rattle.eb3.specs.Reading.{pick}
+use Rattle.eb3.specs.Readers.{lets_through}
+use Rattle.eb3.specs.Answers.{Answer, refused, answered, Ran as Answer_ran, Tabled, untabled}
+use Rattle.eb3.specs.Operations.{run_fits, ran_with, run, ScratchAfter}
 use Rattle.runs.specs.declared.main_process.Totals.{Totals}
 use Rattle.refusals.specs.declared.Refusal.{Refusal}
 use Rattle.refusals.specs.Numbers.{refusal}
@@ -16,9 +20,19 @@ ran_as (refused k) = Err (refusal k)
 ran_as (answered m) = Ok (totals m)
 
 -- With the lent table and buffers afterwards. Of the spare ones only the first is written, and of it, where the run is done, only whole words.
-pub record RunDone (rules list table term memory spare_term spare_memory : List ℕ) (r : Result Totals Refusal) (table' term' memory' spare' : List ℕ) : Type 0 where
-  pub answer : r ≡ ran_as (run rules list table term memory spare_term spare_memory).written.answer
-  pub table_after : table' ≡ (run rules list table term memory spare_term spare_memory).table
-  pub term_after : term' ≡ (run rules list table term memory spare_term spare_memory).written.term
-  pub memory_after : memory' ≡ (run rules list table term memory spare_term spare_memory).written.memory
-  pub scratch_after : ScratchAfter (run rules list table term memory spare_term spare_memory).written.answer spare_term spare'
+pub record Ran (w : Tabled Answer_ran) (spare_term : List ℕ) (r : Result Totals Refusal) (table' term' memory' spare' : List ℕ) : Type 0 where
+  pub answer : r ≡ ran_as w.written.answer
+  pub table_after : table' ≡ w.table
+  pub term_after : term' ≡ w.written.term
+  pub memory_after : memory' ≡ w.written.memory
+  pub scratch_after : ScratchAfter w.written.answer spare_term spare'
+
+abbrev pub RunDone : (rules list table term memory spare_term spare_memory : List ℕ) (r : Result Totals Refusal) (table' term' memory' spare' : List ℕ) → Type 0
+RunDone rules list table term memory spare_term spare_memory r table' term' memory' spare' = Ran (run rules list table term memory spare_term spare_memory) spare_term r table' term' memory' spare'
+
+-- At a rule set that was admitted.
+abbrev pub ran_at : (list table term memory spare_term spare_memory : List ℕ) → RuleSet → Tabled Answer_ran
+ran_at list table term memory spare_term spare_memory R =
+    pick (run_fits R term memory spare_term spare_memory)
+    (pick (lets_through list table) (ran_with list table term memory R) (untabled table term memory Refusal.reader))
+    (untabled table term memory Refusal.space)

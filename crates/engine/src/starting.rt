@@ -3,18 +3,20 @@
 ghost use Rattle.std.specs.Prelude.{◌≡◌, ◌*◌, ◌≤◌, length};
 ghost use Rattle.expressions.specs.Stores.{new_store_length};
 ghost use Rattle.engine.specs.Memories.{MemoryStarted, Begun};
-ghost use Rattle.engine.specs.Starting.{StartDone};
+ghost use Rattle.eb3.specs.RuleSets.{RuleSet};
+ghost use Rattle.eb3.specs.Operations.{sizes_needed};
+ghost use Rattle.admission.specs.Answering.{limits};
+ghost use Rattle.engine.specs.Describing.{AdmittedAs};
+ghost use Rattle.engine.specs.Starting.{Started, started_at, StartDone};
 
+use super::envelope::with_admitted;
 use super::room;
-use admission::admit_in;
-use blocks::opened::Blocks;
-use blocks::{CONTENT_WORDS, WORDS_OF_8, WORDS_OF_64, open};
 use cells::{fill, lay, save};
-use declarations::DIRECTORY;
 use expressions::store;
+use measures::Limits;
 use refusals::Refusal;
 use runs::admitted::Admitted;
-use tables::layout::{AT_START, TABLES};
+use tables::layout::AT_START;
 use unfold::unfold_main;
 
 // The cells of the start, made in a lent store.
@@ -51,61 +53,27 @@ fn begin(rules: &Admitted, term: &mut [u8], memory: &mut [u8])
     start_memory(rules, memory);
 }
 
-// An opened file, decoded into lent words.
-// Stays: the words, the term and the memory are three arrays, lent apart: the last two are what Start writes, and the words are the function's below, whose
-// length depends on the file's.
-// Stays: that the words have room for the blocks is the clause of `blocks::join`, whose line says why.
-// Stays, in `run_in`, `count_in` and `step_in` too: the tables and the directory are local arrays, which the struct that `Admitted::of` makes borrows, so
-// a function for all four could not return it. Lent the arrays, a function for the last two statements alone would need the words, the tables, the directory,
-// the count of blocks and the number of cells, and would repeat the contract of `Admitted::of`.
-fn start_in(
-    file: &Blocks,
-    words: &mut [u16],
+// At a rule set and its sizes: refusal 9, else the term and the memory of the start.
+fn start_admitted(
+    rules: &Admitted,
+    sizes: Limits,
     term: &mut [u8],
     memory: &mut [u8],
 ) -> Result<u32, Refusal>
-    requires { 254 * file.now.count ≤ length words.old }
-    ensures { StartDone file.now.bytes.now term.old memory.old result term.new memory.new }
+    ensures { (R : RuleSet) → AdmittedAs rules.now R → sizes ≡ limits (sizes_needed R) → Started (started_at term.old memory.old R) result term.new memory.new }
 {
-    let mut tables = [0u32; TABLES];
-    let mut dir = [0u32; DIRECTORY];
-    let sizes = admit_in(file.bytes, words, &mut tables, &mut dir, file.count)?;
-    let c = sizes.cells as usize;
     room(term.len(), sizes.reach as usize)?;
-    room(memory.len(), c)?;
-    let end = CONTENT_WORDS * file.count;
-    let rules = Admitted::of(&words[2..end], &tables, &dir, c);
-    begin(&rules, term, memory);
+    room(memory.len(), rules.functions.cells)?;
+    begin(rules, term, memory);
     Ok(sizes.size)
-}
-
-// Local words for one block, for 8, or for 64, the most that there may be. It is a function apart from its caller, so that a small rule set does not pay for
-// a frame with many words.
-// Stays: one function for all sizes of a local array, since memory is fixed and there is no heap. Its clause is of const parameters, which each call
-// gives as numbers: the check finds it there, and no struct is needed for it.
-#[inline(never)]
-fn start_sized<const WORDS: usize>(
-    file: &Blocks,
-    term: &mut [u8],
-    memory: &mut [u8],
-) -> Result<u32, Refusal>
-    requires { (254 * file.now.count ≤ WORDS) × (WORDS ≤ 16256) }
-    ensures { StartDone file.now.bytes.now term.old memory.old result term.new memory.new }
-{
-    let mut words = [0u16; WORDS];
-    start_in(file, &mut words, term, memory)
 }
 
 // Start: main's unfolding and the memory at the start; or the first refusal of 1 to 9, and nothing is written.
 pub fn start(rules: &[u8], term: &mut [u8], memory: &mut [u8]) -> Result<u32, Refusal>
     ensures { StartDone rules.now term.old memory.old result term.new memory.new }
 {
-    let file = open(rules)?;
-    if file.count <= 1 {
-        return start_sized::<CONTENT_WORDS>(&file, term, memory);
-    }
-    if file.count <= 8 {
-        return start_sized::<WORDS_OF_8>(&file, term, memory);
-    }
-    start_sized::<WORDS_OF_64>(&file, term, memory)
+    with_admitted(
+        rules,
+        &mut |admitted: &Admitted, sizes: Limits| start_admitted(admitted, sizes, term, memory),
+    )
 }

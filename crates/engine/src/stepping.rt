@@ -13,23 +13,18 @@ ghost use Rattle.steps.specs.Counting.{Whole};
 ghost use Rattle.given.specs.Asking.{Chooses};
 ghost use Rattle.engine.specs.Stepping.{told, SameBuffers, Done, move_at, stepped, SteppedFrom, SteppedAt, Steps};
 
-use super::{LONGEST_TERM, MIDDLE_TERM, SHORT_TERM, room};
+use super::envelope::with_given;
+use super::room;
 use actions::{argument_at, argument_count, label_of};
-use blocks::opened::Blocks;
-use blocks::{CONTENT_WORDS, WORDS_OF_8, WORDS_OF_64, open};
 use cells::save;
-use declarations::DIRECTORY;
 use expressions::store;
 use given::asking::{Request, Wanted, ask};
-use given::giving::given_in;
 use refusals::Refusal;
 use runs::admitted::Admitted;
-use scan::front;
 use steps::counting::first_move;
 use steps::moving::take_move;
 use steps::renewing::renew;
 use steps::storing::load_store;
-use tables::layout::TABLES;
 
 /// A visible action: its label, how many arguments it has, and the two that it may have, 0 where there is none.
 // Stays with a count: C hosts get one (`Moved` of cabinet), which is how many arguments the action has. Of two Options it would be how many of the
@@ -118,7 +113,8 @@ fn find(s: &[u16], m: &[u16], wanted: Wanted) -> Option<usize>
     }
 }
 
-// From the cells of a memory, into buffers with room.
+// From the cells of a memory, into buffers with room. It is a function apart from its caller, so that admission does not pay for a frame with a store.
+#[inline(never)]
 fn step_at(
     rules: &Admitted,
     s: &[u16],
@@ -158,65 +154,18 @@ fn step_given(
     step_at(rules, s, memory, wanted, next)
 }
 
-// An opened file and a term, decoded into lent words.
-// Stays: the words of the file and those of the term are two arrays, lent apart: they are the caller's, and the length of each depends on what it is for.
-// Stays: the two clauses are those of `given::giving::given_in`, whose line says why.
-fn step_in(
-    file: &Blocks,
-    words: &mut [u16],
-    ws: &mut [u16],
-    asked: &Asked,
-    next: &mut Next,
-) -> Result<Step, Refusal>
-    requires { (254 * file.now.count ≤ length words.old) × (length asked.now.term.now / 2 ≤ 8192 → length asked.now.term.now / 2 ≤ length ws.old) }
-    ensures buffers { SameBuffers next.old next.new }
-    ensures done { Done (stepped file.now.bytes.now asked.now.term.now asked.now.memory.now asked.now.request next.old.term.now next.old.memory.now) result next.new.term.now next.new.memory.now }
-{
-    let mut tables = [0u32; TABLES];
-    let mut dir = [0u32; DIRECTORY];
-    let term = asked.term;
-    let given = given_in(file, words, &mut tables, &mut dir, term, ws)?;
-    let s = front(ws, term.len() / 2);
-    let end = CONTENT_WORDS * file.count;
-    let rules = Admitted::of(&words[2..end], &tables, &dir, given.cells);
-    step_given(&rules, s, given.reach, asked, next)
-}
-
-// Local words for the blocks, for one, for 8, or for 64, the most that there may be, and for the term, for 256, for 1,024, or for 8,192: a small rule set
-// and a short term do not pay for clearing large arrays. It is a function apart from its caller, so that they do not pay for a frame with large arrays either.
-// Stays: one function for all sizes of the local arrays, since memory is fixed and there is no heap. Its clause is of const parameters, which each call
-// gives as numbers: the check finds it there, and no struct is needed for it.
-#[inline(never)]
-fn step_sized<const WORDS: usize, const TERM: usize>(
-    file: &Blocks,
-    asked: &Asked,
-    next: &mut Next,
-) -> Result<Step, Refusal>
-    requires { (254 * file.now.count ≤ WORDS) × (length asked.now.term.now / 2 ≤ 8192 → length asked.now.term.now / 2 ≤ TERM) × (WORDS ≤ 16256) × (TERM ≤ 8192) }
-    ensures buffers { SameBuffers next.old next.new }
-    ensures done { Done (stepped file.now.bytes.now asked.now.term.now asked.now.memory.now asked.now.request next.old.term.now next.old.memory.now) result next.new.term.now next.new.memory.now }
-{
-    let mut words = [0u16; WORDS];
-    let mut ws = [0u16; TERM];
-    let r = step_in(file, &mut words, &mut ws, asked, next);
-    r
-}
-
+// Both operations, from the bytes of a rule set and a term.
 fn step_by(rules: &[u8], asked: &Asked, next: &mut Next) -> Result<Step, Refusal>
     ensures buffers { SameBuffers next.old next.new }
     ensures done { Done (stepped rules.now asked.now.term.now asked.now.memory.now asked.now.request next.old.term.now next.old.memory.now) result next.new.term.now next.new.memory.now }
 {
-    let file = open(rules)?;
-    if file.count <= 1 && asked.term.len() <= 2 * SHORT_TERM {
-        return step_sized::<CONTENT_WORDS, SHORT_TERM>(&file, asked, next);
-    }
-    if file.count <= 8 && asked.term.len() <= 2 * MIDDLE_TERM {
-        return step_sized::<WORDS_OF_8, MIDDLE_TERM>(&file, asked, next);
-    }
-    if file.count <= 8 {
-        return step_sized::<WORDS_OF_8, LONGEST_TERM>(&file, asked, next);
-    }
-    step_sized::<WORDS_OF_64, LONGEST_TERM>(&file, asked, next)
+    with_given(
+        rules,
+        asked.term,
+        &mut |admitted: &Admitted, s: &[u16], reach: usize|
+            requires { length s.now ≤ 65535 }
+        { step_given(admitted, s, reach, asked, next) },
+    )
 }
 
 // ── the operations ──

@@ -11,46 +11,33 @@ use Rattle.eb3.specs.Reading.{pick}
 use Rattle.eb3.specs.Admission.{admission}
 use Rattle.eb3.specs.Memory.{cell_room}
 use Rattle.eb3.specs.Answers.{Answer, refused, answered, and_then}
-use Rattle.eb3.specs.Operations.{cells_needed, memory_fits, term_in, listed, count}
+use Rattle.eb3.specs.Operations.{cells_needed, term_in, listed, count}
 use Rattle.given.specs.Giving.{given_in}
-use Rattle.refusals.specs.declared.Refusal.{Refusal}
 use Rattle.refusals.specs.declared.Refusal.TheVariants.{Space}
-use Rattle.refusals.specs.Numbers.{number, refusal}
-use Rattle.refusals.specs.Laws.Numbers.{refusal_number}
-use Rattle.engine.specs.Counting.{counted_as}
+use Rattle.refusals.specs.Numbers.{refusal}
+use Rattle.engine.specs.Counting.{counted_as, counted_at}
 
 module _ (rules term memory : List ℕ) where
-  abbrev counted_from : RuleSet × Term → Answer ℕ
-  counted_from p = pick (memory_fits p.0 memory) (answered (length (listed p.0 p.1 memory))) (refused Refusal.space)
-
-  -- what is answered from the term can be answered from the rule set and the term
-  both_known : (R : RuleSet) (a : Answer Term) → (and_then a λ E. counted_from (R, E)) ≡ and_then (and_then a λ E. answered (R, E)) counted_from
+  -- what follows the term follows both
+  both_known : (R : RuleSet) (a : Answer Term) → (and_then a λ E. counted_at memory (R, E)) ≡ and_then (and_then a λ E. answered (R, E)) (counted_at memory)
   unfolding and_then
   both_known R (refused k) = refl
   both_known R (answered E) = refl
 
-  by_admitted : (a : Answer RuleSet) → (and_then a λ R. and_then (term_in R term) λ E. counted_from (R, E)) ≡ and_then (and_then a λ R. and_then (term_in R term) λ E. answered (R, E)) counted_from
+  by_admitted : (a : Answer RuleSet) → (and_then a λ R. and_then (term_in R term) λ E. counted_at memory (R, E)) ≡ and_then (and_then a λ R. and_then (term_in R term) λ E. answered (R, E)) (counted_at memory)
   unfolding and_then
   by_admitted (refused k) = refl
   by_admitted (answered R) = both_known R (term_in R term)
 
-  by_given : count rules term memory ≡ and_then (given_in rules term) counted_from
+  pub count_given : count rules term memory ≡ and_then (given_in rules term) (counted_at memory)
   unfolding count
-  by_given = by_admitted (admission rules)
+  count_given = by_admitted (admission rules)
 
-  pub count_refused : (k : Refusal) → given_in rules term ≡ refused (number k) → Err k ≡ counted_as (count rules term memory)
-  unfolding counted_as and_then
-  count_refused k e = ap Err (sym (refusal_number k)) ∙ sym (ap counted_as (by_given ∙ ap (λ a. and_then a counted_from) e))
+module _ (memory : List ℕ) (R : RuleSet) (E : Term) where
+  pub count_short : cell_room memory < cells_needed R → Err Space ≡ counted_as (counted_at memory (R, E))
+  unfolding counted_as refusal
+  count_short h = sym (ap (λ b. counted_as (pick b (answered (length (listed R E memory))) (refused Refusal.space))) (lt-leb (cells_needed R) (cell_room memory) h))
 
-  module _ (R : RuleSet) (E : Term) (e : given_in rules term ≡ answered (R, E)) where
-    known_so : count rules term memory ≡ counted_from (R, E)
-    unfolding and_then
-    known_so = by_given ∙ ap (λ a. and_then a counted_from) e
-
-    pub count_short : cell_room memory < cells_needed R → Err Space ≡ counted_as (count rules term memory)
-    unfolding counted_as refusal
-    count_short h = sym (ap counted_as (known_so ∙ ap (λ b. pick b (answered (length (listed R E memory))) (refused Refusal.space)) (lt-leb (cells_needed R) (cell_room memory) h)))
-
-    pub count_done : cells_needed R ≤ cell_room memory → (n : ℕ) → n ≡ length (listed R E memory) → Ok n ≡ counted_as (count rules term memory)
-    unfolding counted_as
-    count_done h n f = ap Ok f ∙ sym (ap counted_as (known_so ∙ ap (λ b. pick b (answered (length (listed R E memory))) (refused Refusal.space)) (le-leb (cells_needed R) (cell_room memory) h)))
+  pub count_done : cells_needed R ≤ cell_room memory → (n : ℕ) → n ≡ length (listed R E memory) → Ok n ≡ counted_as (counted_at memory (R, E))
+  unfolding counted_as
+  count_done h n f = ap Ok f ∙ sym (ap (λ b. counted_as (pick b (answered (length (listed R E memory))) (refused Refusal.space))) (le-leb (cells_needed R) (cell_room memory) h))

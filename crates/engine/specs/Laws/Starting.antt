@@ -1,7 +1,7 @@
 -- Start, case by case: refused as Admit is, refused for want of space, or done (document 01, "Operations").
 use Rattle.std.specs.Prelude.{◌≡◌, Bool, ◌&&◌, List, ℕ, ◌≤◌, ◌<◌, Ok, Err, Result}
 use Rattle.std.proofs.Math.Path.{refl, ap}
-use Rattle.std.proofs.Common.{sym, ◌∙◌}
+use Rattle.std.proofs.Common.{sym, ◌∙◌, subst}
 use Rattle.std.proofs.Math.Bool.{true, false}
 use borrow.Author.Tests.{le-leb, lt-leb}
 use Rattle.eb3.specs.Refusal
@@ -14,43 +14,39 @@ use Rattle.eb3.specs.Bytes.{written, word_count}
 use Rattle.eb3.specs.Memory.{cell_room, memory_words}
 use Rattle.eb3.specs.Reading.{pick}
 use Rattle.eb3.specs.Admission.{admission}
-use Rattle.eb3.specs.Answers.{refused, answered, Written, unwritten}
+use Rattle.eb3.specs.Answers.{Written, unwritten}
 use Rattle.eb3.specs.Operations.{cells_needed, main_reach, term_fits, memory_fits, writing, started, start}
-use Rattle.engine.specs.Starting.{started_as, StartDone}
+use Rattle.engine.specs.Starting.{started_as, Started, started_at}
 use Rattle.refusals.specs.declared.Refusal.{Refusal}
 use Rattle.refusals.specs.declared.Refusal.TheVariants.{Space}
-use Rattle.refusals.specs.Numbers.{number, refusal}
-use Rattle.refusals.specs.Laws.Numbers.{refusal_number}
+use Rattle.refusals.specs.Numbers.{refusal}
 
-module _ (rules term memory : List ℕ) where
-  by_whole : (w : Written ℕ) (r : Result ℕ Refusal) (term' memory' : List ℕ) → start rules term memory ≡ w → r ≡ started_as w.answer → term' ≡ w.term → memory' ≡ w.memory → StartDone rules term memory r term' memory'
-  by_whole w r term' memory' e a t m = record {
-    answer = a ∙ ap (λ (v : Written ℕ). started_as v.answer) (sym e);
-    term_after = t ∙ ap (λ (v : Written ℕ). v.term) (sym e);
-    memory_after = m ∙ ap (λ (v : Written ℕ). v.memory) (sym e);
-  }
+module _ (term memory : List ℕ) where
+  pub start_admitted : (rules : List ℕ) → start rules term memory ≡ writing term memory (admission rules) (started_at term memory)
+  unfolding start
+  start_admitted rules = refl
 
-  pub start_refused : (k : Refusal) → admission rules ≡ refused (number k) → StartDone rules term memory (Err k) term memory
-  unfolding start started_as
-  start_refused k e = by_whole (unwritten term memory (number k)) (Err k) term memory (ap (λ a. writing term memory a λ R. pick (term_fits (main_reach R) term && memory_fits R memory) (started term memory R) (unwritten term memory Refusal.space)) e) (ap Err (sym (refusal_number k))) refl refl
+  module _ (R : RuleSet) where
+    by_room : (b : Bool) → (term_fits (main_reach R) term && memory_fits R memory) ≡ b → started_at term memory R ≡ pick b (started term memory R) (unwritten term memory Refusal.space)
+    by_room b h = ap (λ x. pick x (started term memory R) (unwritten term memory Refusal.space)) h
 
-  module _ (R : RuleSet) (e : admission rules ≡ answered R) where
-    by_room : (b : Bool) → (term_fits (main_reach R) term && memory_fits R memory) ≡ b → start rules term memory ≡ pick b (started term memory R) (unwritten term memory Refusal.space)
-    unfolding start
-    by_room b h = ap (λ a. writing term memory a λ R. pick (term_fits (main_reach R) term && memory_fits R memory) (started term memory R) (unwritten term memory Refusal.space)) e
-        ∙ ap (λ x. pick x (started term memory R) (unwritten term memory Refusal.space)) h
+    by_whole : (w : Written ℕ) (r : Result ℕ Refusal) (term' memory' : List ℕ) → started_at term memory R ≡ w → Started w r term' memory' → Started (started_at term memory R) r term' memory'
+    by_whole w r term' memory' e d = subst (λ v. Started v r term' memory') (sym e) d
 
-    pub start_short_term : word_count term < main_reach R → StartDone rules term memory (Err Space) term memory
+    pub start_short_term : word_count term < main_reach R → Started (started_at term memory R) (Err Space) term memory
     unfolding started_as refusal
-    start_short_term h = by_whole (unwritten term memory Refusal.space) (Err Space) term memory (by_room false (ap (λ b. b && memory_fits R memory) (lt-leb (main_reach R) (word_count term) h))) refl refl refl
+    start_short_term h = by_whole (unwritten term memory Refusal.space) (Err Space) term memory (by_room false (ap (λ b. b && memory_fits R memory) (lt-leb (main_reach R) (word_count term) h)))
+        (record { answer = refl; term_after = refl; memory_after = refl })
 
-    pub start_short_memory : main_reach R ≤ word_count term → cell_room memory < cells_needed R → StartDone rules term memory (Err Space) term memory
+    pub start_short_memory : main_reach R ≤ word_count term → cell_room memory < cells_needed R → Started (started_at term memory R) (Err Space) term memory
     unfolding started_as refusal
     start_short_memory h k = by_whole (unwritten term memory Refusal.space) (Err Space) term memory
-        (by_room false (ap (λ b. b && memory_fits R memory) (le-leb (main_reach R) (word_count term) h) ∙ lt-leb (cells_needed R) (cell_room memory) k)) refl refl refl
+        (by_room false (ap (λ b. b && memory_fits R memory) (le-leb (main_reach R) (word_count term) h) ∙ lt-leb (cells_needed R) (cell_room memory) k))
+        (record { answer = refl; term_after = refl; memory_after = refl })
 
     pub start_done : main_reach R ≤ word_count term → cells_needed R ≤ cell_room memory → (n : ℕ) (term' memory' : List ℕ) → n ≡ size R.edition.width (unfold_main R)
-        → term' ≡ written (words R.edition.width (unfold_main R)) term → memory' ≡ written (memory_words (initial_cells (attributes R))) memory → StartDone rules term memory (Ok n) term' memory'
+        → term' ≡ written (words R.edition.width (unfold_main R)) term → memory' ≡ written (memory_words (initial_cells (attributes R))) memory → Started (started_at term memory R) (Ok n) term' memory'
     unfolding started_as
     start_done h k n term' memory' s t m = by_whole (started term memory R) (Ok n) term' memory'
-        (by_room true (ap (λ b. b && memory_fits R memory) (le-leb (main_reach R) (word_count term) h) ∙ le-leb (cells_needed R) (cell_room memory) k)) (ap Ok s) t m
+        (by_room true (ap (λ b. b && memory_fits R memory) (le-leb (main_reach R) (word_count term) h) ∙ le-leb (cells_needed R) (cell_room memory) k))
+        (record { answer = ap Ok s; term_after = t; memory_after = m })

@@ -35,8 +35,7 @@ use Rattle.given.specs.Asking.{asked_of, event_asked, asked_as, Chooses}
 use Rattle.engine.specs.Stepping.{moved_as, Done, stepped_from, stepped}
 use Rattle.refusals.specs.declared.Refusal.{Refusal}
 use Rattle.refusals.specs.declared.Refusal.TheVariants.{Space, Stranger}
-use Rattle.refusals.specs.Numbers.{number, refusal}
-use Rattle.refusals.specs.Laws.Numbers.{refusal_number}
+use Rattle.refusals.specs.Numbers.{refusal}
 use Rattle.engine.specs.declared.stepping.Step.{Step}
 
 -- ── one operation ──
@@ -73,22 +72,6 @@ module _ (rules term memory : List ℕ) (next_term next_memory : List ℕ) where
       from_admitted (λ R E. writing next_term next_memory (event_in R event.now) λ ρ. chosen R E memory next_term next_memory (at_first ρ)) (admission rules)
       ∙ ap (λ (f : RuleSet × Term → Written Answer_moved). writing next_term next_memory (given_in rules term) f)
       (λ i p. event_known p.0 p.1 (event_in p.0 event.now) i)
-
-  -- ── by what was given ──
-
-  module _ (request : Request) where
-    pub step_refused : (j : Refusal) → given_in rules term ≡ refused (number j) → Done (stepped rules term memory request next_term next_memory) (Err j) next_term next_memory
-    unfolding stepped moved_as
-    step_refused j e =
-        let f : stepped rules term memory request next_term next_memory ≡ unwritten next_term next_memory (number j) = ap (λ a. writing next_term next_memory a (stepped_from request memory next_term next_memory)) e in
-        subst (λ w. Done w (Err j) next_term next_memory) (sym f) (record { answer = ap Err (sym (refusal_number j)); term_after = refl; memory_after = refl })
-
-    pub step_given : (R : RuleSet) (E : Term) → given_in rules term ≡ answered (R, E) → (r : Result Step Refusal) (term' memory' : List ℕ)
-        → Done (stepped_from request memory next_term next_memory (R, E)) r term' memory' → Done (stepped rules term memory request next_term next_memory) r term' memory'
-    unfolding stepped
-    step_given R E e r term' memory' d =
-        let f : stepped rules term memory request next_term next_memory ≡ stepped_from request memory next_term next_memory (R, E) = ap (λ a. writing next_term next_memory a (stepped_from request memory next_term next_memory)) e in
-        subst (λ w. Done w r term' memory') (sym f) d
 
 -- ── what is asked for ──
 

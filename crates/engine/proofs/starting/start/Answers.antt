@@ -1,9 +1,12 @@
-use mathlib.Core.Path.{ap}
-use Rattle.scan.specs.Laws.Reading.{handed_err}
-use Rattle.blocks.specs.Opening.{counted}
-use Rattle.admission.specs.Laws.Opening.{open_refused}
-use Rattle.engine.proofs.StartCases.{unopened_start}
+use Rattle.std.proofs.Common.{rules, ◌≡◌, refl}
+use Rattle.engine.specs.contracts.starting.fn.start.with_admitted.{captures}
+use Rattle.engine.proofs.EnvelopeCases.{leaves}
+use Rattle.engine.proofs.StartCases.{started_given}
 use Rattle.engine.proofs.starting.start.Goals as goal
 
-pub returns-in_err-file : goal.returns-in_err-file
-returns-in_err-file c = rw (handed_err _ _ c.from_residual.ensures) (unopened_start _ _ _ _ (open_refused c.args.rules.now _ c.«open».ensures.answer _ (ap counted c.in_err-file.was)))
+pub returns : goal.returns
+returns c =
+    let term = leaves _ _ c.with_admitted.ensures (λ f f'. (captures f').term.ghost_name ≡ (captures f).term.ghost_name) refl (λ x k. let h = k.called in search rules) in
+    let memory = leaves _ _ c.with_admitted.ensures (λ f f'. (captures f').memory.ghost_name ≡ (captures f).memory.ghost_name) refl (λ x k. let h = k.called in search rules) in
+    let done = started_given _ c.args.rules.now c.with_admitted.ensures (λ f. (captures f).term.now) (λ f. (captures f).memory.now) (λ x l h. search rules) in
+    search rules

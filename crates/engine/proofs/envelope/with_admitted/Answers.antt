@@ -1,0 +1,9 @@
+use mathlib.Core.Path.{ap}
+use Rattle.scan.specs.Laws.Reading.{handed_err}
+use Rattle.blocks.specs.Opening.{counted}
+use Rattle.admission.specs.Laws.Opening.{open_refused}
+use Rattle.engine.proofs.EnvelopeCases.{unopened, refused_at}
+use Rattle.engine.proofs.envelope.with_admitted.Goals as goal
+
+pub returns-in_err-file : goal.returns-in_err-file
+returns-in_err-file g c = rw (handed_err _ _ c.from_residual.ensures) (refused_at _ _ _ _ (unopened c.args.rules.now _ (open_refused c.args.rules.now _ c.«open».ensures.answer _ (ap counted c.in_err-file.was))))
