@@ -9,7 +9,8 @@ use Rattle.eb3.specs.Operations.{term_in}
 use Rattle.given.specs.Giving.{given_in}
 use Rattle.engine.specs.Enveloping.{OnAnswer}
 use Rattle.refusals.specs.declared.Refusal.{Refusal}
-use Rattle.refusals.specs.Numbers.{number, refusal_number}
+use Rattle.refusals.specs.Numbers.{number}
+use Rattle.refusals.specs.Laws.Numbers.{refusal_number}
 
 -- A file whose blocks are refused gives no rule set.
 pub unopened : (rules : List ℕ) (k : Refusal) → open_blocks rules ≡ refused (number k) → admission rules ≡ refused (number k)
