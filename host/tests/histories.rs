@@ -4,12 +4,11 @@
 //! machine": what is computed over cells must be what the machine does, which keeps no cells. `ROUNDS=20`
 //! generates twenty times as many random cases.
 
-use host::generate::calls::{known_subjects, random_subjects, Subject};
+use host::generate::calls::{subjects_of_all_shapes, Subject};
 use host::generate::lent::{for_run, memory, Fit};
 use host::generate::random::Random;
 use host::generate::readers;
 use host::generate::running::{self, State};
-use host::generate::well_formed::SHAPES;
 use host::machines::outcome;
 use host::plain::histories::{self, Machine};
 use host::{bytes_of, examples, on_large_stack, plain, words_of, Action, Made, Tally};
@@ -53,10 +52,7 @@ fn check_laws(subject: &Subject, state: &State) -> usize {
 fn laws_of_moves() {
     let listed = on_large_stack(|| {
         let mut random = Random::new(5);
-        let mut subjects = known_subjects();
-        for shape in SHAPES {
-            subjects.extend(random_subjects(&mut random, shape, 40 * rounds()));
-        }
+        let subjects = subjects_of_all_shapes(&mut random, 40 * rounds());
         let mut listed = 0;
         for subject in &subjects {
             for state in running::walk(&mut random, &subject.file, subject.sizes, 12) {
@@ -125,10 +121,7 @@ fn check_run(random: &mut Random, subject: &Subject, list: &[u8], look_on: bool)
 fn cells_and_histories_agree() {
     let (lists, tally) = on_large_stack(|| {
         let mut random = Random::new(17);
-        let mut subjects = known_subjects();
-        for shape in SHAPES {
-            subjects.extend(random_subjects(&mut random, shape, 60 * rounds()));
-        }
+        let subjects = subjects_of_all_shapes(&mut random, 60 * rounds());
         let (mut lists, mut whole) = (0, Tally::default());
         for subject in &subjects {
             for length in [0, 1, 2, 3, 5, 8, 13, 21, 34] {
@@ -151,10 +144,7 @@ fn cells_and_histories_agree() {
 fn any_terms_have_the_same_moves() {
     on_large_stack(|| {
         let mut random = Random::new(29);
-        let mut subjects = known_subjects();
-        for shape in SHAPES {
-            subjects.extend(random_subjects(&mut random, shape, 40 * rounds()));
-        }
+        let subjects = subjects_of_all_shapes(&mut random, 40 * rounds());
         for subject in &subjects {
             let mut machine = Machine::new(&subject.rules);
             for _ in 0..12 {

@@ -5,11 +5,10 @@
 
 use std::collections::HashMap;
 
-use host::generate::calls::{known_subjects, random_subjects, Subject};
+use host::generate::calls::{subjects_of_all_shapes, Subject};
 use host::generate::lent::zeros_for_run;
 use host::generate::random::Random;
 use host::generate::readers;
-use host::generate::well_formed::SHAPES;
 use host::machines::{outcome, Run, MACHINES};
 use host::plain::histories;
 use host::{on_large_stack, Tally};
@@ -55,10 +54,7 @@ fn histories_with_equal_ends_have_one_future() {
     let (pairs, unequal) = on_large_stack(|| {
         let rounds = std::env::var("ROUNDS").ok().and_then(|rounds| rounds.parse().ok()).unwrap_or(1);
         let mut random = Random::new(53);
-        let mut subjects = known_subjects();
-        for shape in SHAPES {
-            subjects.extend(random_subjects(&mut random, shape, 10 * rounds));
-        }
+        let subjects = subjects_of_all_shapes(&mut random, 10 * rounds);
         let (mut pairs, mut unequal) = (0, 0);
         for subject in subjects.iter().filter(|subject| subject.sizes.breadth < 500) {
             let mut met: HashMap<(Vec<u8>, Vec<u8>), Vec<u8>> = HashMap::new();

@@ -3,12 +3,11 @@
 //! machine. The header's numbers are tested, too. `ROUNDS=20` generates twenty times as many random cases.
 
 use host::calls::{Call, Operation, Operations, Outcome, Plain};
-use host::generate::calls::{known_subjects, random_subjects, Subject};
+use host::generate::calls::{known_subjects, subjects_of_all_shapes, Subject};
 use host::generate::ends::with_main;
 use host::generate::lent::{for_run, roomy, roomy_for_run, table, Fit};
 use host::generate::random::Random;
 use host::generate::readers::{self, at_any, increases, of_pairs, records, with_reader, NO_READERS};
-use host::generate::well_formed::SHAPES;
 use host::generate::{clauses, damage, limits, Case};
 use host::guarded::{Edge, Rooms};
 use host::machines::{outcome, MACHINES};
@@ -137,10 +136,7 @@ fn counts_have_32_bits() {
 fn every_number_is_counted_once() {
     let counted = on_large_stack(|| {
         let mut random = Random::new(64);
-        let mut subjects = known_subjects();
-        for shape in SHAPES {
-            subjects.extend(random_subjects(&mut random, shape, 40 * rounds()));
-        }
+        let subjects = subjects_of_all_shapes(&mut random, 40 * rounds());
         let mut counted = [0u64; 3];
         for subject in subjects.iter().filter(|subject| subject.sizes.breadth < 500) {
             for length in [0, 1, 2, 5, 13, 34, 200] {

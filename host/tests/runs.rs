@@ -6,11 +6,10 @@
 //! `ROUNDS=20` generates twenty times as many random cases.
 #![cfg(cabinet)]
 
-use host::generate::calls::{known_subjects, random_subjects, Subject};
+use host::generate::calls::{subjects_of_all_shapes, Subject};
 use host::generate::lent::roomy_for_run;
 use host::generate::random::Random;
 use host::generate::readers;
-use host::generate::well_formed::SHAPES;
 use host::machines::{outcome, MACHINES};
 use host::{on_large_stack, plain};
 
@@ -23,10 +22,7 @@ fn rounds() -> usize {
 fn runs_are_those_of_the_history_machine() {
     on_large_stack(|| {
         let mut random = Random::new(41);
-        let mut subjects = known_subjects();
-        for shape in SHAPES {
-            subjects.extend(random_subjects(&mut random, shape, 30 * rounds()));
-        }
+        let subjects = subjects_of_all_shapes(&mut random, 30 * rounds());
         for subject in &subjects {
             for length in [0, 1, 10, 100, 1000] {
                 check_run(&mut random, subject, length);

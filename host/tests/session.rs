@@ -13,9 +13,8 @@ use std::sync::mpsc;
 use std::time::Duration;
 
 use host::blocks::{byte_of_word, repair};
-use host::generate::calls::{known_subjects, numbers, random_subjects, Subject};
+use host::generate::calls::{numbers, subjects_of_all_shapes, Subject};
 use host::generate::random::Random;
-use host::generate::well_formed::SHAPES;
 use host::generate::{clauses, damage, faults, full, limits, nesting, Case};
 use host::rules::{Process, RuleSet, Term};
 use host::{bytes_of, examples, on_large_stack, plain, words_of, Action, MOST_REACH};
@@ -312,10 +311,7 @@ fn a_page_filled_to_the_last_byte() {
 fn sessions_are_those_of_the_plain_interpreter() {
     on_large_stack(|| {
         let mut random = Random::new(57);
-        let mut subjects = known_subjects();
-        for shape in SHAPES {
-            subjects.extend(random_subjects(&mut random, shape, 20 * rounds()));
-        }
+        let subjects = subjects_of_all_shapes(&mut random, 20 * rounds());
         for Subject { name, file, sizes, .. } in &subjects {
             let length = if sizes.breadth > 500 { 3 } else { 60 };
             check(name, &[&file[..], &numbers(&mut random, length)].concat());

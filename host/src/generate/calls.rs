@@ -68,6 +68,15 @@ pub fn random_subjects(random: &mut Random, shape: Shape, count: usize) -> Vec<S
     subjects
 }
 
+/// The known subjects, and `count` random ones of every shape.
+pub fn subjects_of_all_shapes(random: &mut Random, count: usize) -> Vec<Subject> {
+    let mut subjects = known_subjects();
+    for shape in SHAPES {
+        subjects.extend(random_subjects(random, shape, count));
+    }
+    subjects
+}
+
 /// Every kind of call. `rounds` multiplies the number of random ones; tests use 1.
 pub fn every_call(rounds: usize, take: Taker) {
     let mut random = Random::new(91);
