@@ -129,8 +129,9 @@ out_fits = record {
 pub cabinet_well_formed : WellFormed cabinet
 unfolding edition_of function unfold_main unfold_below unfold_term right_nest argument_value instantiate_cond size reach breadth parallel_breadth zero_mask cond_size arguments_size
 cabinet_well_formed = record {
+  defined = refl;
   form = record {
-    defined = refl;
+    proper = record { numbered = (omega arith, omega arith); largest = (omega arith, omega arith); constants = (omega arith, omega arith); parameters = (omega arith, omega arith); one_each = λ e. refl };
     domain_count = (omega arith, omega arith);
     domain_sizes = at_one (λ d. (1 ≤ domain_size cabinet d) × (domain_size cabinet d ≤ 64)) (omega arith, omega arith);
     label_count = (omega arith, omega arith);

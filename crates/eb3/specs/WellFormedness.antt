@@ -8,7 +8,7 @@ use Rattle.eb3.specs.Terms.{Term, Done, Internal, Perform, Sequence, Choice, Sta
 use Rattle.eb3.specs.Attributes.{Trace}
 use Rattle.eb3.specs.Scopes.{DataInScope, CondInScope, start_scope, label_scope, guard_scope}
 use Rattle.eb3.specs.Sizes.{reach, breadth}
-use Rattle.eb3.specs.Editions.{Defined}
+use Rattle.eb3.specs.Editions.{Defined, Proper}
 use Rattle.eb3.specs.RuleSets.{Argument, constant_argument, variable_argument, RuleTerm, rule_internal, rule_perform, rule_sequence, rule_choice, rule_star, rule_parallel, rule_guard, choice_over, parallel_over, call, RuleSet, domain_size, sizes_of, label, function_rule, process, main_process, attributes}
 use Rattle.eb3.specs.Unfolding.{unfold_main}
 
@@ -82,9 +82,9 @@ pub record FunctionFits (R : RuleSet) (f : ℕ) : Type 0 where
   pub label_count : length (function_rule R f).at_label ≡ length R.labels
   pub at_label : (l : ℕ) → l < length R.labels → DataInScope (get_or (function_rule R f).at_label l Undefined) (label_scope (attributes R) f (length (label R l)))
 
--- What refusals 3 to 6 ask of a rule set.
+-- What refusals 3 to 6 ask of a rule set of any proper edition.
 pub record Form (R : RuleSet) : Type 0 where
-  pub defined : Defined R.edition
+  pub proper : Proper R.edition
   pub domain_count : (1 ≤ length R.domains) × (length R.domains ≤ Limits.domains)
   pub domain_sizes : (d : ℕ) → d < length R.domains → (1 ≤ domain_size R d) × (domain_size R d ≤ Limits.domain_size)
   pub label_count : (1 ≤ length R.labels) × (length R.labels ≤ Limits.labels)
@@ -98,6 +98,8 @@ pub record Form (R : RuleSet) : Type 0 where
 
 -- And with refusals 7 and 8, which judge main's unfolding.
 pub record WellFormed (R : RuleSet) : Type 0 where
+  -- The edition is one that is defined (refusal 3).
+  pub defined : Defined R.edition
   pub form : Form R
   pub reach_limit : reach R.edition.width (unfold_main R) ≤ Limits.reach
   pub breadth_limit : breadth (unfold_main R) ≤ Limits.breadth

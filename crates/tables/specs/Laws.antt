@@ -1,3 +1,4 @@
--- The laws. Tables: what the tables declare, entry by entry, and the readers of masks and arguments.
+-- The laws. Tables: what the tables declare, entry by entry, and the readers of masks and arguments. Editions: what the tables' edition has.
 -- Document 01, "Blocks and the rule stream", item 5: masks and arguments, and what they are judged by.
+pub mod Editions
 pub mod Tables

@@ -320,16 +320,19 @@ process_entered T R P m left d room domains labels short few small e = record {
 
 -- ── the declared rule set and the one read are equal in all that terms are read by ──
 
--- One parameter each; a function that is not defined counts as such too.
-arity_is_one : (R : RuleSet) → ((f : ℕ) → get_or (map (λ (F : Function). length F.parameters) R.functions) f 1 ≡ 1) → (f : ℕ) → arities (attributes R) f ≡ 1
+-- One parameter each;
+pub parameter_is_one : (R : RuleSet) → ((f : ℕ) → get_or (map (λ (F : Function). length F.parameters) R.functions) f 1 ≡ 1) → (f : ℕ) → f < length R.functions → length (function_rule R f).parameters ≡ 1
+parameter_is_one R h f b = sym (get_d_map (λ (F : Function). length F.parameters) R.functions f no_rule 1 b) ∙ h f
+
+-- a function that is not defined counts as such too.
+pub arity_is_one : (R : RuleSet) → ((f : ℕ) → get_or (map (λ (F : Function). length F.parameters) R.functions) f 1 ≡ 1) → (f : ℕ) → arities (attributes R) f ≡ 1
 arity_is_one R h f = go (dec_lt f (length R.functions))
   where
     go : Dec (f < length R.functions) → arities (attributes R) f ≡ 1
     go (yes b) =
         ap length (domain_is R f b)
         ∙ length-map (function_rule R f).parameters (domain_size R)
-        ∙ sym (get_d_map (λ (F : Function). length F.parameters) R.functions f no_rule 1 b)
-        ∙ h f
+        ∙ parameter_is_one R h f b
     go (no b) = ap length (no_domain_beyond (attributes R) f (omega (arith, b, functions_counted R)))
 
 pub declared_alike : (T : List ℕ) (R : RuleSet) → Declares T R → Alike (declared T) R

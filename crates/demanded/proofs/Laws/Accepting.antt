@@ -11,7 +11,6 @@ use Rattle.eb3.specs.Semantics.{Sem_M}
 use Rattle.eb3.proofs.Laws.Semantics.{move_stepped}
 use Rattle.eb3.specs.Sizes.{size, reach}
 use Rattle.eb3.proofs.Laws.Sizes.{reach_nonincreasing, breadth_nonincreasing}
-use Rattle.eb3.proofs.Laws.Editions.{form_proper}
 use Rattle.eb3.specs.RuleSets.{RuleSet, attributes}
 use Rattle.eb3.specs.WellFormedness.{Running, WellFormed}
 use Rattle.eb3.proofs.Laws.Running.{move_running}
@@ -34,7 +33,7 @@ use Rattle.demanded.specs.Stepping.{AcceptedAgainHolds}
 accepted_running : (R : RuleSet) → WellFormed R → (term : List ℕ) (E : Term) → term_in R term ≡ answered E → Running R E
 accepted_running R good term E e =
     let p = pick_answered (even term) (or_refused Refusal.term (given_term R (words_in term))) Refusal.term E e in
-    ((given_term_exact R (form_proper good.form).constants.0 (words_in term) E).0 (or_refused_answered Refusal.term (given_term R (words_in term)) E p.1)).1
+    ((given_term_exact R good.form.proper.constants.0 (words_in term) E).0 (or_refused_answered Refusal.term (given_term R (words_in term)) E p.1)).1
 
 module _ (R : RuleSet) (memory next_term next_memory : List ℕ) (m : Moved) where
   -- What answered was a move that is listed.

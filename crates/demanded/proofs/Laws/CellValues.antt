@@ -15,8 +15,9 @@ use Rattle.eb3.proofs.Laws.Cells.{length_values, value_cell, values_at_most}
 use Rattle.eb3.specs.Semantics.{Sem_T}
 use Rattle.eb3.specs.Machines.{Machine, history_run}
 use Rattle.eb3.proofs.Laws.Machines.{chain_run}
-use Rattle.eb3.proofs.Laws.Editions.{form_proper}
-use Rattle.eb3.proofs.Laws.CellCounts.{one_parameter_count}
+use Rattle.eb3.specs.Editions.{Edition}
+use Rattle.eb3.proofs.Laws.Editions.{only_edition_1}
+use Rattle.eb3.proofs.Laws.CellCounts.{one_parameter_each}
 use Rattle.eb3.specs.RuleSets.{RuleSet, domain_size, sizes_of, label, function_rule, attributes}
 use Rattle.eb3.proofs.Laws.RuleSets.{functions_counted, domain_is}
 use Rattle.eb3.specs.Unfolding.{unfold_main}
@@ -34,15 +35,15 @@ use Rattle.eb3.proofs.Laws.Admission.{admitted}
 use Rattle.eb3.specs.Demands.{Roomy, last_trace, values_words, after, Demand3}
 use Rattle.demanded.specs.CellValues.{elements, cells_before, CellValues}
 
-module _ (R : RuleSet) (good : Form R) where
+module _ (R : RuleSet) (good : Form R) (one : R.edition.function_parameters ≡ 1) where
   -- A function has one parameter.
   one_domain : (f : ℕ) → f < length R.functions → domain (attributes R) f ≡ elements R f ∷ []
-  one_domain f l = domain_is R f l ∙ go (function_rule R f).parameters (one_parameter_count R good f l)
+  one_domain f l = domain_is R f l ∙ go (function_rule R f).parameters (one_parameter_each R good one f l)
     where
-      go : (ds : List ℕ) → (1 ≤ length ds) × (length ds ≤ 1) → sizes_of R ds ≡ domain_size R (get_or ds 0 0) ∷ []
-      go [] b = let z : ⊥ = omega (arith, b.0) in absurd z
+      go : (ds : List ℕ) → length ds ≡ 1 → sizes_of R ds ≡ domain_size R (get_or ds 0 0) ∷ []
+      go [] b = let z : ⊥ = omega arith in absurd z
       go (d ∷ []) b = refl
-      go (d ∷ e ∷ ds) b = let z : ⊥ = omega (arith, b.1) in absurd z
+      go (d ∷ e ∷ ds) b = let z : ⊥ = omega arith in absurd z
 
   offset_is : (f : ℕ) → f ≤ length R.functions → offset (attributes R) f ≡ cells_before R f
   unfolding offset cells_before cell_count
@@ -86,7 +87,7 @@ module _ (R : RuleSet) (good : Form R) where
   values_count H = memory_length (all_values (attributes R) H) ∙ (length_values (attributes R) H ∙ cells_in_all)
 
   values_small : (H : Trace) → WellFormedTrace R H → Small (values_words R H)
-  values_small H w = memory_small R.edition.top (form_proper good).largest.1 (all_values (attributes R) H)
+  values_small H w = memory_small R.edition.top good.proper.largest.1 (all_values (attributes R) H)
       (values_at_most (attributes R) (λ l. length (label R l)) (expressions_in_scope R good) (parameters_small R good) H (trace_small R good H w))
 
 in_range : (ws : List ℕ) (k d d' : ℕ) → k < length ws → get_or ws k d ≡ get_or ws k d'
@@ -97,6 +98,9 @@ in_range (w ∷ ws) (suc k) d d' l = in_range ws k d d' (omega arith)
 module _ (rules list table term memory spare_term spare_memory : List ℕ) (S : Sizes) (D : Demand3 rules list table term memory spare_term spare_memory S) (room : Roomy S term memory) where
   good : WellFormed D.R
   good = (admitted rules D.R D.admitted).good
+
+  one : D.R.edition.function_parameters ≡ 1
+  one = ap (λ (L : Edition). L.function_parameters) (only_edition_1 D.R.edition good.defined)
 
   abbrev T_list : Trace
   T_list = last_trace D.R D.h
@@ -110,17 +114,17 @@ module _ (rules list table term memory spare_term spare_memory : List ℕ) (S : 
   wrote = values_words D.R T_list
 
   memory_is : words_in (after rules list table term memory spare_term spare_memory S).written.memory ≡ wrote ++ words_in (drop (2 * length wrote) memory)
-  memory_is = ap (λ (w : Written Ran). words_in w.memory) D.run_agrees ∙ written_words wrote memory (values_small D.R good.form T_list traced)
+  memory_is = ap (λ (w : Written Ran). words_in w.memory) D.run_agrees ∙ written_words wrote memory (values_small D.R good.form one T_list traced)
 
   pub cell_values : CellValues D.R D.h (after rules list table term memory spare_term spare_memory S).written
   cell_values = record {
     cell = λ f l x b.
         let k = cells_before D.R f + x in
-        let inside : k < length wrote = omega (arith, values_count D.R good.form T_list, before_mono D.R good.form f (length D.R.functions) l) in
+        let inside : k < length wrote = omega (arith, values_count D.R good.form one T_list, before_mono D.R good.form one f (length D.R.functions) l) in
         ap (λ ws. get_or ws k 0) memory_is ∙ (get_or-append wrote (words_in (drop (2 * length wrote) memory)) 0 k inside
-        ∙ (in_range wrote k 0 (encode 65535 undefined) inside ∙ word_at D.R good.form T_list traced f l x b));
-    all_cells = omega (arith, words_counted (after rules list table term memory spare_term spare_memory S).written.memory, ap length memory_is, length-append wrote (words_in (drop (2 * length wrote) memory)), values_count D.R good.form T_list);
-    cell_count = cells_in_all D.R good.form;
-    cell_place = place_is D.R good.form;
-    domain_is = one_domain D.R good.form;
+        ∙ (in_range wrote k 0 (encode 65535 undefined) inside ∙ word_at D.R good.form one T_list traced f l x b));
+    all_cells = omega (arith, words_counted (after rules list table term memory spare_term spare_memory S).written.memory, ap length memory_is, length-append wrote (words_in (drop (2 * length wrote) memory)), values_count D.R good.form one T_list);
+    cell_count = cells_in_all D.R good.form one;
+    cell_place = place_is D.R good.form one;
+    domain_is = one_domain D.R good.form one;
   }

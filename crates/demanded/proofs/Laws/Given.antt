@@ -7,7 +7,6 @@ use Rattle.eb3.specs.Generic.Booleans.{T_and, T_fst, T_snd}
 use Rattle.eb3.specs.Values.{Value, undefined, number, encode}
 use Rattle.eb3.specs.Terms.{Term, Action}
 use Rattle.eb3.specs.Sizes.{reach}
-use Rattle.eb3.proofs.Laws.Editions.{form_proper}
 use Rattle.eb3.specs.RuleSets.{RuleSet}
 use Rattle.eb3.specs.WellFormedness.{Form}
 use Rattle.eb3.specs.TermReading.{given_term, given_event}
@@ -108,7 +107,7 @@ module _ (R : RuleSet) where
 
 module _ (R : RuleSet) (good : Form R) where
   wide : 1 ≤ R.edition.width
-  wide = (form_proper good).constants.0
+  wide = good.proper.constants.0
 
   pub term? : (term : List ℕ) → ((E : Term) × GivenTerm R term E) ⊎ ((E : Term) → GivenTerm R term E → ⊥)
   term? term = go (eqb (length term % 2) 0) (given_term R (words_in term)) (eqb→eq (length term % 2) 0) (eq→eqb (length term % 2) 0) refl

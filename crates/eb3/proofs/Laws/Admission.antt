@@ -106,7 +106,7 @@ module _ (rules : List ℕ) where
 
   pub read_whole : (L : Edition) → Defined L → (words : List ℕ) (R : RuleSet) → ended (read_rules L words) ≡ answered R → Taken L words R
   unfolding ended
-  read_whole L defined words R e = go (read_rules L words) (rules_sound L defined words) e
+  read_whole L defined words R e = go (read_rules L words) (rules_sound L (edition_proper L defined) words) e
     where
       go : (r : Read RuleSet) → Sound rules_words (FormOf L) words r → ended r ≡ answered R → Taken L words R
       go (Read.refused k) h e = absurd (not_both k R e)
@@ -121,14 +121,15 @@ module _ (rules : List ℕ) where
             h.1,
           )
 
-  limited : (Q R : RuleSet) → within_limits Q ≡ answered R → Form Q → (Q ≡ R) × WellFormed R
+  limited : (Q R : RuleSet) → within_limits Q ≡ answered R → Defined Q.edition → Form Q → (Q ≡ R) × WellFormed R
   unfolding within_limits
-  limited Q R e f =
+  limited Q R e d f =
       let p = pick_answered (leb (reach Q.edition.width (unfold_main Q)) Limits.reach) _ Refusal.size R e in
       let q = pick_answered (leb (breadth (unfold_main Q)) Limits.breadth) (answered Q) Refusal.breadth R p.1 in
       let same = answered_injective Q R q.1 in (
         same,
         subst WellFormed same (record {
+          defined = d;
           form = f;
           reach_limit = leb→le (reach Q.edition.width (unfold_main Q)) Limits.reach p.0;
           breadth_limit = leb→le (breadth (unfold_main Q)) Limits.breadth q.0;
@@ -150,7 +151,7 @@ module _ (rules : List ℕ) where
       let w : OpenedAs o = opened o q.1 in
       let t = read_whole o.edition w.defined o.words p.0 q.2 in
       let same : p.0.edition ≡ o.edition = t.1.1 in
-      let l = limited p.0 R p.2 t.1.0 in
+      let l = limited p.0 R p.2 (subst Defined (sym same) w.defined) t.1.0 in
       record {
         whole = w.whole;
         good = l.1;

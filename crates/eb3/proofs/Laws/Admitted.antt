@@ -31,7 +31,7 @@ use Rattle.eb3.specs.Answers.{answered}
 use Rattle.eb3.specs.Admission.{admission}
 use Rattle.eb3.proofs.Laws.Admission.{blocks_there, stream_length, admitted}
 use Rattle.eb3.specs.Admitted.{concluded_source, Admitted}
-use Rattle.eb3.proofs.Laws.Editions.{form_proper, only_edition_1}
+use Rattle.eb3.proofs.Laws.Editions.{only_edition_1}
 
 module _ (rules : List ℕ) (R : RuleSet) (a : admission rules ≡ answered R) where
   good : WellFormed R
@@ -72,7 +72,7 @@ module _ (rules : List ℕ) (R : RuleSet) (a : admission rules ≡ answered R) w
       let c = counted t.0 (t.1, t.2) in
       record {
         well_formed = good;
-        of_edition_1 = only_edition_1 R.edition good.form.defined;
+        of_edition_1 = only_edition_1 R.edition good.defined;
         spelled = subst (λ n. stream rules ≡ stream_words (block_count rules) R ++ replicate n 0) c.0 t.2;
         in_last_block = (omega (arith, c, t.1, some_block), c.1);
         starts = main_running R good;
@@ -89,6 +89,6 @@ module _ (rules : List ℕ) (R : RuleSet) (a : admission rules ≡ answered R) w
         cell_renewed = λ f d xs w M e. renewed_cell (attributes R) (λ l. length (label R l)) (expressions_in_scope R good.form) f (there f d) xs w M e
             ∙ ap (λ (F : AttributeFunction). evaluate_data (get_or F.at_label e.label Undefined) (environment R.edition.top (xs ++ e.arguments) (cell_at (attributes R) (renew (attributes R) M e)) (cell_at (attributes R) M))) (function_is R f d);
         cell_counts = cells_counted (attributes R);
-        term_accepted = given_term_exact R (form_proper good.form).constants.0;
-        event_accepted = given_event_exact R (form_proper good.form).constants.0;
+        term_accepted = given_term_exact R good.form.proper.constants.0;
+        event_accepted = given_event_exact R good.form.proper.constants.0;
       }

@@ -12,7 +12,9 @@ use Rattle.eb3.specs.Terms.{Term, Action}
 use Rattle.eb3.specs.Moves.{Move}
 use Rattle.eb3.specs.Sizes.{reach}
 use Rattle.eb3.proofs.Laws.Sizes.{size_below_reach}
-use Rattle.eb3.proofs.Laws.CellCounts.{cells_below}
+use Rattle.eb3.proofs.Laws.CellCounts.{one_parameter_each, cells_below}
+use Rattle.eb3.specs.Editions.{Edition}
+use Rattle.eb3.proofs.Laws.Editions.{only_edition_1}
 use Rattle.eb3.specs.RuleSets.{RuleSet}
 use Rattle.eb3.specs.Unfolding.{unfold_main}
 use Rattle.eb3.specs.WellFormedness.{WellFormed}
@@ -211,7 +213,8 @@ module _ (rules : List ℕ) (S : Sizes) (R : RuleSet) (a : admission rules ≡ a
 
   limits_reported : (S.reach ≤ 8192) × (S.breadth ≤ 65535) × (S.size ≤ S.reach) × (S.cells ≤ 1024)
   limits_reported = let w : WellFormed R = (admitted rules R a).good in
-      subst (λ (x : Sizes). (x.reach ≤ 8192) × (x.breadth ≤ 65535) × (x.size ≤ x.reach) × (x.cells ≤ 1024)) s (w.reach_limit, w.breadth_limit, size_below_reach R.edition.width (unfold_main R), cells_below R w.form)
+      let one : R.edition.function_parameters ≡ 1 = ap (λ (L : Edition). L.function_parameters) (only_edition_1 R.edition w.defined) in
+      subst (λ (x : Sizes). (x.reach ≤ 8192) × (x.breadth ≤ 65535) × (x.size ≤ x.reach) × (x.cells ≤ 1024)) s (w.reach_limit, w.breadth_limit, size_below_reach R.edition.width (unfold_main R), cells_below R w.form (one_parameter_each R w.form one))
 
 pub space : SpaceHolds
 space rules S e =

@@ -181,7 +181,7 @@ file_admitted R w few =
     filled = omega (arith, length-append (rules_words R) (replicate unused 0), length-replicate {A = ℕ} unused 0)
 
     opens : open_blocks (file_of R) ≡ answered (record { edition = R.edition; words = rules_words R ++ replicate unused 0 })
-    opens = file_opens R.edition w.form.defined (blocks_needed R) (rules_words R ++ replicate unused 0) (small_append (rules_words R) (replicate unused 0) (rules_small R w.form) (zeros_small unused)) filled few
+    opens = file_opens R.edition w.defined (blocks_needed R) (rules_words R ++ replicate unused 0) (small_append (rules_words R) (replicate unused 0) (rules_small R w.form) (zeros_small unused)) filled few
 
 -- ── bytes ──
 

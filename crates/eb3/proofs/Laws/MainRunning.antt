@@ -15,7 +15,6 @@ use Rattle.eb3.specs.Unfolding.{Valuation, argument_value, instantiate_data, ins
 use Rattle.eb3.proofs.Laws.Unfolding.{right_nest_keeps}
 use Rattle.eb3.proofs.Laws.Elements.{within_more, within_at, arguments_within, domain_limited}
 use Rattle.eb3.specs.WellFormedness.{WellFormedTerm, Running, Allowed, Form, WellFormed}
-use Rattle.eb3.proofs.Laws.Editions.{form_proper}
 
 -- With constants for its variables, a guard's condition needs none.
 module _ (P : Scope) (σ : Valuation) (small : (i : ℕ) → i < P.variables → get_or σ i 0 ≤ P.edition.top) where
@@ -86,7 +85,7 @@ module _ (R : RuleSet) where
 
 -- Elements of domains are numbers.
 pub small_domains : (R : RuleSet) → Form R → (d : ℕ) → domain_size R d ≤ suc R.edition.top
-small_domains R w d = omega (arith, domain_limited R w d, (form_proper w).largest.0)
+small_domains R w d = omega (arith, domain_limited R w d, w.proper.largest.0)
 
 pub main_running : (R : RuleSet) → WellFormed R → Running R (unfold_main R)
 unfolding unfold_main

@@ -23,19 +23,18 @@ use Rattle.eb3.proofs.Laws.Memory.{cells_back}
 use Rattle.eb3.specs.Answers.{answered}
 use Rattle.eb3.specs.Operations.{even, term_in, cells_given, cells_needed}
 use Rattle.eb3.specs.Answers.{or_refused}
-use Rattle.eb3.proofs.Laws.Editions.{form_proper}
 
 module _ (R : RuleSet) (good : Form R) where
   pub spelling_small : (E : Term) → WellFormedTerm R E → Small (words R.edition.width E)
   spelling_small E w =
-      words_small R (form_proper good).constants.1 (omega (arith, functions_counted R, good.function_count)) (omega (arith, good.label_count.1)) (small_domains R good) E w
+      words_small R good.proper.constants.1 (omega (arith, functions_counted R, good.function_count)) (omega (arith, good.label_count.1)) (small_domains R good) E w
 
   -- A running term's words, as bytes, are read back as that term.
   pub term_back : (E : Term) → Running R E → term_in R (bytes_of (words R.edition.width E)) ≡ answered E
   term_back E w =
       let s = bytes_of (words R.edition.width E) in
       let twice : length s % 2 ≡ 0 = omega (arith, bytes_length (words R.edition.width E)) in
-      pick_true _ _ (even s) (subst (λ n. T (eqb n 0)) (sym twice) tt) ∙ ap (or_refused Refusal.term) ((given_term_exact R (form_proper good).constants.0 (words_in s) E).1 (bytes_back (words R.edition.width E) (spelling_small E w.form), w))
+      pick_true _ _ (even s) (subst (λ n. T (eqb n 0)) (sym twice) tt) ∙ ap (or_refused Refusal.term) ((given_term_exact R good.proper.constants.0 (words_in s) E).1 (bytes_back (words R.edition.width E) (spelling_small E w.form), w))
 
   -- A buffer in which a term was written at the beginning, cut to that term's length, is read back as that term.
   pub cut_back : (E : Term) (vs buffer : List ℕ) → Running R E → term_in R (take (2 * size R.edition.width E) (written (words R.edition.width E ++ vs) buffer)) ≡ answered E
@@ -45,5 +44,5 @@ module _ (R : RuleSet) (good : Form R) where
 
   -- A memory of the values over a trace is read back as those values.
   pub values_back : (H : Trace) (memory : List ℕ) → WellFormedTrace R H → cells_given R (written (memory_words (all_values (attributes R) H)) memory) ≡ all_values (attributes R) H
-  values_back H memory w = cells_back R.edition.top (form_proper good).largest.1 (cells_needed R) (all_values (attributes R) H) memory (length_values (attributes R) H)
+  values_back H memory w = cells_back R.edition.top good.proper.largest.1 (cells_needed R) (all_values (attributes R) H) memory (length_values (attributes R) H)
       (values_at_most (attributes R) (λ l. length (label R l)) (expressions_in_scope R good) (parameters_small R good) H (trace_small R good H w))

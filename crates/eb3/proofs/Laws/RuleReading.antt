@@ -13,7 +13,7 @@ use Rattle.eb3.specs.Refusal
 use Rattle.eb3.specs.Generic.Lists.{concat_map}
 use Rattle.eb3.specs.Expressions.{Data, Undefined}
 use Rattle.eb3.specs.Scopes.{DataInScope, arities, start_scope, label_scope}
-use Rattle.eb3.specs.Editions.{Edition, Defined}
+use Rattle.eb3.specs.Editions.{Edition, Proper}
 use Rattle.eb3.specs.RuleSets.{Argument, constant_argument, variable_argument, RuleTerm, rule_internal, rule_perform, rule_sequence, rule_choice, rule_star, rule_parallel, rule_guard, choice_over, parallel_over, call, Function, Process, RuleSet, domain_size, label, no_rule, function_rule, no_process, process, main_process, attributes}
 use Rattle.eb3.specs.WellFormedness.{ArgumentFits, ArgumentsFit, Allowed, DomainsDefined, FunctionFits, Form}
 use Rattle.eb3.specs.Spelling.{data_words}
@@ -29,7 +29,6 @@ use Rattle.eb3.proofs.Laws.ParameterCounts.{CountsRead, counts_sound, counts_are
 use Rattle.eb3.proofs.Laws.RuleTermReading.{rule_term_sound}
 use Rattle.eb3.specs.Generic.AllLists.{All, all_at, AllFor, AllFrom, all_from_at, all_for_length, all_for_at}
 use Rattle.eb3.proofs.Laws.ReadingCombined.{two_sound}
-use Rattle.eb3.proofs.Laws.Editions.{edition_proper}
 
 -- ── domains and labels ──
 
@@ -273,10 +272,10 @@ module _ where
 
 -- ── the sections in a row ──
 
-form_of : (R : RuleSet) → Defined R.edition → DomainsRead R.domains → LabelsRead (length R.domains) R.labels
+form_of : (R : RuleSet) → Proper R.edition → DomainsRead R.domains → LabelsRead (length R.domains) R.labels
     → FunctionsRead R.edition (length R.domains) R.labels R.functions → (1 ≤ length R.processes) × (length R.processes ≤ Limits.processes) → AllFrom (ProcessFits R) 0 R.processes → Form R
-form_of R defined ds ls fs count ps = record {
-  defined = defined;
+form_of R proper ds ls fs count ps = record {
+  proper = proper;
   domain_count = ds.0;
   domain_sizes = λ d l. all_at (λ n. (1 ≤ n) × (n ≤ Limits.domain_size)) R.domains ds.1 d 0 l;
   label_count = ls.0;
@@ -304,7 +303,7 @@ unfolding then
 then_reads spell P Q q t g (refused k) h f = q k
 then_reads spell P Q q t g (taken a u) h f = f a u h.0 h.1
 
-module _ (L : Edition) (defined : Defined L) (domains : List ℕ) (labels : List (List ℕ)) (functions : List Function) where
+module _ (L : Edition) (proper : Proper L) (domains : List ℕ) (labels : List (List ℕ)) (functions : List Function) where
   abbrev front : List ℕ → List ℕ
   front u = counted_words one_word domains ++ (counted_words (counted_words one_word) labels ++ (functions_words L functions ++ u))
 
@@ -327,7 +326,7 @@ module _ (L : Edition) (defined : Defined L) (domains : List ℕ) (labels : List
   whole_sound ds ls fs n count t u e (taken R v) a = subst (λ T. Sound rules_words (FormOf L) t (taken T v)) a.1 (
     e ∙ (ap (λ x. front (n ∷ x)) a.2 ∙ (ap (λ m. front (m ∷ (concat_map P a.0 ++ v))) (sym a.3) ∙ front_append (counted_words P a.0) v)),
     (
-      form_of (with_processes (without_processes L domains labels functions) a.0) defined ds ls fs (omega (arith, count, a.3), omega (arith, count, a.3))
+      form_of (with_processes (without_processes L domains labels functions) a.0) proper ds ls fs (omega (arith, count, a.3), omega (arith, count, a.3))
           (subst (λ T. AllFrom (ProcessFits T) 0 a.0) (sym a.1) a.4),
       refl,
     ),
@@ -336,14 +335,14 @@ module _ (L : Edition) (defined : Defined L) (domains : List ℕ) (labels : List
       P : Process → List ℕ
       P = process_words L.width
 
-pub rules_sound : (L : Edition) → Defined L → Sounds rules_words (FormOf L) (read_rules L)
+pub rules_sound : (L : Edition) → Proper L → Sounds rules_words (FormOf L) (read_rules L)
 unfolding read_rules
-rules_sound L defined t =
+rules_sound L proper t =
     then_reads (counted_words one_word) DomainsRead Q (λ k. tt) t _ (read_domains t) (domains_sound t) λ domains t₁ e₁ ds.
     then_reads (counted_words (counted_words one_word)) (LabelsRead (length domains)) Q (λ k. tt) t₁ _ (read_labels (length domains) t₁) (labels_sound (length domains) t₁) λ labels t₂ e₂ ls.
-    then_reads (functions_words L) (FunctionsRead L (length domains) labels) Q (λ k. tt) t₂ _ (read_functions L (length domains) labels t₂) (functions_sound L (length domains) labels (edition_proper L defined).parameters.0 t₂) λ functions t₃ e₃ fs.
+    then_reads (functions_words L) (FunctionsRead L (length domains) labels) Q (λ k. tt) t₂ _ (read_functions L (length domains) labels t₂) (functions_sound L (length domains) labels proper.parameters.0 t₂) λ functions t₃ e₃ fs.
     then_reads one_word (λ n. (1 ≤ n) × (n ≤ Limits.processes)) Q (λ k. tt) t₃ _ (count_of 1 Limits.processes t₃) (count_sound 1 Limits.processes t₃) λ n u e₄ count.
-    whole_sound L defined domains labels functions ds ls fs n count t u
+    whole_sound L proper domains labels functions ds ls fs n count t u
     (e₁ ∙ ap (λ x. counted_words one_word domains ++ x) (e₂ ∙ ap (λ x. counted_words (counted_words one_word) labels ++ x) (e₃ ∙ ap (λ x. functions_words L functions ++ x) e₄)))
     (read_processes n (without_processes L domains labels functions) u) (processes_sound n (without_processes L domains labels functions) u)
   where

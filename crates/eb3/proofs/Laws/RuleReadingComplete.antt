@@ -35,7 +35,6 @@ use Rattle.eb3.proofs.Laws.ExpressionReading.{data_takes, cond_takes}
 use Rattle.eb3.proofs.Laws.TermReading.{mask_takes}
 use Rattle.eb3.specs.Generic.AllLists.{All, at_all, AllFor, at_all_for, at_all_from}
 use Rattle.eb3.proofs.Laws.ReadingCombined.{two_takes, by_number_takes}
-use Rattle.eb3.proofs.Laws.Editions.{form_proper}
 
 -- ── rule terms ──
 
@@ -308,7 +307,7 @@ module _ (L : Edition) (domains : List ℕ) (labels : List (List ℕ)) (function
           ap (λ r. then r λ n u. then (read_parameter_counts L n u) λ counts. series n 0 (read_function L (length domains) labels counts))
           (count_takes 0 Limits.functions (length functions) ((counts_words L counts ++ W) ++ rest) (omega arith, form.function_count))
           ∙ (then_takes (read_parameter_counts L (length functions)) (λ counts. series (length functions) 0 (read_function L (length domains) labels counts)) (counts_words L counts) W rest counts
-          (counts_take L (form_proper form).one_each (length functions) counts (W ++ rest) counts_fit)
+          (counts_take L form.proper.one_each (length functions) counts (W ++ rest) counts_fit)
           ∙ series_takes (function_words L.width) Numbered (read_function L (length domains) labels counts) function_takes 0 functions rest
           (at_all_from Numbered no_rule 0 functions (λ f h. let e : f ≡ 0 + f = omega arith in subst (λ n. Numbered n (get_or functions f no_rule)) e (numbered f h))))
 
@@ -351,4 +350,4 @@ module _ (L : Edition) (domains : List ℕ) (labels : List (List ℕ)) (function
 pub rules_takes : (L : Edition) → Takes rules_words (FormOf L) (read_rules L)
 rules_takes L R rest h =
     subst (λ R. Form R → read_rules L (rules_words R ++ rest) ≡ taken R rest) (sym (λ i. record { edition = h.1 i; domains = R.domains; labels = R.labels; functions = R.functions; processes = R.processes }))
-    (λ form. sections_take L R.domains R.labels R.functions (form_proper form).constants.0 R.processes form rest) h.0
+    (λ form. sections_take L R.domains R.labels R.functions form.proper.constants.0 R.processes form rest) h.0

@@ -17,7 +17,6 @@ use Rattle.eb3.proofs.Laws.RuleSets.{functions_counted, domain_is}
 use Rattle.eb3.proofs.Laws.MainRunning.{small_domains}
 use Rattle.eb3.proofs.Laws.Spelling.{Small, small_append, number_small, mask_small, data_small, cond_small}
 use Rattle.eb3.specs.Generic.AllLists.{All, at_all}
-use Rattle.eb3.proofs.Laws.Editions.{form_proper}
 
 -- The words of a list of small spellings are small, also with its length before them.
 module _ {A : Type 0} (spell : A → List ℕ) where
@@ -31,7 +30,7 @@ module _ {A : Type 0} (spell : A → List ℕ) where
 module _ (R : RuleSet) (form : Form R) where
   -- A constant fits its words.
   constant_small : (n : ℕ) → n ≤ R.edition.top → Small (number_words R.edition.width n)
-  constant_small n h = number_small R.edition.width n (omega (arith, (form_proper form).constants.1))
+  constant_small n h = number_small R.edition.width n (omega (arith, form.proper.constants.1))
 
   defined_small : (ds : List ℕ) → DomainsDefined R ds → All (λ d. Small (one_word d)) ds
   defined_small [] h = tt
@@ -43,7 +42,7 @@ module _ (R : RuleSet) (form : Form R) where
   -- ── functions ──
 
   arity_small : (f : ℕ) → f < length R.functions → arities (attributes R) f ≤ 2
-  arity_small f h = omega (arith, ap length (domain_is R f h), length-map (function_rule R f).parameters (domain_size R), (form.function_forms f h).parameter_count, (form_proper form).parameters.1)
+  arity_small f h = omega (arith, ap length (domain_is R f h), length-map (function_rule R f).parameters (domain_size R), (form.function_forms f h).parameter_count, form.proper.parameters.1)
 
   function_small : (f : ℕ) → f < length R.functions → Small (function_words R.edition.width (function_rule R f))
   unfolding function_words
@@ -77,7 +76,7 @@ module _ (R : RuleSet) (form : Form R) where
 
   counts_small : Small (counts_words R.edition (map parameter_count R.functions))
   counts_small = picked Small R.edition.counts_written (map parameter_count R.functions) []
-      (λ t. counted_functions R.functions (at_all (λ F. parameter_count F ≤ 2) no_rule R.functions (λ f h. omega (arith, (form.function_forms f h).parameter_count, (form_proper form).parameters.1)))) tt
+      (λ t. counted_functions R.functions (at_all (λ F. parameter_count F ≤ 2) no_rule R.functions (λ f h. omega (arith, (form.function_forms f h).parameter_count, form.proper.parameters.1)))) tt
 
   -- ── processes ──
 

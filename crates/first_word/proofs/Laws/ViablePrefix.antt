@@ -19,7 +19,6 @@ use Rattle.eb3.specs.Generic.AllLists.{all_at}
 use Rattle.first_word.specs.FirstOffendingWord.{Declared, nothing_declared, Owner, of_label, of_process, Due, domain_count, domain_size, label_count, function_count, process_count, parameter_count, parameter, function_parameter_count, function_parameter, data_code, condition_code, constant, variable_number, function_number, term_code, label_number, process_number, choice_domain, parallel_domain, mask_word, argument_code, argument_constant, argument_variable, running_code, running_label, element_code, element_constant, passed, by_form, tests, Next, follow, declare, parameters, declare_functions, parameter_counts, functions_from, mask, padding, padding_place, verdict, place, first_offending, first_place, with_last}
 use Rattle.eb3.specs.RuleSets.{RuleSet}
 use Rattle.eb3.specs.RuleSpelling.{rules_words}
-use Rattle.eb3.specs.WellFormedness.{Form}
 use Rattle.eb3.specs.Reading.{Read, refused, taken}
 use Rattle.eb3.specs.RuleReading.{read_rules}
 use Rattle.eb3.specs.Admission.{ended}
@@ -30,14 +29,14 @@ use Rattle.first_word.proofs.Laws.FirstOffendingWord.{Offends}
 use Rattle.first_word.proofs.Laws.StreamRefusals.{refusal, first_offending_word}
 use Rattle.first_word.proofs.Laws.PassedWords.{judge_passed, facts, Element, Elements, Sane, Fine, Tail, Dues, Opened, Grows, tail_grows, dues_of_tail, tail_append, dues_append, all_append, tail_replicate, tail_arguments, Stepped, Started, has_domain, tail_mask, declared_stepped, step, functions_stepped, tail_functions}
 
--- An accepted stream spells a rule set of the required form.
-pub spelled : (L : Edition) → Defined L → (words : List ℕ) → first_offending L words ≡ none → (R : RuleSet) × (rest : List ℕ) × (words ≡ rules_words R ++ rest) × Form R
+-- An accepted stream spells a rule set of the required form, and of its edition.
+pub spelled : (L : Edition) → Defined L → (words : List ℕ) → first_offending L words ≡ none → (R : RuleSet) × (rest : List ℕ) × (words ≡ rules_words R ++ rest) × FormOf L R
 unfolding ended
-spelled L defined words e = go (read_rules L words) (rules_sound L defined words) (first_offending_word L (edition_proper L defined).parameters.0 words ∙ e)
+spelled L defined words e = go (read_rules L words) (rules_sound L (edition_proper L defined) words) (first_offending_word L (edition_proper L defined).parameters.0 words ∙ e)
   where
-    go : (r : Read RuleSet) → Sound rules_words (FormOf L) words r → refusal (ended r) ≡ none → (R : RuleSet) × (rest : List ℕ) × (words ≡ rules_words R ++ rest) × Form R
+    go : (r : Read RuleSet) → Sound rules_words (FormOf L) words r → refusal (ended r) ≡ none → (R : RuleSet) × (rest : List ℕ) × (words ≡ rules_words R ++ rest) × FormOf L R
     go (refused k) h e = absurd (subst Offends e tt)
-    go (taken R rest) h e = (R, rest, h.0, h.1.0)
+    go (taken R rest) h e = (R, rest, h.0, h.1)
 
 module _ (L : Edition) (one : L.width ≡ 1) where
   -- ── what is due can be met ──

@@ -7,9 +7,10 @@ use Rattle.eb3.specs.Refusal
 use Rattle.eb3.specs.Generic.Booleans.{T_and, T_fst, T_snd}
 use Rattle.eb3.specs.Cells.{total_cells}
 use Rattle.eb3.specs.Editions.{Edition, Defined}
+use Rattle.eb3.proofs.Laws.Editions.{edition_proper, only_edition_1}
 use Rattle.eb3.specs.RuleSets.{RuleSet, attributes}
 use Rattle.eb3.specs.Measures.{sat, measure_main}
-use Rattle.eb3.proofs.Laws.CellCounts.{cells_below}
+use Rattle.eb3.proofs.Laws.CellCounts.{one_parameter_each, cells_below}
 use Rattle.eb3.specs.RuleSpelling.{rules_words}
 use Rattle.eb3.specs.Reading.{Read, refused, taken, pick}
 use Rattle.eb3.proofs.Laws.Reading.{Sound, pick_true, pick_false}
@@ -43,11 +44,12 @@ pub record Whole (t : List ℕ) (r : Read RuleSet) (left cells : ℕ) (w : Weigh
   pub few : cells ≤ 1024
   pub weighs : measure w ≡ measure_main (sat cap) R
 
-whole_by : (L : Edition) (t : List ℕ) (r : Read RuleSet) → Sound rules_words (FormOf L) t r → (left cells : ℕ) (w : Weight) → found_rules left cells w ≡ rules_weighed r → Whole t r left cells w
+whole_by : (L : Edition) → Defined L → (t : List ℕ) (r : Read RuleSet) → Sound rules_words (FormOf L) t r → (left cells : ℕ) (w : Weight) → found_rules left cells w ≡ rules_weighed r → Whole t r left cells w
 unfolding rules_weighed
-whole_by L t (refused k) s left cells w e = absurd (subst IsFound e tt)
-whole_by L t (taken R rest) s left cells w e =
+whole_by L defined t (refused k) s left cells w e = absurd (subst IsFound e tt)
+whole_by L defined t (taken R rest) s left cells w e =
     let l : left ≡ length rest = ap (found_in (λ (a : Rules). a.left) 0) e in
+    let one : R.edition.function_parameters ≡ 1 = ap (λ (M : Edition). M.function_parameters) (s.1.1 ∙ only_edition_1 L defined) in
     let c : cells ≡ total_cells (attributes R) = ap (found_in (λ (a : Rules). a.cells) 0) e in
     record {
       R = R;
@@ -56,14 +58,14 @@ whole_by L t (taken R rest) s left cells w e =
       left_is = l;
       end = behind_part (rules_words R) rest t left s.0 l;
       cells_are = c;
-      few = omega (arith, c, cells_below R s.1.0);
+      few = omega (arith, c, cells_below R s.1.0 (one_parameter_each R s.1.0 one));
       weighs = ap (λ x. measure (found_in (λ (a : Rules). a.weight) w x)) e;
     }
 
 -- In an edition that is defined.
 module _ (L : Edition) (defined : Defined L) (t : List ℕ) where
   pub rules_found : (left cells : ℕ) (w : Weight) → found_rules left cells w ≡ rules_weighed (read_rules L t) → Whole t (read_rules L t) left cells w
-  rules_found left cells w e = whole_by L t (read_rules L t) (rules_sound L defined t) left cells w e
+  rules_found left cells w e = whole_by L defined t (read_rules L t) (rules_sound L (edition_proper L defined) t) left cells w e
 
   pub rules_refused : (k : Refusal) → Err k ≡ rules_weighed (read_rules L t) → (j : ℕ) × (whole_of (read_rules L t) ≡ Answer.refused j) × (k ≡ refusal j)
   unfolding rules_weighed
