@@ -6,14 +6,16 @@ use Prim.Native.Nat.{ℕ, zero, suc, ◌+◌, ◌*◌, ◌%◌, ◌≤◌, ◌<�
 use native.Mathlib.Omega.{arith}
 use Rattle.eb3.specs.Expressions.{Data, Undefined}
 use Rattle.eb3.specs.Attributes.{Attributes, domain, number_of_functions}
-use Rattle.eb3.specs.Scopes.{start_scope, label_scope, guard_scope}
+use Rattle.eb3.specs.Scopes.{arities, start_scope, label_scope, guard_scope}
 use Rattle.eb3.specs.Cells.{cell_count, offset, total_cells}
-use Rattle.eb3.proofs.Laws.CellCounts.{one_parameter_count, one_arity, cells_below as cells_at_most}
+use Rattle.eb3.proofs.Laws.CellCounts.{cells_below as cells_at_most}
 use Rattle.eb3.specs.RuleSets.{Function, RuleSet, domain_size, sizes_of, no_rule, function_rule, attributes}
 use Rattle.eb3.proofs.Laws.RuleSets.{functions_counted, domain_is}
 use Rattle.eb3.specs.Spelling.{data_words}
 use Rattle.eb3.specs.WellFormedness.{DomainsDefined, Form}
-use Rattle.eb3.proofs.Laws.Editions.{width_is_1, top_is_65534}
+use Rattle.tables.specs.Laws.Editions.{width_in_tables, top_in_tables}
+use Rattle.declarations.specs.Declaring.{Declares}
+use Rattle.declarations.specs.Laws.Declaring.{parameter_is_one, arity_is_one}
 use Rattle.declarations.specs.Directory.{Stands, Standing, FunctionRow, FunctionRows, row_width, Directory, first_cell_in}
 use Rattle.declarations.specs.Entering.{cells_of, all_cells}
 use Rattle.expressions.specs.Stores.{stored, row_place, begin_place}
@@ -56,31 +58,9 @@ cells_next domains [] f h = absurd (let z : ⊥ = omega arith in z)
 cells_next domains (F ∷ Fs) zero h = omega (arith, no_cells domains Fs)
 cells_next domains (F ∷ Fs) (suc f) h = omega (arith, cells_next domains Fs f (omega arith))
 
--- ── domains ──
-
 module _ (R : RuleSet) (form : Form R) where
   abbrev A : Attributes
   A = attributes R
-
-  one_domain : (ds : List ℕ) → (1 ≤ length ds) × (length ds ≤ 1) → DomainsDefined R ds → OneDomain (sizes_of R ds)
-  one_domain [] h k = absurd (let z : ⊥ = omega (arith, h.0) in z)
-  one_domain (d ∷ []) h k = record {
-    one_parameter = ap (λ n. n ∷ []) (sym (one_count (domain_size R d)));
-    some_cell = subst (λ n. 1 ≤ n) (sym (one_count (domain_size R d))) (form.domain_sizes d k.0).0;
-    few_cells = subst (λ n. n ≤ 64) (sym (one_count (domain_size R d))) (form.domain_sizes d k.0).1;
-  }
-  one_domain (d ∷ e ∷ ds) h k = absurd (let z : ⊥ = omega (arith, h.1) in z)
-
-  pub domain_of : (f : ℕ) → f < length R.functions → OneDomain (domain A f)
-  domain_of f h = subst OneDomain (sym (domain_is R f h)) (one_domain (function_rule R f).parameters (one_parameter_count R form f h) (form.function_forms f h).parameters)
-
-  -- ── cells ──
-
-  pub few : total_cells A ≤ 1024
-  few = cells_at_most R form
-
-  pub offset_few : (f : ℕ) → f < length R.functions → offset A f ≤ 1024
-  offset_few f h = omega (arith, few, offset_mono A f (number_of_functions A) (omega (arith, functions_counted R)))
 
   pub cells_are : (f : ℕ) → f < length R.functions → cells_of R.domains (function_rule R f) ≡ cell_count (domain A f)
   unfolding cells_of
@@ -92,16 +72,41 @@ module _ (R : RuleSet) (form : Form R) where
   offset_sum zero h = sym (no_cells R.domains R.functions)
   offset_sum (suc f) h = omega (arith, offset_sum f (omega arith), cells_are f h, cells_next R.domains R.functions f h)
 
-  -- ── scopes ──
+  one_domain : (ds : List ℕ) → length ds ≡ 1 → DomainsDefined R ds → OneDomain (sizes_of R ds)
+  one_domain [] h k = absurd (let z : ⊥ = omega arith in z)
+  one_domain (d ∷ []) h k = record {
+    one_parameter = ap (λ n. n ∷ []) (sym (one_count (domain_size R d)));
+    some_cell = subst (λ n. 1 ≤ n) (sym (one_count (domain_size R d))) (form.domain_sizes d k.0).0;
+    few_cells = subst (λ n. n ≤ 64) (sym (one_count (domain_size R d))) (form.domain_sizes d k.0).1;
+  }
+  one_domain (d ∷ e ∷ ds) h k = absurd (let z : ⊥ = omega arith in z)
 
-  pub plain_start : (f : ℕ) → Plain (start_scope A f)
-  plain_start f = record { largest = top_is_65534 form; one_word = width_is_1 form; one_parameter = fun_ext (one_arity R form) }
+  -- ── what the tables say of its edition and of its functions' parameters ──
 
-  pub plain_label : (f k : ℕ) → Plain (label_scope A f k)
-  plain_label f k = record { largest = top_is_65534 form; one_word = width_is_1 form; one_parameter = fun_ext (one_arity R form) }
+  module _ (T : List ℕ) (says : Declares T R) where
+    one_each : (f : ℕ) → f < length R.functions → length (function_rule R f).parameters ≡ 1
+    one_each = parameter_is_one R says.tables.one_parameter
 
-  pub plain_guard : (k : ℕ) → Plain (guard_scope A k)
-  plain_guard k = record { largest = top_is_65534 form; one_word = width_is_1 form; one_parameter = fun_ext (one_arity R form) }
+    one_arity : (f : ℕ) → arities A f ≡ 1
+    one_arity = arity_is_one R says.tables.one_parameter
+
+    pub domain_of : (f : ℕ) → f < length R.functions → OneDomain (domain A f)
+    domain_of f h = subst OneDomain (sym (domain_is R f h)) (one_domain (function_rule R f).parameters (one_each f h) (form.function_forms f h).parameters)
+
+    pub few : total_cells A ≤ 1024
+    few = cells_at_most R form one_each
+
+    pub offset_few : (f : ℕ) → f < length R.functions → offset A f ≤ 1024
+    offset_few f h = omega (arith, few, offset_mono A f (number_of_functions A) (omega (arith, functions_counted R)))
+
+    pub plain_start : (f : ℕ) → Plain (start_scope A f)
+    plain_start f = record { largest = top_in_tables T R says.same_edition; one_word = width_in_tables T R says.same_edition; one_parameter = fun_ext one_arity }
+
+    pub plain_label : (f k : ℕ) → Plain (label_scope A f k)
+    plain_label f k = record { largest = top_in_tables T R says.same_edition; one_word = width_in_tables T R says.same_edition; one_parameter = fun_ext one_arity }
+
+    pub plain_guard : (k : ℕ) → Plain (guard_scope A k)
+    plain_guard k = record { largest = top_in_tables T R says.same_edition; one_word = width_in_tables T R says.same_edition; one_parameter = fun_ext one_arity }
 
   -- ── rows ──
 
@@ -122,19 +127,19 @@ module _ (R : RuleSet) (form : Form R) where
     directory_size f h = (directory_row f h).cells ∙ cells_are f h
 
     pub directory_begin : (f : ℕ) → f < length R.functions → get_or D (w * f + first_cell_in) 0 ≡ offset A f
-    directory_begin f h = (directory_row f h).begins ∙ (let z : offset A f % 4294967296 ≡ offset A f = omega (arith, offset_few f h) in z)
+    directory_begin f h = (directory_row f h).begins ∙ (let z : offset A f % 4294967296 ≡ offset A f = omega (arith, offset_few T d.declares f h) in z)
 
     module _ (M M' : List ℕ) (p : Prepared D M M' w (length R.functions) (total_cells A)) where
       size_laid : (f : ℕ) → f < length R.functions → stored M' (row_place f) ≡ cell_count (domain A f)
-      size_laid f h = omega (arith, p.sizes f h, directory_size f h, (domain_of f h).few_cells)
+      size_laid f h = omega (arith, p.sizes f h, directory_size f h, (domain_of T d.declares f h).few_cells)
 
       begin_laid : (f : ℕ) → f < length R.functions → stored M' (begin_place f) ≡ offset A f
-      begin_laid f h = omega (arith, p.begins f h, directory_begin f h, offset_few f h)
+      begin_laid f h = omega (arith, p.begins f h, directory_begin f h, offset_few T d.declares f h)
 
       pub rows_laid : Laid A M'
       rows_laid f h =
           let l : f < length R.functions = omega (arith, functions_counted R) in
-          record { one_parameter = (domain_of f l).one_parameter ∙ ap (λ n. n ∷ []) (sym (size_laid f l)); begins = begin_laid f l }
+          record { one_parameter = (domain_of T d.declares f l).one_parameter ∙ ap (λ n. n ∷ []) (sym (size_laid f l)); begins = begin_laid f l }
 
       pub rows_small : (f : ℕ) → f < length R.functions → stored M' (row_place f) ≤ 64
-      rows_small f h = subst (λ n. n ≤ 64) (sym (size_laid f h)) (domain_of f h).few_cells
+      rows_small f h = subst (λ n. n ≤ 64) (sym (size_laid f h)) (domain_of T d.declares f h).few_cells

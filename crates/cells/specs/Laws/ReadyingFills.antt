@@ -14,13 +14,13 @@ use Rattle.eb3.specs.Attributes.{Attributes, AttributeFunction}
 use Rattle.eb3.specs.Scopes.{DataInScope, start_scope, label_scope}
 use Rattle.eb3.specs.Cells.{total_cells, cell_at}
 use Rattle.eb3.specs.Values.{ValuesAtMost}
-use Rattle.eb3.proofs.Laws.CellCounts.{one_arity}
 use Rattle.eb3.specs.RuleSets.{RuleSet, label, function_rule, attributes}
 use Rattle.eb3.proofs.Laws.RuleSets.{get_d_map, functions_counted, function_is}
 use Rattle.eb3.proofs.Laws.Elements.{within_small, arguments_counted, arguments_two}
 use Rattle.eb3.specs.Spelling.{data_words}
 use Rattle.eb3.specs.WellFormedness.{WellFormedAction, Form}
-use Rattle.eb3.proofs.Laws.Editions.{top_is_65534}
+use Rattle.tables.specs.Laws.Editions.{top_in_tables}
+use Rattle.declarations.specs.Laws.Declaring.{arity_is_one}
 use Rattle.declarations.specs.Directory.{Stands, row_width, Directory, at_start_in, at_label_in}
 use Rattle.expressions.specs.Stores.{stored, now_place, before_place, variable_in, row_place}
 use Rattle.cells.specs.Layout.{Laid, Holds}
@@ -53,10 +53,10 @@ module _ (R : RuleSet) (form : Form R) where
     start_ready : (M : List ℕ) (f : ℕ) → f < length R.functions → Ready A none no_reading t D M w at_start_in f
     start_ready M f h = record {
       scope = start_scope A f;
-      plain = plain_start R form f;
+      plain = plain_start R form T d.declares f;
       names_below = omega arith;
       names_known = omega arith;
-      variables_few = omega (arith, one_arity R form f);
+      variables_few = omega (arith, arity_is_one R d.declares.tables.one_parameter f);
       in_scope = subst (λ (F : AttributeFunction). DataInScope F.at_start (start_scope A f)) (sym (function_is R f h)) (form.function_forms f h).at_start;
       stands = subst (λ (F : AttributeFunction). Stands t (get_or D (w * f + at_start_in) 0) (data_words R.edition.width F.at_start)) (sym (function_is R f h)) (directory_row R form t T D d f h).expressions.0;
       before_reads = λ g l vs. absurd (let z : ⊥ = omega arith in z);
@@ -66,7 +66,7 @@ module _ (R : RuleSet) (form : Form R) where
         → Filling A none no_reading t D M' w at_start_in (length R.functions)
     start_filling M M' p room = record {
       functions = sym (functions_counted R);
-      largest = top_is_65534 form;
+      largest = top_in_tables T R d.declares.same_edition;
       laid = rows_laid R form t T D d M M' p;
       small = rows_small R form t T D d M M' p;
       room = room;
@@ -89,10 +89,10 @@ module _ (R : RuleSet) (form : Form R) where
       renew_ready : (f : ℕ) → f < length R.functions → Ready A (some a) (cell_at A cells) t D M w (at_label_in a.label) f
       renew_ready f h = record {
         scope = label_scope A f (length (label R a.label));
-        plain = plain_label R form f (length (label R a.label));
+        plain = plain_label R form T d.declares f (length (label R a.label));
         names_below = omega arith;
         names_known = omega arith;
-        variables_few = omega (arith, one_arity R form f, arguments_counted R form a good);
+        variables_few = omega (arith, arity_is_one R d.declares.tables.one_parameter f, arguments_counted R form a good);
         in_scope = subst (λ (F : AttributeFunction). DataInScope (get_or F.at_label a.label Undefined) (label_scope A f (length (label R a.label)))) (sym (function_is R f h)) ((form.function_forms f h).at_label a.label good.0);
         stands = subst (λ (F : AttributeFunction). Stands t (get_or D (w * f + at_label_in a.label) 0) (data_words R.edition.width (get_or F.at_label a.label Undefined))) (sym (function_is R f h)) (label_stands f h);
         before_reads = λ g l vs. reads_cells A M laid cells all at_most (before_place M) old g l vs;
@@ -103,7 +103,7 @@ module _ (R : RuleSet) (form : Form R) where
           → Filling A (some a) (cell_at A cells) t D M w (at_label_in a.label) (length R.functions)
       renew_filling small room apart given = record {
         functions = sym (functions_counted R);
-        largest = top_is_65534 form;
+        largest = top_in_tables T R d.declares.same_edition;
         laid = laid;
         small = small;
         room = room;
