@@ -36,8 +36,8 @@ pub counted_loaded : (rules : Admitted) (s B M : List ℕ) (x y : ℕ)
 counted_loaded rules s B M x y loaded counts ey R E by enough =
     let d = by.described in
     let st : Stored R (cells_given R B) M = loaded R _ _ (described_by_ruled rules R E s by) enough in
-    let a : x ≡ length (moves (holding M) E) = counts (guard_scope (attributes R) 0) E (whole R d.form E d.term.running s d.term.words_are) in
-    let b : x ≡ length (listed R E B) = a ∙ ap length (moves_judged R d.form E d.term.running.form (cells_given R B) M st) in
+    let a : x ≡ length (moves (holding M) E) = counts (guard_scope (attributes R) 0) E (whole R d.form rules.tables.now d.directory.declares E d.term.running s d.term.words_are) in
+    let b : x ≡ length (listed R E B) = a ∙ ap length (moves_judged R d.form rules.tables.now d.directory.declares E d.term.running.form (cells_given R B) M st) in
     omega (arith, b, ey, moves_below_breadth (holding M) E, a, d.term.running.breadth_limit)
 
 -- From the words of a term.

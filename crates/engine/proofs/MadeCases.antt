@@ -29,7 +29,7 @@ module _ {rules T D : List ℕ} {l : Limits} (k : Known rules T D l) where
   pub known_few : (l.cells ≤ 1024) × (label_count T ≤ 64) × (function_count T ≤ 16)
   known_few =
       let b = tables_few k.rule_set k.well.form (drop 2 (stream rules)) T D k.directory in
-      (omega (arith, known_cells, few k.rule_set k.well.form), b.0, b.1)
+      (omega (arith, known_cells, few k.rule_set k.well.form T k.directory.declares), b.0, b.1)
 
   pub known_as : {made : Admitted} → made.functions.words.now ≡ drop 2 (stream rules) → made.tables.now ≡ T → made.functions.directory.now ≡ D → made.functions.cells ≡ l.cells
       → AdmittedAs made k.rule_set

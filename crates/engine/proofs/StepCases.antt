@@ -97,7 +97,7 @@ module _ (s M : List ℕ) (wanted : Wanted) where
 -- What a store that holds the cells says of a described term.
 module _ (R : RuleSet) (E : Term) (cells : List Value) (t T D s M : List ℕ) (d : Described R E t T D s) (stored : Stored R cells M) where
   entry_judged : (k : ℕ) → get_elem? (moves (holding M) E) k ≡ get_elem? (moves ((Sem_M (attributes R)).satisfies cells) E) k
-  entry_judged k = ap (λ xs. get_elem? xs k) (moves_judged R d.form E d.term.running.form cells M stored)
+  entry_judged k = ap (λ xs. get_elem? xs k) (moves_judged R d.form T d.directory.declares E d.term.running.form cells M stored)
 
   short : size R.edition.width E ≤ 8192
   short = omega (arith, size_below_reach R.edition.width E, d.term.running.reach_limit)
@@ -129,7 +129,7 @@ module _ (R : RuleSet) (E : Term) (cells : List Value) (t T D s M : List ℕ) (d
   -- What was taken, at the move that there is or is not.
   taken_so : MoveTaken s M k 8192 B B' r → reach R.edition.width E ≤ word_count B → Took R.edition.width (get_elem? (moves (holding M) E) k) B B' r
   taken_so taken h =
-      taken (guard_scope (attributes R) 0) E (whole R d.form E d.term.running s d.term.words_are) (short R E cells t T D s M d stored)
+      taken (guard_scope (attributes R) 0) E (whole R d.form T d.directory.declares E d.term.running s d.term.words_are) (short R E cells t T D s M d stored)
       (successor_fits R E cells t T D s M d stored B h k (get_elem? (moves (holding M) E) k) refl)
 
   -- By the store's moves the step is as by those of the cells.
@@ -195,8 +195,8 @@ module _ (rules : Admitted) (s M memory : List ℕ) (x : Wanted) (q : Option ℕ
         let d = by.described in
         let cells : List Value = cells_given R memory in
         let st : Stored R cells M = loaded R _ _ (described_by_ruled rules R E s by) enough in
-        let judged : moves (holding M) E ≡ listed R E memory = moves_judged R d.form E d.term.running.form cells M st in
-        (st, subst (λ xs. move_at xs q ≡ choose xs) judged (wanted (guard_scope (attributes R) 0) E choose (whole R d.form E d.term.running s d.term.words_are) asks))
+        let judged : moves (holding M) E ≡ listed R E memory = moves_judged R d.form rules.tables.now d.directory.declares E d.term.running.form cells M st in
+        (st, subst (λ xs. move_at xs q ≡ choose xs) judged (wanted (guard_scope (attributes R) 0) E choose (whole R d.form rules.tables.now d.directory.declares E d.term.running s d.term.words_are) asks))
 
     pub step_loaded : (k : ℕ) (B C B' C' : List ℕ) (r : Result Step Refusal) → q ≡ Some k → SteppedFrom rules s M k B C r B' C' → SteppedAt rules s memory x B C r B' C'
     step_loaded k B C B' C' r eq stepped R E choose by enough h g asks =

@@ -12,8 +12,8 @@ use Rattle.eb3.specs.Spelling.{arguments_words, words}
 use Rattle.eb3.specs.WellFormedness.{Form, Running as RunningTerm}
 use Rattle.eb3.specs.TermReading.{given_term, leaf_of, given_event}
 use Rattle.eb3.proofs.Laws.TermReading.{given_term_exact}
-use Rattle.eb3.proofs.Laws.Editions.{width_is_1}
 use Rattle.tables.specs.Tables.{edition_in, declared}
+use Rattle.tables.specs.Laws.Editions.{width_in_tables}
 use Rattle.declarations.specs.Declaring.{Declares}
 use Rattle.declarations.specs.Laws.Declaring.{declared_alike}
 use Rattle.term_check.specs.declared.Given.{Given}
@@ -22,7 +22,7 @@ use Rattle.term_check.specs.Laws.Alike.{given_term_alike}
 use Rattle.actions.specs.Codes.{action_code, ActionAt}
 use Rattle.actions.specs.Laws.Actions.{action_small}
 use Rattle.events.specs.Events.{event_as}
-use Rattle.events.proofs.Leaves.{positive, event_of, event_is_leaf, internal_first, action_first, other_first}
+use Rattle.events.proofs.Leaves.{event_of, event_is_leaf, internal_first, action_first, other_first}
 
 -- Which answers are those of a running term.
 abbrev Runs : Option Given → Type 0
@@ -30,6 +30,9 @@ Runs (Some g) = Unit
 Runs None = ⊥
 
 module _ (T s : List ℕ) (R : RuleSet) (form : Form R) (d : Declares T R) where
+  one_word : R.edition.width ≡ 1
+  one_word = width_in_tables T R d.same_edition
+
   -- The tables read a given term as the rule set does.
   at_rules : (g : Option Given) → g ≡ given (edition_in T).width (given_term (declared T) s) → g ≡ given R.edition.width (given_term R s)
   at_rules g e = e ∙ (λ i. given (sym d.same_edition i).width (given_term_alike (declared T) R (declared_alike T R d) s i))
@@ -37,7 +40,7 @@ module _ (T s : List ℕ) (R : RuleSet) (form : Form R) (d : Declares T R) where
   -- No term is no event.
   none_given : None ≡ given R.edition.width (given_term R s) → given_event R s ≡ none
   unfolding given event_of
-  none_given e = event_is_leaf R form s ∙ go (given_term R s) e
+  none_given e = event_is_leaf R form one_word s ∙ go (given_term R s) e
     where
       go : (o : Optional Term) → None ≡ given R.edition.width o → event_of o ≡ none
       go none f = refl
@@ -56,8 +59,8 @@ module _ (T s : List ℕ) (R : RuleSet) (form : Form R) (d : Declares T R) where
       go : (o : Optional Term) → given_term R s ≡ o → (E : Term) × Spelt E
       go none f = absurd (subst Runs (e ∙ ap (given R.edition.width) f) tt)
       go (some E) f =
-          let z : (s ≡ words R.edition.width E) × RunningTerm R E = (given_term_exact R (positive R form s) s E).0 f in
-          (E, record { spelled = z.0; running = z.1; event = event_is_leaf R form s ∙ ap event_of f })
+          let z : (s ≡ words R.edition.width E) × RunningTerm R E = (given_term_exact R form.proper.constants.0 s E).0 f in
+          (E, record { spelled = z.0; running = z.1; event = event_is_leaf R form one_word s ∙ ap event_of f })
 
   module _ (E : Term) (t : Spelt E) where
     internal_event : get_or s 0 0 ≡ 20 → Some 0 ≡ event_as (given_event R s)
@@ -72,7 +75,7 @@ module _ (T s : List ℕ) (R : RuleSet) (form : Form R) (d : Declares T R) where
   unfolding words
   action_there a t = record {
     small = action_small R form (visible a) t.running.form;
-    spelled = ap (drop 1) t.spelled ∙ ap (λ u. a.label ∷ u) (ap (λ w. arguments_words w a.arguments) (width_is_1 form) ∙ sym (append-nil (arguments_words 1 a.arguments)));
+    spelled = ap (drop 1) t.spelled ∙ ap (λ u. a.label ∷ u) (ap (λ w. arguments_words w a.arguments) one_word ∙ sym (append-nil (arguments_words 1 a.arguments)));
     closed = λ z. let w : ⊥ = omega arith in w;
   }
 

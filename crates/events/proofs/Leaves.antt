@@ -1,4 +1,5 @@
--- An event is a given term that is a leaf (document 01, refusals 10 and 11): the limits refuse no leaf. And the first word says whether a term is a leaf.
+-- An event is a given term that is a leaf (document 01, refusals 10 and 11): the limits refuse no leaf where a constant has one word. And the
+-- first word says whether a term is a leaf.
 use mathlib.Core.Path.{◌≡◌, refl, sym, ap, ◌∙◌}
 use mathlib.Core.Bool.{Bool, true, false, ◌&&◌}
 use mathlib.Core.List.{List, [], ◌∷◌}
@@ -15,7 +16,6 @@ use Rattle.eb3.specs.WellFormedness.{Form}
 use Rattle.eb3.specs.Reading.{Read, refused, taken, pick}
 use Rattle.eb3.specs.TermReading.{read_term, term_alone, given_term, term_of_action, leaf_of, leaf_alone, given_event}
 use Rattle.eb3.proofs.Laws.TermReading.{given_term_exact, given_event_exact}
-use Rattle.eb3.proofs.Laws.Editions.{width_is_1}
 use Rattle.events.proofs.Small.{leaf_running}
 
 -- ── events and given terms ──
@@ -33,9 +33,9 @@ alone_leaf w (refused k) E e = absurd (none-ne-some E e)
 alone_leaf w (taken F []) E e = ap leaf_of (picked (leb (reach w F) 8192 && leb (breadth F) 65535) E F e)
 alone_leaf w (taken F (x ∷ t)) E e = absurd (none-ne-some E e)
 
-module _ (R : RuleSet) (form : Form R) (s : List ℕ) where
-  pub positive : 1 ≤ R.edition.width
-  positive = omega (arith, width_is_1 form)
+module _ (R : RuleSet) (form : Form R) (one : R.edition.width ≡ 1) (s : List ℕ) where
+  positive : 1 ≤ R.edition.width
+  positive = form.proper.constants.0
 
   leaf_read : (E : Term) → given_term R s ≡ some E → given_event R s ≡ leaf_of E
   unfolding given_term given_event
@@ -49,7 +49,7 @@ module _ (R : RuleSet) (form : Form R) (s : List ℕ) where
       go none none e f = refl
       go none (some ρ) e f =
           let x = (given_event_exact R positive s ρ).0 f in
-          absurd (none-ne-some (term_of_action ρ) (sym e ∙ (given_term_exact R positive s (term_of_action ρ)).1 (x.0, leaf_running R form ρ x.1)))
+          absurd (none-ne-some (term_of_action ρ) (sym e ∙ (given_term_exact R positive s (term_of_action ρ)).1 (x.0, leaf_running R form one ρ x.1)))
       go (some E) p e f = sym f ∙ leaf_read E e
 
 -- ── the first word ──

@@ -25,7 +25,7 @@ use Rattle.eb3.proofs.Laws.TermReading.{given_event_exact}
 use Rattle.eb3.specs.Answers.{refused}
 use Rattle.eb3.specs.Operations.{even, event_in}
 use Rattle.eb3.specs.Answers.{or_refused}
-use Rattle.eb3.proofs.Laws.Editions.{width_is_1}
+use Rattle.tables.specs.Laws.Editions.{width_in_tables}
 use Rattle.declarations.specs.Declaring.{Declares}
 use Rattle.cells.specs.Preparing.{Loaded}
 use Rattle.cells.specs.Laws.Memory.{loaded_words}
@@ -35,16 +35,16 @@ use Rattle.given.specs.declared.asking.Wanted.{Wanted}
 use Rattle.given.specs.declared.asking.Wanted.TheVariants.{Action as Action_of}
 use Rattle.given.specs.Asking.{event_asked}
 
--- ── an event is short ──
+-- ── an event is short where a constant has one word ──
 
-module _ (R : RuleSet) (form : Form R) where
+module _ (R : RuleSet) (form : Form R) (one : R.edition.width ≡ 1) where
   -- A code, a label, and two arguments at most.
   leaf_short : (ρ : Action) → WellFormedAction R ρ → length (words R.edition.width (term_of_action ρ)) ≤ 6
   unfolding size words
   leaf_short internal h = omega arith
   leaf_short (visible a) h =
       let n : ℕ = length a.arguments in
-      let e : arguments_size R.edition.width n ≡ 2 * n = ap (λ w. arguments_size w n) (width_is_1 form) ∙ arguments_double n in
+      let e : arguments_size R.edition.width n ≡ 2 * n = ap (λ w. arguments_size w n) one ∙ arguments_double n in
       omega (arith, words_length R (Perform a) h, e, arguments_two R form a h)
 
   long_stranger : (s : List ℕ) → 6 < length s → given_event R s ≡ none
@@ -53,7 +53,7 @@ module _ (R : RuleSet) (form : Form R) where
       go : (o : Optional Action) → given_event R s ≡ o → given_event R s ≡ none
       go none e = e
       go (some ρ) e =
-          let p = (given_event_exact R (omega (arith, width_is_1 form)) s ρ).0 e in
+          let p = (given_event_exact R form.proper.constants.0 s ρ).0 e in
           absurd (let z : ⊥ = omega (arith, ap length p.0, leaf_short ρ p.1) in z)
 
 -- ── what the reading says ──
@@ -103,7 +103,7 @@ module _ (T event : List ℕ) where
   asked_odd h R form d = odd_stranger event R h
 
   pub asked_long : 6 < word_count event → EventAsked None
-  asked_long h R form d = none_asked event R (long_stranger R form (words_in event) (omega (arith, words_counted event)))
+  asked_long h R form d = none_asked event R (long_stranger R form (width_in_tables T R d.same_edition) (words_in event) (omega (arith, words_counted event)))
 
   -- The words loaded into an array with room for them, and what was said of its first part.
   module _ (M M' s : List ℕ) (room : word_count event ≤ length M) (l : Loaded event M M' 0 (word_count event)) (es : s ≡ take (word_count event) M') (g : Option ℕ) (told : (R : RuleSet) → Form R → Declares T R → g ≡ event_as (given_event R s)) where

@@ -26,7 +26,6 @@ use Rattle.eb3.specs.Answers.{Answer, refused, answered}
 use Rattle.eb3.proofs.Laws.Answers.{not_both, answered_injective}
 use Rattle.eb3.specs.Operations.{term_in}
 use Rattle.eb3.specs.Answers.{or_refused}
-use Rattle.eb3.proofs.Laws.Editions.{width_is_1}
 use Rattle.tables.specs.Tables.{edition_in, declared}
 use Rattle.declarations.specs.Declaring.{Declares}
 use Rattle.declarations.specs.Laws.Declaring.{declared_alike}
@@ -85,7 +84,7 @@ module _ (R : RuleSet) (form : Form R) (c : ℕ) (term ws : List ℕ) where
 
     read_so : (E : Term) → given_term R (words_in term) ≡ some E → (words_in term ≡ words R.edition.width E) × Running R E
     read_so E e =
-        let p = (given_term_exact R (omega (arith, width_is_1 form)) (words_in term) E).0 e in
+        let p = (given_term_exact R form.proper.constants.0 (words_in term) E).0 e in
         (p.0, p.1)
 
     pub checked_long : 8192 < word_count term → TermChecked R c term ws (Err Why.Term)
@@ -94,7 +93,7 @@ module _ (R : RuleSet) (form : Form R) (c : ℕ) (term ws : List ℕ) where
         go : (o : Optional Term) → given_term R (words_in term) ≡ o → given_term R (words_in term) ≡ none
         go none e = e
         go (some E) e =
-            let p = (given_term_exact R (omega (arith, width_is_1 form)) (words_in term) E).0 e in
+            let p = (given_term_exact R form.proper.constants.0 (words_in term) E).0 e in
             absurd (let z : ⊥ = omega (arith, words_counted term, ap length p.0, words_length R E p.1.form, size_below_reach R.edition.width E, p.1.reach_limit) in z)
 
     module _ (T : List ℕ) (d : Declares T R) (s : List ℕ) (same : s ≡ words_in term) (g : Option Weighed) (e : g ≡ given (edition_in T).width (given_term (declared T) s)) where

@@ -20,6 +20,7 @@ use Rattle.eb3.specs.TransitionSystems.{outcomes}
 use Rattle.eb3.specs.Machines.{memory_run}
 use Rattle.eb3.specs.WellFormedness.{Running, Form}
 use Rattle.scan.specs.Laws.Checking.{last_all}
+use Rattle.declarations.specs.Declaring.{Declares}
 use Rattle.expressions.specs.Answering.{answer}
 use Rattle.steps.specs.Laws.Judging.{whole}
 use Rattle.sharing.specs.Shared.{Shared, Ended as Done_there, Part, term_of, shared_words, Unmasked, PartAt, Stands}
@@ -69,11 +70,11 @@ module _ (u : List ℕ) (P : Scope) where
   alone (Guard C E) e p = (Part (length u) (Guard C E), (refl, p), refl, ap (λ x. x ∷ []) (sym (by_word 26 (ap (λ v. get_or v 0 0) e))))
 
 -- Any running term without masks is held in one word over its own words.
-held_alone : (R : RuleSet) → Form R → (E : Term) → Running R E → Unmasked E → (u d : List ℕ) → u ≡ words R.edition.width E → (word : ℕ) → word ≡ whole_word u → take 1 d ≡ word ∷ [] → SharedOver u R E 1 d
-held_alone R form E running unmasked u d e word is_word first =
+held_alone : (R : RuleSet) → Form R → (T : List ℕ) → Declares T R → (E : Term) → Running R E → Unmasked E → (u d : List ℕ) → u ≡ words R.edition.width E → (word : ℕ) → word ≡ whole_word u → take 1 d ≡ word ∷ [] → SharedOver u R E 1 d
+held_alone R form T says E running unmasked u d e word is_word first =
     let P = guard_scope (attributes R) 0 in
     let all = last_all (length u) u (omega arith) in
-    let q = alone u P E e (record { rest = []; within = omega arith; there = (whole R form E running _ (all ∙ e)).there; unmasked = unmasked }) in
+    let q = alone u P E e (record { rest = []; within = omega arith; there = (whole R form T says E running _ (all ∙ e)).there; unmasked = unmasked }) in
     record {
       shared = q.0;
       stands = q.1;
@@ -129,7 +130,7 @@ module _ (course : Course) (u : Bor (List ℕ)) (a : Scratch) {d M term memory b
       let ec = at.ruled.cells_are in
       let e : Ended (SharedOver u.now) R (memory_run (attributes R) (unfold_main R) (numbers_in list)) d₂ M₂ tally × CountedBy by (readers_in list) (outcomes (system (Sem_M (attributes R))) (start R well) (numbers_in list)) by' × WordsOnly out out' =
       runs course.reach (record { words_room = omega (arith, room.words_room); middle_room = room.middle_room; path_room = room.path_room; numbers_room = room.numbers_room }) R T at.ruled (start R well)
-      (record { running = main_there R well; held = held_alone R well.form (unfold_main R) (main_there R well) unmasked u.now d₁ eu word is_word first; stored = at.stored })
+      (record { running = main_there R well; held = held_alone R well.form T at.ruled.directory.declares (unfold_main R) (main_there R well) unmasked u.now d₁ eu word is_word first; stored = at.stored })
       (omega (arith, er)) in
       let last_term : Term = (memory_run (attributes R) (unfold_main R) (numbers_in list)).state.term in
       let spelled : Spelled R last_term size mid₂ =

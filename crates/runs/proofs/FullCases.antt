@@ -66,7 +66,7 @@ module _ (t D : List ℕ) (w functions c n k : ℕ) (ws M out path : List ℕ) (
   fits_in (some x) e = omega (arith, next_fits x e, room.bytes_room)
 
   took : (f out' : List ℕ) (r : Option Taken) → f ≡ take n ws → TakenFrom f M k path out out' r → Took R.edition.width offered out out' r
-  took f out' r front sought = sought _ s.term (whole R ruled.form s.term at.running f (front ∙ at.held.spelled))
+  took f out' r front sought = sought _ s.term (whole R ruled.form T ruled.directory.declares s.term at.running f (front ∙ at.held.spelled))
       (omega (arith, size_below_reach R.edition.width s.term, room.path_room)) (fits_in offered refl)
 
   -- The successor's words are loaded.

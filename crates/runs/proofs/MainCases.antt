@@ -214,7 +214,7 @@ module _ {list t T D : List ℕ} {w functions c reach n : ℕ} {ws ws₁ M spare
   words_bare {f} {u} begun ef shareable yes_ok eu same same_path same_acts same_middle runs R well d ec er room term_room memory_room spare_room =
       let held = main_held begun R well d ec er spare_room room in
       let only = spare_words begun R well d ec er spare_room in
-      let there = (whole R well.form (unfold_main R) (main_there R well) f (ef ∙ held.spelled)).there in
+      let there = (whole R well.form T d.declares (unfold_main R) (main_there R well) f (ef ∙ held.spelled)).there in
       let l : length u ≤ length ws = omega (arith, ap length (eu ∙ held.spelled), main_size R well, er) in
       let q = runs R T (at_start begun R well d ec er term_room memory_room)
       (record { words_room = omega arith; middle_room = omega arith; path_room = omega arith; numbers_room = omega arith })

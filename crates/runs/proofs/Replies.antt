@@ -92,7 +92,7 @@ module _ {H : Holding} (t D : List ℕ) (w functions c n k : ℕ) (ws M : List �
     next_length = omega (arith, spelled_length x.successor next_running.form, move_size R.edition.width (holding M) s.term k x listed)
 
   same_moves : moves ((Sem_M (attributes R)).satisfies s.state) s.term ≡ moves (holding M) s.term
-  same_moves = sym (moves_judged R ruled.form s.term at.running.form s.state M at.stored)
+  same_moves = sym (moves_judged R ruled.form T ruled.directory.declares s.term at.running.form s.state M at.stored)
 
   -- No such move: all stays as it is.
   pub refused_once : offered ≡ none → Once H R s n k ws M None

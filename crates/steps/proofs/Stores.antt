@@ -13,10 +13,10 @@ use Rattle.eb3.specs.Cells.{total_cells, cell_at, initial_cells, renew}
 use Rattle.eb3.specs.Derivations.{state_after}
 use Rattle.eb3.specs.Memory.{cell_room, cells_in}
 use Rattle.eb3.specs.Values.{ValuesAtMost}
-use Rattle.eb3.proofs.Laws.Editions.{top_is_65534}
 use Rattle.eb3.specs.RuleSets.{RuleSet, attributes}
 use Rattle.eb3.proofs.Laws.RuleSets.{functions_counted}
 use Rattle.eb3.specs.WellFormedness.{WellFormedAction}
+use Rattle.tables.specs.Laws.Editions.{top_in_tables}
 use Rattle.declarations.specs.Directory.{row_width, at_start_in, at_label_in}
 use Rattle.expressions.specs.Stores.{stored, now_place, before_place, old_cells_place, row_place}
 use Rattle.actions.specs.Codes.{action_code, Small}
@@ -60,7 +60,7 @@ store_loaded D B M M₁ M₂ w n c bytes l₁ prepared loaded R t T ruled enough
     let p = prepared_for R t T D w n c ruled M M₁ (prepared (omega arith)) in
     let many : total_cells A ≤ cell_room B = omega (arith, e) in
     let put : Loaded B M₁ M₂ now_place (total_cells A) = subst (Loaded B M₁ M₂ now_place) e loaded in
-    let back : cells_in 65534 (total_cells A) B ≡ cells_in R.edition.top (total_cells A) B = ap (λ top. cells_in top (total_cells A) B) (sym (top_is_65534 ruled.form)) in
+    let back : cells_in 65534 (total_cells A) B ≡ cells_in R.edition.top (total_cells A) B = ap (λ top. cells_in top (total_cells A) B) (sym (top_in_tables T R ruled.directory.declares.same_edition)) in
     record {
       laid = laid_kept A M₁ M₂ (few_functions R t T D w n c ruled) (λ i h l. loaded.kept_below i l) (rows_laid R ruled.form t T D ruled.directory M M₁ p);
       holds = subst (Holds M₂ now_place) back (loaded_holds B M₁ M₂ now_place (total_cells A) (words_small B bytes) many (omega (arith, e, l₁)) put);
@@ -84,7 +84,7 @@ store_started t D M M₁ M₂ w n c l₁ l₂ prepared fills R T ruled room =
       laid = laid_kept A M₁ M₂ (few_functions R t T D w n c ruled) (λ i h l. g.kept_below i (omega arith) l) f.laid;
       holds = g.cells;
       counted = initial_counted R ruled.form;
-      at_most = initial_at_most R ruled.form;
+      at_most = initial_at_most R ruled.form T ruled.directory.declares;
       old_place = g.kept_below old_cells_place (omega arith) (omega arith) ∙ p.old_cells;
       room = omega (arith, e, l₁, l₂);
     }
@@ -137,13 +137,13 @@ module _ (R : RuleSet) (t T D : List ℕ) (w n c : ℕ) (ruled : Ruled R t T D w
       let laid : Laid A M₂ = laid_kept A M M₂ (few_functions R t T D w n c ruled) (rows_kept R M M₁ M₂ code cells s kept given) s.laid in
       let there : (i : ℕ) → i < length a.arguments → stored M₂ (suc i) ≡ get_or a.arguments i 0 = λ i h. ap (stored M₂) (let q : suc i ≡ 1 + i = omega arith in q) ∙ given.arguments_there a (action_small R form (visible a) good) e i h in
       let f = renew_filling R form t T D ruled.directory a good M₂ laid cells s.counted s.at_most (old_kept R M M₁ M₂ code cells s kept given)
-      (rows_few R form M₂ laid) (omega (arith, s.room, l₁, l₂)) (omega (arith, place)) there in
+      (rows_few R form T ruled.directory.declares M₂ laid) (omega (arith, s.room, l₁, l₂)) (omega (arith, place)) there in
       let g : Filled A (some a) (cell_at A cells) M₂ M₃ = fills A (some a) (cell_at A cells) (filling_for R t T D w n c ruled (some a) (cell_at A cells) M₂ (at_label_in a.label) f) in
       record {
         laid = laid_kept A M₂ M₃ (few_functions R t T D w n c ruled) (λ i h l. g.kept_below i (omega arith) l) laid;
         holds = g.cells;
         counted = renewed_counted R form cells a;
-        at_most = renewed_at_most R form cells a good s.at_most;
+        at_most = renewed_at_most R form T ruled.directory.declares cells a good s.at_most;
         old_place = g.kept_below old_cells_place (omega arith) (omega arith) ∙ place;
         room = omega (arith, s.room, l₁, l₂, l₃);
       }

@@ -8,11 +8,12 @@ use Rattle.eb3.specs.Expressions.{Data, Undefined, Constant, Variable, Add, Subt
 use Rattle.eb3.specs.Scopes.{Scope, DataInScope, ArgsInScope, CondInScope, guard_scope}
 use Rattle.eb3.specs.RuleSets.{Argument, Process, RuleSet, domain_size, label, no_process, process, attributes}
 use Rattle.eb3.specs.RuleSpelling.{rule_words}
-use Rattle.eb3.specs.WellFormedness.{Form, ArgumentsFit}
-use Rattle.eb3.proofs.Laws.CellCounts.{one_arity}
+use Rattle.eb3.specs.WellFormedness.{ArgumentsFit}
 use Rattle.tables.specs.Layout.{label_place, process_place, process_count, body_at}
 use Rattle.tables.specs.Tables.{row, declared}
 use Rattle.tables.specs.Laws.Tables.{labels_length, label_at, processes_length, process_at}
+use Rattle.declarations.specs.Declaring.{Declares}
+use Rattle.declarations.specs.Laws.Declaring.{arity_is_one}
 use Rattle.declarations.specs.Directory.{Stands, ProcessRows}
 use Rattle.unfold.specs.Unfolded.{Ready}
 use Rattle.unfold.specs.Instantiation.{NoArguments, PlainData, PlainArgs, PlainCond}
@@ -76,8 +77,8 @@ module _ (P : Scope) (one : (f : ℕ) → P.arity f ≡ 1) where
     cond_plain (Not c) h = cond_plain c h
     cond_plain True h = tt
 
-pub guard_plain : (R : RuleSet) → Form R → (n : ℕ) (c : Cond) → CondInScope c (guard_scope (attributes R) n) → PlainCond c
-guard_plain R form n c h = cond_plain (guard_scope (attributes R) n) (one_arity R form) c h
+pub guard_plain : (T : List ℕ) (R : RuleSet) → Declares T R → (n : ℕ) (c : Cond) → CondInScope c (guard_scope (attributes R) n) → PlainCond c
+guard_plain T R d n c h = cond_plain (guard_scope (attributes R) n) (arity_is_one R d.tables.one_parameter) c h
 
 -- ── arguments ──
 

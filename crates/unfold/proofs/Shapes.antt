@@ -7,7 +7,6 @@ use native.Mathlib.Omega.{arith}
 use lib.Dec.{eqb}
 use lib.ListN.{length, take, drop, get_or, length-append, length-map}
 use lib.Seq.{take_at, get_or-drop, drop-drop}
-use Rattle.eb3.proofs.Laws.Editions.{width_is_1}
 use Rattle.eb3.specs.Generic.Lists.{Within, concat_map}
 use Rattle.eb3.specs.Generic.AllLists.{All}
 use Rattle.eb3.specs.Expressions.{Constant, Variable, Cond}
@@ -24,6 +23,7 @@ use Rattle.eb3.specs.WellFormedness.{ArgumentsFit, Allowed}
 use Rattle.scan.specs.Checking.{last_of}
 use Rattle.tables.specs.Layout.{label_place, process_place, body_at}
 use Rattle.tables.specs.Tables.{from, row, declared}
+use Rattle.tables.specs.Laws.Editions.{width_in_tables}
 use Rattle.unfold.specs.Unfolded.{Ready, unfolded_words}
 use Rattle.unfold.specs.Puts.{Exactly}
 use Rattle.unfold.specs.Instantiation.{Expression, value, test, expression_words, instantiate, PlainExpression}
@@ -118,7 +118,7 @@ Shape t T m i σ c ws rest =
 module _ (t T : List ℕ) (n m i : ℕ) (σ : List ℕ) (R : RuleSet) (ready : Ready t T R) (there : i ≤ length R.processes) (Γ : List ℕ) (values : Within (sizes_of R Γ) σ) (few : length Γ ≤ 8) (is_m : m ≡ length (last_of n t) - 1) where
   -- Rows of expressions are put where a constant has one word.
   one_word : R.edition.width ≡ 1
-  one_word = width_is_1 ready.form
+  one_word = width_in_tables T R ready.declares.same_edition
 
   module _ (c : ℕ) (u : List ℕ) (e : last_of n t ≡ c ∷ u) where
     m_long : m ≡ length u
@@ -187,7 +187,7 @@ module _ (t T : List ℕ) (n m i : ℕ) (σ : List ℕ) (R : RuleSet) (ready : R
         two = record {
           row = test C ∷ [];
           counted = refl;
-          all_plain = (guard_plain R ready.form (length Γ) C h, tt);
+          all_plain = (guard_plain T R ready.declares (length Γ) C h, tt);
           spelled = last_behind t u (c ∷ []) n e ∙ f ∙ ap (λ z. z ++ (rule_words R.edition.width E ++ rest)) (ap (λ w. cond_words w C) one_word ∙ sym (append-nil (cond_words 1 C)));
           instantiated = ap (λ w. cond_words w (instantiate_cond C σ)) one_word ∙ sym (append-nil (cond_words 1 (instantiate_cond C σ)));
         };

@@ -22,7 +22,6 @@ use Rattle.eb3.specs.Memory.{cell_room}
 use Rattle.eb3.specs.Answers.{Answer, refused, answered, and_then, Moved as Answer_moved, Written, unwritten}
 use Rattle.eb3.specs.Operations.{cells_needed, term_fits, memory_fits, even, term_in, event_in, listed, at_first, writing, moved, chosen, move, present}
 use Rattle.eb3.specs.Answers.{or_refused}
-use Rattle.eb3.proofs.Laws.Editions.{width_is_1}
 use Rattle.actions.specs.Codes.{action_code, Small}
 use Rattle.actions.specs.Laws.Actions.{action_small}
 use Rattle.given.specs.Giving.{given_in}
@@ -89,7 +88,7 @@ module _ (R : RuleSet) (form : Form R) where
       go true none q f = absurd (let z : ◌≡◌ {A = ℕ} 0 1 = cc in omega arith)
       go true (some σ) q f =
           let h : σ ≡ ρ = cc in
-          subst Small h (action_small R form σ ((given_event_exact R (omega (arith, width_is_1 form)) (words_in event) σ).0 q).1)
+          subst Small h (action_small R form σ ((given_event_exact R form.proper.constants.0 (words_in event) σ).0 q).1)
       go false o q f = absurd (let z : ◌≡◌ {A = ℕ} 0 1 = cc in omega arith)
 
   pub asked_stranger : (request : Request) → None ≡ asked_as request R → asked_of request R ≡ refused Refusal.stranger

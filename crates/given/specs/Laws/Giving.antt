@@ -130,7 +130,7 @@ module _ (R : RuleSet) (E : Term) (t T D s : List ℕ) (d : Described R E t T D 
   pub described_few : (c : ℕ) → c ≡ cells_needed R → (length s ≤ 65535) × (c ≤ 1024) × (label_count T ≤ 64) × (function_count T ≤ 16)
   described_few c e =
       let b = tables_few R d.form t T D d.directory in
-      (omega (arith, described_short), omega (arith, e, few R d.form), b.0, b.1)
+      (omega (arith, described_short), omega (arith, e, few R d.form T d.directory.declares), b.0, b.1)
 
   pub described_ruled : (w n c : ℕ) → w ≡ row_width (label_count T) → n ≡ function_count T → c ≡ cells_needed R → Ruled R t T D w n c
   described_ruled w n c ew en ec = ruled_there R d.form t T D d.directory w n c ew en ec

@@ -11,6 +11,7 @@ use Rattle.eb3.specs.Semantics.{Sem_M}
 use Rattle.eb3.specs.RuleSets.{RuleSet, attributes}
 use Rattle.eb3.specs.Spelling.{words}
 use Rattle.eb3.specs.WellFormedness.{WellFormedTerm, Running, Form}
+use Rattle.declarations.specs.Declaring.{Declares}
 use Rattle.actions.specs.Laws.Actions.{action_small}
 use Rattle.listing.specs.Listing.{Fits, holding}
 use Rattle.cells.specs.Laws.Reads.{guard_judged}
@@ -41,13 +42,14 @@ module _ (R : RuleSet) (form : Form R) where
   fits (Parallel Δ E F) h = (h.0.0, fits E h.1, fits F h.2)
   fits (Guard C E) h = (h.0, fits E h.1)
 
-  pub whole : (E : Term) → Running R E → (s : List ℕ) → s ≡ words R.edition.width E → Whole s (guard_scope (attributes R) 0) E
-  whole E r s e = record {
-    there = record { plain = plain_guard R form 0; fits = fits E r.form; spelled = e ∙ sym (append-nil (words R.edition.width E)); closed = λ z. let w : ⊥ = omega arith in w };
-    narrow = r.breadth_limit;
-  }
+  module _ (T : List ℕ) (says : Declares T R) where
+    pub whole : (E : Term) → Running R E → (s : List ℕ) → s ≡ words R.edition.width E → Whole s (guard_scope (attributes R) 0) E
+    whole E r s e = record {
+      there = record { plain = plain_guard R form T says 0; fits = fits E r.form; spelled = e ∙ sym (append-nil (words R.edition.width E)); closed = λ z. let w : ⊥ = omega arith in w };
+      narrow = r.breadth_limit;
+    }
 
-  -- The guards of the term hold at the store as they hold at the cells.
-  pub moves_judged : (E : Term) → WellFormedTerm R E → (cells : List Value) (M : List ℕ) → Stored R cells M → moves (holding M) E ≡ moves ((Sem_M (attributes R)).satisfies cells) E
-  moves_judged E h cells M s = moves_agree (holding M) ((Sem_M (attributes R)).satisfies cells) (guard_scope (attributes R) 0)
-      (λ C p. guard_judged (attributes R) M s.laid cells s.counted s.at_most s.holds C (plain_guard R form 0) p) E (fits E h)
+    -- The guards of the term hold at the store as they hold at the cells.
+    pub moves_judged : (E : Term) → WellFormedTerm R E → (cells : List Value) (M : List ℕ) → Stored R cells M → moves (holding M) E ≡ moves ((Sem_M (attributes R)).satisfies cells) E
+    moves_judged E h cells M s = moves_agree (holding M) ((Sem_M (attributes R)).satisfies cells) (guard_scope (attributes R) 0)
+        (λ C p. guard_judged (attributes R) M s.laid cells s.counted s.at_most s.holds C (plain_guard R form T says 0) p) E (fits E h)

@@ -13,7 +13,8 @@ use Rattle.eb3.specs.RuleSets.{RuleSet, label, attributes}
 use Rattle.eb3.proofs.Laws.RuleSets.{functions_counted}
 use Rattle.eb3.proofs.Laws.Running.{expressions_in_scope, elements_small, parameters_small}
 use Rattle.eb3.specs.WellFormedness.{WellFormedAction, Form}
-use Rattle.eb3.proofs.Laws.Editions.{top_is_65534}
+use Rattle.tables.specs.Laws.Editions.{top_in_tables}
+use Rattle.declarations.specs.Declaring.{Declares}
 use Rattle.expressions.specs.Stores.{stored, row_place}
 use Rattle.cells.specs.Layout.{Laid}
 use Rattle.cells.specs.Laws.Reads.{row_cells}
@@ -23,13 +24,7 @@ module _ (R : RuleSet) (form : Form R) where
   abbrev A : Attributes
   A = attributes R
 
-  -- A function's row in a store says at most 64 cells.
-  pub rows_few : (M : List ℕ) → Laid A M → (f : ℕ) → f < length R.functions → stored M (row_place f) ≤ 64
-  rows_few M laid f h =
-      let l : f < number_of_functions A = omega (arith, functions_counted R) in
-      subst (λ n. n ≤ 64) (row_cells A M f (laid f l)) (domain_of R form f h).few_cells
-
-  -- ── the cells of the start, and renewed ones: as many as there are, and numbers of the edition ──
+  -- ── the cells of the start, and renewed ones: as many as there are ──
 
   pub initial_counted : length (initial_cells A) ≡ total_cells A
   unfolding initial_cells
@@ -39,14 +34,23 @@ module _ (R : RuleSet) (form : Form R) where
   unfolding renew
   renewed_counted cells a = length_cells A (some a) (cell_at A cells) (number_of_functions A)
 
-  pub initial_at_most : ValuesAtMost 65534 (initial_cells A)
-  initial_at_most =
-      subst (λ n. ValuesAtMost n (initial_cells A)) (top_is_65534 form)
-      (subst (ValuesAtMost R.edition.top) (sym (initial_values A))
-      (values_at_most A (λ l. length (label R l)) (expressions_in_scope R form) (parameters_small R form) [] tt))
+  module _ (T : List ℕ) (says : Declares T R) where
+    -- A function's row in a store says at most 64 cells.
+    pub rows_few : (M : List ℕ) → Laid A M → (f : ℕ) → f < length R.functions → stored M (row_place f) ≤ 64
+    rows_few M laid f h =
+        let l : f < number_of_functions A = omega (arith, functions_counted R) in
+        subst (λ n. n ≤ 64) (row_cells A M f (laid f l)) (domain_of R form T says f h).few_cells
 
-  pub renewed_at_most : (cells : List Value) (a : VisibleAction) → WellFormedAction R (visible a) → ValuesAtMost 65534 cells → ValuesAtMost 65534 (renew A cells a)
-  renewed_at_most cells a good h =
-      subst (λ n. ValuesAtMost n (renew A cells a)) (top_is_65534 form)
-      (renew_at_most A (λ l. length (label R l)) (expressions_in_scope R form) (parameters_small R form) cells a
-      (subst (λ n. ValuesAtMost n cells) (sym (top_is_65534 form)) h) (elements_small R form (label R a.label) a.arguments good.1))
+    -- ── and they are numbers of the edition ──
+
+    pub initial_at_most : ValuesAtMost 65534 (initial_cells A)
+    initial_at_most =
+        subst (λ n. ValuesAtMost n (initial_cells A)) (top_in_tables T R says.same_edition)
+        (subst (ValuesAtMost R.edition.top) (sym (initial_values A))
+        (values_at_most A (λ l. length (label R l)) (expressions_in_scope R form) (parameters_small R form) [] tt))
+
+    pub renewed_at_most : (cells : List Value) (a : VisibleAction) → WellFormedAction R (visible a) → ValuesAtMost 65534 cells → ValuesAtMost 65534 (renew A cells a)
+    renewed_at_most cells a good h =
+        subst (λ n. ValuesAtMost n (renew A cells a)) (top_in_tables T R says.same_edition)
+        (renew_at_most A (λ l. length (label R l)) (expressions_in_scope R form) (parameters_small R form) cells a
+        (subst (λ n. ValuesAtMost n cells) (sym (top_in_tables T R says.same_edition)) h) (elements_small R form (label R a.label) a.arguments good.1))
