@@ -10,7 +10,7 @@ use Rattle.eb3.specs.Attributes.{Attributes, number_of_functions, function, expr
 use Rattle.eb3.specs.Cells.{total_cells, cells_up_to}
 use Rattle.eb3.specs.Spelling.{data_words}
 use Rattle.declarations.specs.Directory.{Stands}
-use Rattle.expressions.specs.Stores.{stored, now_place, before_place, variable_in, reading_in, argument_place, row_place}
+use Rattle.expressions.specs.Stores.{largest_number, stored, now_place, before_place, variable_in, reading_in, argument_place, row_place}
 use Rattle.expressions.specs.Answering.{Plain}
 use Rattle.cells.specs.Layout.{Laid, Holds}
 
@@ -33,7 +33,7 @@ pub record Ready (A : Attributes) (o : Option VisibleAction) (b : Reading) (t D 
 -- A store M whose cells are to be filled for the functions A, after a last action o or at the start.
 pub record Filling (A : Attributes) (o : Option VisibleAction) (b : Reading) (t D M : List ℕ) (w j n : ℕ) : Type 0 where
   pub functions : n ≡ number_of_functions A
-  pub largest : A.edition.top ≡ 65534
+  pub largest : A.edition.top ≡ largest_number
   pub laid : Laid A M
   pub small : (f : ℕ) → f < n → stored M (row_place f) ≤ 64
   pub room : now_place + total_cells A ≤ length M

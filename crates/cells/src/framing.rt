@@ -63,7 +63,9 @@ fn fill_each(s: &[u16], m: &mut [u16], at: usize, k: usize)
 // The one element named by what it is compared with, if the others keep their values.
 #[tactic(auto, using(scan::specs::Laws::Checking::last_len))]
 fn fill_named(s: &[u16], m: &mut [u16], f: usize, from: usize, at: usize, k: usize)
-    requires { (8 ≤ length s.now) × (length s.now ≤ 65535) × (now_place ≤ at) × (at + k ≤ length m.old) × (from + k ≤ length m.old) × (k < 65536) × (from ≡ before_place m.old + stored m.old (begin_place f)) × Tells true s.now AsksOne }
+    requires expression { (8 ≤ length s.now) × (length s.now ≤ 65535) × Tells true s.now AsksOne }
+    requires cells { (now_place ≤ at) × (at + k ≤ length m.old) × (from + k ≤ length m.old) × (k < 65536) }
+    requires old_cells { from ≡ before_place m.old + stored m.old (begin_place f) }
     ensures { (length m.new ≡ length m.old) × NewCells f s.now at k m.old m.new }
 {
     let named = eval_data(&s[4..], m);

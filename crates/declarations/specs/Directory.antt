@@ -4,6 +4,7 @@
 -- Row i, of `row_width` words: how many cells function i has, and at the places in the row that are named here where they begin, and the words left at its
 -- expression for the empty trace and at each label's.
 use Rattle.std.specs.Prelude.{◌≡◌, List, [], ◌∷◌, ◌++◌, ℕ, suc, ◌+◌, ◌*◌, ◌%◌, length, get_or}
+use Rattle.eb3.specs.Limits
 use Rattle.eb3.specs.Expressions.{Data}
 use Rattle.eb3.specs.RuleSets.{Function, Process, RuleSet}
 use Rattle.eb3.specs.Spelling.{data_words}
@@ -29,9 +30,9 @@ at_start_in = 2
 abbrev pub at_label_in : ℕ → ℕ
 at_label_in l = 3 + l
 
--- How many words a directory has: a row for each of up to 16 functions and 64 labels.
+-- How many words a directory has: a row for each function, where there are the most functions and labels.
 abbrev pub directory_length : ℕ
-directory_length = 1072
+directory_length = row_width Limits.labels * Limits.functions
 
 -- Where n words of t are left, these are first.
 abbrev pub Stands : List ℕ → ℕ → List ℕ → Type 0

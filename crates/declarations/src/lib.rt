@@ -18,11 +18,14 @@ ghost use Rattle.declarations.specs.Noting.{LabelsNoted, ExpressionsNoted, Funct
 use expression_check::{Scope, check_data};
 use refusals::Refusal;
 use scan::{count, first, last, number};
-use tables::layout::{AT_LABELS, AT_START, FIRST_CELL, label_place_from};
+use tables::layout::{AT_LABELS, AT_START, FIRST_CELL, MOST_LABELS, label_place_from};
 use tables::{domains, label_row, labels, size_of};
 
-/// How many numbers a directory has: a row for each of up to 16 functions, of 3 numbers and one for each of up to 64 labels.
-pub const DIRECTORY: usize = 1072;
+// The most functions of a rule set.
+const MOST_FUNCTIONS: usize = 16;
+
+/// How many numbers a directory has: a row for each function, of those before its labels' and one for each label, of the most functions and labels.
+pub const DIRECTORY: usize = (AT_LABELS + MOST_LABELS) * MOST_FUNCTIONS;
 
 // How many words are left after some functions, and how many cells they have.
 // Stays, here and as `Weighed` in rule_terms: a struct for what is left and one thing more. One of both would be generic, and name neither cells nor weight.

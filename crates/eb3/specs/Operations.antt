@@ -80,25 +80,33 @@ started term memory R = record {
   memory = written (memory_words (initial_cells (attributes R))) memory;
 }
 
-unfoldable pub start : List ℕ → List ℕ → List ℕ → Written ℕ
-start rules term memory =
-    writing term memory (admission rules) λ R.
-    pick (term_fits (main_reach R) term && memory_fits R memory) (started term memory R) (unwritten term memory Refusal.space)
+-- At an admitted rule set: refusal 9, or the start.
+abbrev pub started_at : List ℕ → List ℕ → RuleSet → Written ℕ
+started_at term memory R = pick (term_fits (main_reach R) term && memory_fits R memory) (started term memory R) (unwritten term memory Refusal.space)
 
--- Count.
+unfoldable pub start : List ℕ → List ℕ → List ℕ → Written ℕ
+start rules term memory = writing term memory (admission rules) λ R. started_at term memory R
+
+-- Count. At an admitted rule set and a given term: refusal 9, or the number of moves.
+abbrev pub counted_at : RuleSet → Term → List ℕ → Answer ℕ
+counted_at R E memory = pick (memory_fits R memory) (answered (length (listed R E memory))) (refused Refusal.space)
+
 unfoldable pub count : List ℕ → List ℕ → List ℕ → Answer ℕ
 count rules term memory =
     and_then (admission rules) λ R.
     and_then (term_in R term) λ E.
-    pick (memory_fits R memory) (answered (length (listed R E memory))) (refused Refusal.space)
+    counted_at R E memory
 
--- What a move writes: its successor, and the memory that its action leaves.
-abbrev pub moved : RuleSet → List ℕ → List ℕ → List ℕ → Move → Written Moved
-moved R memory next_term next_memory x = record {
+-- What a move writes: its successor, and the memory that its action leaves of the given cells.
+abbrev pub moved_from : RuleSet → List Value → List ℕ → List ℕ → Move → Written Moved
+moved_from R cells next_term next_memory x = record {
   answer = answered (record { action = x.action; size = size R.edition.width x.successor });
   term = written (words R.edition.width x.successor) next_term;
-  memory = written (memory_words (state_after (Sem_M (attributes R)) (cells_given R memory) x.action)) next_memory;
+  memory = written (memory_words (state_after (Sem_M (attributes R)) cells x.action)) next_memory;
 }
+
+abbrev pub moved : RuleSet → List ℕ → List ℕ → List ℕ → Move → Written Moved
+moved R memory next_term next_memory x = moved_from R (cells_given R memory) next_term next_memory x
 
 -- Refusal 9, then 12: the move that a choice among the listed ones gives.
 abbrev pub chosen : RuleSet → Term → List ℕ → List ℕ → List ℕ → (List Move → Option Move) → Written Moved
@@ -107,20 +115,30 @@ chosen R E memory next_term next_memory choose =
     (writing next_term next_memory (or_refused Refusal.not_offered (choose (listed R E memory))) (moved R memory next_term next_memory))
     (unwritten next_term next_memory Refusal.space)
 
+-- What Move and Present choose by: a number k; the given event, or refusal 11.
+abbrev pub choice_by_number : ℕ → Answer (List Move → Option Move)
+choice_by_number k = answered λ xs. get_elem? xs k
+
+abbrev pub choice_by_event : RuleSet → List ℕ → Answer (List Move → Option Move)
+choice_by_event R event = and_then (event_in R event) λ ρ. answered (at_first ρ)
+
+-- Both, at an admitted rule set and a given term.
+abbrev pub stepped_from : RuleSet → Term → List ℕ → List ℕ → List ℕ → Answer (List Move → Option Move) → Written Moved
+stepped_from R E memory next_term next_memory choice = writing next_term next_memory choice λ choose. chosen R E memory next_term next_memory choose
+
 -- Move k.
 unfoldable pub move : List ℕ → List ℕ → List ℕ → ℕ → List ℕ → List ℕ → Written Moved
 move rules term memory k next_term next_memory =
     writing next_term next_memory (admission rules) λ R.
     writing next_term next_memory (term_in R term) λ E.
-    chosen R E memory next_term next_memory λ xs. get_elem? xs k
+    stepped_from R E memory next_term next_memory (choice_by_number k)
 
 -- Present.
 unfoldable pub present : List ℕ → List ℕ → List ℕ → List ℕ → List ℕ → List ℕ → Written Moved
 present rules term memory event next_term next_memory =
     writing next_term next_memory (admission rules) λ R.
     writing next_term next_memory (term_in R term) λ E.
-    writing next_term next_memory (event_in R event) λ ρ.
-    chosen R E memory next_term next_memory (at_first ρ)
+    stepped_from R E memory next_term next_memory (choice_by_event R event)
 
 -- Run, by a list of move numbers: what the history machine ends with. The last term, zeros up to main's G; every function's values over the whole list.
 abbrev pub ran : List ℕ → List ℕ → List ℕ → RuleSet → Written Ran
@@ -148,13 +166,16 @@ abbrev pub run_fits : RuleSet → List ℕ → List ℕ → List ℕ → List �
 run_fits R term memory spare_term spare_memory =
     (term_fits (main_reach R) term && memory_fits R memory) && (term_fits (main_reach R) spare_term && memory_fits R spare_memory)
 
--- Refusal 9, then 13. The scratch buffers count by their room only; what they hold afterwards is said by ScratchAfter.
-unfoldable pub run : List ℕ → List ℕ → List ℕ → List ℕ → List ℕ → List ℕ → List ℕ → Tabled Ran
-run rules list table term memory spare_term spare_memory =
-    tabling table term memory (admission rules) λ R.
+-- At an admitted rule set: refusal 9, then 13, or the run. The scratch buffers count by their room only; what they hold afterwards is said by ScratchAfter.
+abbrev pub ran_at : List ℕ → List ℕ → List ℕ → List ℕ → List ℕ → List ℕ → RuleSet → Tabled Ran
+ran_at list table term memory spare_term spare_memory R =
     pick (run_fits R term memory spare_term spare_memory)
     (pick (lets_through list table) (ran_with list table term memory R) (untabled table term memory Refusal.reader))
     (untabled table term memory Refusal.space)
+
+unfoldable pub run : List ℕ → List ℕ → List ℕ → List ℕ → List ℕ → List ℕ → List ℕ → Tabled Ran
+run rules list table term memory spare_term spare_memory =
+    tabling table term memory (admission rules) λ R. ran_at list table term memory spare_term spare_memory R
 
 -- A scratch buffer afterwards: a refusal writes nothing; else its words may be anything, and an odd last byte is kept.
 abbrev pub ScratchAfter : {X : Type 0} → Answer X → List ℕ → List ℕ → Type 0

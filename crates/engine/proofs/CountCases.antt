@@ -11,7 +11,7 @@ use Rattle.eb3.specs.RuleSets.{RuleSet, attributes}
 use Rattle.eb3.specs.Memory.{cell_room}
 use Rattle.eb3.proofs.Laws.Sizes.{moves_below_breadth}
 use Rattle.eb3.specs.Answers.{Answer, refused, answered, and_then}
-use Rattle.eb3.specs.Operations.{cells_given, listed, count}
+use Rattle.eb3.specs.Operations.{cells_given, listed, counted_at, count}
 use Rattle.listing.specs.Listing.{holding}
 use Rattle.steps.specs.Counting.{Whole}
 use Rattle.steps.specs.Storing.{Ruled, Stored}
@@ -20,7 +20,7 @@ use Rattle.given.specs.Giving.{given_in}
 use Rattle.runs.specs.declared.admitted.Admitted.{Admitted}
 use Rattle.engine.specs.Describing.{DescribedBy}
 use Rattle.engine.specs.Laws.Describing.{described_by_ruled}
-use Rattle.engine.specs.Counting.{counted_as, counted_at}
+use Rattle.engine.specs.Counting.{counted_as}
 use Rattle.engine.specs.Laws.Counting.{count_given, count_short, count_done}
 use Rattle.engine.specs.Enveloping.{OnAnswer, TermCall}
 use Rattle.std.specs.Borrow.{Bor}
@@ -42,20 +42,20 @@ counted_loaded rules s B M x y loaded counts ey R E by enough =
 
 -- From the words of a term.
 module _ (memory : List ℕ) {rules : Admitted} {s : List ℕ} where
-  pub counted_short : cell_room memory < rules.functions.cells → (R : RuleSet) (E : Term) → DescribedBy rules R E s → Err Space ≡ counted_as (counted_at memory (R, E))
+  pub counted_short : cell_room memory < rules.functions.cells → (R : RuleSet) (E : Term) → DescribedBy rules R E s → Err Space ≡ counted_as (counted_at R E memory)
   counted_short h R E by = count_short memory R E (omega (arith, by.cells_are))
 
   pub counted_done : rules.functions.cells ≤ cell_room memory → (y : ℕ) → ((R : RuleSet) (E : Term) → DescribedBy rules R E s → rules.functions.cells ≤ cell_room memory → y ≡ length (listed R E memory))
-      → (R : RuleSet) (E : Term) → DescribedBy rules R E s → Ok y ≡ counted_as (counted_at memory (R, E))
+      → (R : RuleSet) (E : Term) → DescribedBy rules R E s → Ok y ≡ counted_as (counted_at R E memory)
   counted_done h y counts R E by = count_done memory R E (omega (arith, by.cells_are)) y (counts R E by h)
 
 -- From the bytes.
 pub counted_given : {F : Type 0} (calls : F → Bor Admitted → Bor (List ℕ) → ℕ → Result ℕ Refusal → F → Type 0) {f f' : F} (rules term : List ℕ) {r : Result ℕ Refusal} → OnAnswer (TermCall calls) f (given_in rules term) r f'
-    → (memory : List ℕ) → ((x : Bor Admitted) (s : Bor (List ℕ)) (g : ℕ) → calls f x s g r f' → (R : RuleSet) (E : Term) → DescribedBy x.now R E s.now → r ≡ counted_as (counted_at memory (R, E)))
+    → (memory : List ℕ) → ((x : Bor Admitted) (s : Bor (List ℕ)) (g : ℕ) → calls f x s g r f' → (R : RuleSet) (E : Term) → DescribedBy x.now R E s.now → r ≡ counted_as (counted_at R E memory))
     → r ≡ counted_as (count rules term memory)
 unfolding OnAnswer counted_as and_then
 counted_given calls {f} {f'} rules term {r} h memory says = go (given_in rules term) h ∙ sym (ap counted_as (count_given rules term memory))
   where
-    go : (a : Answer (RuleSet × Term)) → OnAnswer (TermCall calls) f a r f' → r ≡ counted_as (and_then a (counted_at memory))
+    go : (a : Answer (RuleSet × Term)) → OnAnswer (TermCall calls) f a r f' → r ≡ counted_as (and_then a λ p. counted_at p.0 p.1 memory)
     go (refused k) h = h.0
     go (answered p) h = says h.rules h.words h.most h.called p.0 p.1 h.described

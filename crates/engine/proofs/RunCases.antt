@@ -15,13 +15,13 @@ use Rattle.eb3.specs.Readers.{numbers_in, readers_in, lets_through, increased}
 use Rattle.eb3.proofs.Laws.Readers.{through_readers, through_room}
 use Rattle.eb3.specs.Admission.{admission}
 use Rattle.eb3.specs.Answers.{Answer, refused, answered}
-use Rattle.eb3.specs.Operations.{main_reach, sizes_needed, tabling}
+use Rattle.eb3.specs.Operations.{main_reach, sizes_needed, tabling, ran_at}
 use Rattle.readers.specs.Table.{counted_by}
 use Rattle.readers.proofs.Laws.Counting.{zeros, counted_increases}
 use Rattle.runs.specs.MainProcess.{RunsMain}
 use Rattle.runs.specs.declared.main_process.Totals.{Totals}
 use Rattle.measures.specs.declared.Limits.{Limits}
-use Rattle.engine.specs.Running.{ran_as, Ran, ran_at, RunDone}
+use Rattle.engine.specs.Running.{ran_as, Ran, RunDone}
 use Rattle.engine.specs.Laws.Running.{run_admitted, run_short_term, run_short_memory, run_short_spare_term, run_short_spare_memory, run_not_through, run_done}
 use Rattle.std.specs.Prelude.{Ok, Err, Result}
 use Rattle.std.specs.Borrow.{Bor}

@@ -14,7 +14,7 @@ use Rattle.eb3.specs.Spelling.{words}
 use Rattle.eb3.specs.Unfolding.{unfold_main}
 use Rattle.eb3.specs.Admission.{admission}
 use Rattle.eb3.specs.Answers.{Answer, refused, answered}
-use Rattle.eb3.specs.Operations.{main_reach, sizes_needed, writing}
+use Rattle.eb3.specs.Operations.{main_reach, sizes_needed, writing, started_at}
 use Rattle.eb3.proofs.Laws.Sizes.{size_below_reach}
 use Rattle.eb3.proofs.Laws.Spelling.{words_length}
 use Rattle.eb3.proofs.Laws.MainRunning.{main_running}
@@ -24,7 +24,7 @@ use Rattle.runs.specs.declared.admitted.Admitted.{Admitted}
 use Rattle.engine.specs.Describing.{AdmittedAs}
 use Rattle.engine.specs.Enveloping.{OnAnswer, RulesCall}
 use Rattle.engine.specs.Memories.{Begun}
-use Rattle.engine.specs.Starting.{started_as, Started, started_at, StartDone}
+use Rattle.engine.specs.Starting.{started_as, Started, StartDone}
 use Rattle.engine.specs.Laws.Starting.{start_admitted, start_short_term, start_short_memory, start_done}
 use Rattle.refusals.specs.declared.Refusal.{Refusal}
 use Rattle.refusals.specs.declared.Refusal.TheVariants.{Space}

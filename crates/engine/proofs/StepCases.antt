@@ -20,7 +20,7 @@ use Rattle.eb3.specs.Memory.{cell_room}
 use Rattle.eb3.specs.WellFormedness.{WellFormedAction}
 use Rattle.eb3.proofs.Laws.Sizes.{size_below_reach, move_size}
 use Rattle.eb3.proofs.Laws.Running.{move_running, move_action}
-use Rattle.eb3.specs.Operations.{cells_needed, cells_given, listed, numbered, writing, moved}
+use Rattle.eb3.specs.Operations.{cells_needed, cells_given, listed, numbered, writing, moved, moved_from}
 use Rattle.eb3.specs.Answers.{or_refused}
 use Rattle.expressions.specs.Stores.{now_place}
 use Rattle.actions.specs.Codes.{action_code, Small}
@@ -43,7 +43,7 @@ use Rattle.engine.specs.Laws.Describing.{described_by_ruled}
 use Rattle.given.specs.declared.asking.Wanted.{Wanted}
 use Rattle.given.specs.declared.asking.Wanted.TheVariants.{Action as Action_of}
 use Rattle.given.specs.Asking.{Chooses}
-use Rattle.engine.specs.Stepping.{move_at, told, moved_as, Done, moved_from, SteppedFrom, SteppedAt}
+use Rattle.engine.specs.Stepping.{move_at, told, moved_as, Done, SteppedFrom, SteppedAt}
 use Rattle.std.specs.Prelude.{Ok, Err, Result, Some, None, Option}
 use Rattle.refusals.specs.declared.Refusal.{Refusal}
 use Rattle.refusals.specs.declared.Refusal.TheVariants.{NotOffered}

@@ -9,7 +9,7 @@ use Rattle.eb3.specs.WellFormedness.{Form}
 use Rattle.eb3.specs.Bytes.{word_count}
 use Rattle.eb3.specs.Memory.{cell_room}
 use Rattle.eb3.specs.Answers.{Answer, refused, answered, Moved as Answer_moved, Written}
-use Rattle.eb3.specs.Operations.{writing}
+use Rattle.eb3.specs.Operations.{writing, stepped_from}
 use Rattle.engine.specs.Enveloping.{OnAnswer, TermCall}
 use Rattle.std.specs.Borrow.{Bor}
 use Rattle.declarations.specs.Declaring.{Declares}
@@ -17,9 +17,9 @@ use Rattle.runs.specs.declared.admitted.Admitted.{Admitted}
 use Rattle.given.specs.Giving.{given_in}
 use Rattle.given.specs.declared.asking.Request.{Request}
 use Rattle.given.specs.declared.asking.Wanted.{Wanted}
-use Rattle.given.specs.Asking.{asked_as}
+use Rattle.given.specs.Asking.{asked_of, asked_as}
 use Rattle.engine.specs.Describing.{DescribedBy}
-use Rattle.engine.specs.Stepping.{moved_as, Done, stepped_from, stepped, SteppedAt, Steps}
+use Rattle.engine.specs.Stepping.{moved_as, Done, stepped, SteppedAt, Steps}
 use Rattle.engine.specs.Laws.Stepping.{asked_stranger, Choosing, asked_wanted, stranger_done, short_term, short_memory, short_next_memory, with_room}
 use Rattle.std.specs.Prelude.{Err, Result, Some, None, Option}
 use Rattle.refusals.specs.declared.Refusal.{Refusal}
@@ -76,6 +76,6 @@ pub stepped_given : {F : Type 0} (calls : F → Bor Admitted → Bor (List ℕ) 
 unfolding OnAnswer stepped moved_as
 stepped_given calls {f} {f'} rules term {r} h memory request term_of memory_of says = go (given_in rules term) h
   where
-    go : (a : Answer (RuleSet × Term)) → OnAnswer (TermCall calls) f a r f' → Done (writing (term_of f) (memory_of f) a (stepped_from request memory (term_of f) (memory_of f))) r (term_of f') (memory_of f')
+    go : (a : Answer (RuleSet × Term)) → OnAnswer (TermCall calls) f a r f' → Done (writing (term_of f) (memory_of f) a λ p. stepped_from p.0 p.1 memory (term_of f) (memory_of f) (asked_of request p.0)) r (term_of f') (memory_of f')
     go (refused k) h = record { answer = h.0; term_after = ap term_of h.1; memory_after = ap memory_of h.1 }
     go (answered p) h = says h.rules h.words h.most h.called p.0 p.1 h.described h.most_is

@@ -1,12 +1,8 @@
 -- What Run answers and leaves, by the specification's operation, which is the history machine's run (document 01, "Operations"; "Memory and the history
 -- machine"; document 02, K1).
 use Rattle.std.specs.Prelude.{◌≡◌, List, ℕ, Ok, Err, Result}
-use Rattle.eb3.specs.Refusal
-use Rattle.eb3.specs.RuleSets.{RuleSet}
-use Rattle.eb3.specs.Reading.{pick}
-use Rattle.eb3.specs.Readers.{lets_through}
-use Rattle.eb3.specs.Answers.{Answer, refused, answered, Ran as Answer_ran, Tabled, untabled}
-use Rattle.eb3.specs.Operations.{run_fits, ran_with, run, ScratchAfter}
+use Rattle.eb3.specs.Answers.{Answer, refused, answered, Ran as Answer_ran, Tabled}
+use Rattle.eb3.specs.Operations.{run, ScratchAfter}
 use Rattle.runs.specs.declared.main_process.Totals.{Totals}
 use Rattle.refusals.specs.declared.Refusal.{Refusal}
 use Rattle.refusals.specs.Numbers.{refusal}
@@ -29,10 +25,3 @@ pub record Ran (w : Tabled Answer_ran) (spare_term : List ℕ) (r : Result Total
 
 abbrev pub RunDone : (rules list table term memory spare_term spare_memory : List ℕ) (r : Result Totals Refusal) (table' term' memory' spare' : List ℕ) → Type 0
 RunDone rules list table term memory spare_term spare_memory r table' term' memory' spare' = Ran (run rules list table term memory spare_term spare_memory) spare_term r table' term' memory' spare'
-
--- At a rule set that was admitted.
-abbrev pub ran_at : (list table term memory spare_term spare_memory : List ℕ) → RuleSet → Tabled Answer_ran
-ran_at list table term memory spare_term spare_memory R =
-    pick (run_fits R term memory spare_term spare_memory)
-    (pick (lets_through list table) (ran_with list table term memory R) (untabled table term memory Refusal.reader))
-    (untabled table term memory Refusal.space)

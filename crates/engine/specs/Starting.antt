@@ -1,10 +1,7 @@
 -- What Start answers and leaves, by the specification's operation (document 01, "Operations").
-use Rattle.std.specs.Prelude.{◌≡◌, ◌&&◌, List, ℕ, Ok, Err, Result}
-use Rattle.eb3.specs.Refusal
-use Rattle.eb3.specs.RuleSets.{RuleSet}
-use Rattle.eb3.specs.Reading.{pick}
-use Rattle.eb3.specs.Answers.{Answer, refused, answered, Written, unwritten}
-use Rattle.eb3.specs.Operations.{main_reach, term_fits, memory_fits, started, start}
+use Rattle.std.specs.Prelude.{◌≡◌, List, ℕ, Ok, Err, Result}
+use Rattle.eb3.specs.Answers.{Answer, refused, answered, Written}
+use Rattle.eb3.specs.Operations.{start}
 use Rattle.refusals.specs.declared.Refusal.{Refusal}
 use Rattle.refusals.specs.Numbers.{refusal}
 
@@ -21,7 +18,3 @@ pub record Started (w : Written ℕ) (r : Result ℕ Refusal) (term' memory' : L
 
 abbrev pub StartDone : (rules term memory : List ℕ) (r : Result ℕ Refusal) (term' memory' : List ℕ) → Type 0
 StartDone rules term memory r term' memory' = Started (start rules term memory) r term' memory'
-
--- At a rule set that was admitted.
-abbrev pub started_at : List ℕ → List ℕ → RuleSet → Written ℕ
-started_at term memory R = pick (term_fits (main_reach R) term && memory_fits R memory) (started term memory R) (unwritten term memory Refusal.space)

@@ -8,14 +8,12 @@ use Rattle.eb3.specs.Values.{Value}
 use Rattle.eb3.specs.Terms.{Term, VisibleAction, Action, internal, visible}
 use Rattle.eb3.specs.Moves.{Move, moves}
 use Rattle.eb3.specs.RuleSets.{RuleSet, attributes}
-use Rattle.eb3.specs.Derivations.{state_after}
 use Rattle.eb3.specs.Semantics.{Sem_M}
-use Rattle.eb3.specs.Sizes.{size, reach}
-use Rattle.eb3.specs.Spelling.{words}
-use Rattle.eb3.specs.Bytes.{word_count, written}
-use Rattle.eb3.specs.Memory.{cell_room, memory_words}
+use Rattle.eb3.specs.Sizes.{reach}
+use Rattle.eb3.specs.Bytes.{word_count}
+use Rattle.eb3.specs.Memory.{cell_room}
 use Rattle.eb3.specs.Answers.{Answer, refused, answered, or_refused, Moved as Answer_moved, Written}
-use Rattle.eb3.specs.Operations.{listed, writing, moved, chosen}
+use Rattle.eb3.specs.Operations.{listed, writing, moved, moved_from, stepped_from}
 use Rattle.steps.specs.Storing.{Stored}
 use Rattle.runs.specs.declared.admitted.Admitted.{Admitted}
 use Rattle.engine.specs.declared.stepping.Step.{Step}
@@ -56,22 +54,9 @@ pub record Done (w : Written Answer_moved) (r : Result Step Refusal) (term' memo
 
 -- ── the operation ──
 
--- Asked of a rule set and a term.
-abbrev pub stepped_from : Request → List ℕ → List ℕ → List ℕ → RuleSet × Term → Written Answer_moved
-stepped_from request memory next_term next_memory p =
-    writing next_term next_memory (asked_of request p.0) λ choose. chosen p.0 p.1 memory next_term next_memory choose
-
 unfoldable pub stepped : List ℕ → List ℕ → List ℕ → Request → List ℕ → List ℕ → Written Answer_moved
 stepped rules term memory request next_term next_memory =
-    writing next_term next_memory (given_in rules term) (stepped_from request memory next_term next_memory)
-
--- What a move from given cells writes.
-abbrev pub moved_from : RuleSet → List Value → List ℕ → List ℕ → Move → Written Answer_moved
-moved_from R cells next_term next_memory x = record {
-  answer = answered (record { action = x.action; size = size R.edition.width x.successor });
-  term = written (words R.edition.width x.successor) next_term;
-  memory = written (memory_words (state_after (Sem_M (attributes R)) cells x.action)) next_memory;
-}
+    writing next_term next_memory (given_in rules term) λ p. stepped_from p.0 p.1 memory next_term next_memory (asked_of request p.0)
 
 -- The move of a number, or none where there is none.
 abbrev pub move_at : List Move → Option ℕ → Maybe Move
@@ -94,4 +79,4 @@ SteppedAt rules s memory wanted B C r B' C' =
 
 -- From a term of reach g: of what is asked for.
 abbrev pub Steps : (rules : Admitted) (s : List ℕ) (g : ℕ) (memory : List ℕ) (request : Request) (B C : List ℕ) (r : Result Step Refusal) (B' C' : List ℕ) → Type 0
-Steps rules s g memory request B C r B' C' = (R : RuleSet) (E : Term) → DescribedBy rules R E s → g ≡ reach R.edition.width E → Done (stepped_from request memory B C (R, E)) r B' C'
+Steps rules s g memory request B C r B' C' = (R : RuleSet) (E : Term) → DescribedBy rules R E s → g ≡ reach R.edition.width E → Done (stepped_from R E memory B C (asked_of request R)) r B' C'

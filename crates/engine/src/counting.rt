@@ -4,9 +4,9 @@ ghost use Rattle.std.specs.Prelude.{◌≡◌, ◌*◌, ◌/◌, ◌≤◌, leng
 ghost use Rattle.eb3.specs.Terms.{Term};
 ghost use Rattle.eb3.specs.RuleSets.{RuleSet};
 ghost use Rattle.eb3.specs.Memory.{cell_room};
-ghost use Rattle.eb3.specs.Operations.{cells_needed, listed, count};
+ghost use Rattle.eb3.specs.Operations.{cells_needed, listed, counted_at, count};
 ghost use Rattle.engine.specs.Describing.{DescribedBy};
-ghost use Rattle.engine.specs.Counting.{counted_as, counted_at};
+ghost use Rattle.engine.specs.Counting.{counted_as};
 
 use super::envelope::with_given;
 use super::room;
@@ -29,7 +29,7 @@ fn count_at(rules: &Admitted, s: &[u16], memory: &[u8]) -> u32
 // At a rule set and a term: refusal 9, else the number of moves.
 fn count_given(rules: &Admitted, s: &[u16], memory: &[u8]) -> Result<u32, Refusal>
     requires { length s.now ≤ 65535 }
-    ensures { (R : RuleSet) (E : Term) → DescribedBy rules.now R E s.now → result ≡ counted_as (counted_at memory.now (R, E)) }
+    ensures { (R : RuleSet) (E : Term) → DescribedBy rules.now R E s.now → result ≡ counted_as (counted_at R E memory.now) }
 {
     room(memory.len(), rules.functions.cells)?;
     Ok(count_at(rules, s, memory))

@@ -2,10 +2,10 @@
 // each is counted at its card reader (document 02, K1). The rule set is admitted once.
 ghost use Rattle.std.specs.Prelude.{◌≡◌, ◌*◌, ◌≤◌, length};
 ghost use Rattle.eb3.specs.RuleSets.{RuleSet};
-ghost use Rattle.eb3.specs.Operations.{sizes_needed};
+ghost use Rattle.eb3.specs.Operations.{sizes_needed, ran_at};
 ghost use Rattle.admission.specs.Answering.{limits};
 ghost use Rattle.engine.specs.Describing.{AdmittedAs};
-ghost use Rattle.engine.specs.Running.{Ran, ran_at, RunDone};
+ghost use Rattle.engine.specs.Running.{Ran, RunDone};
 
 use super::envelope::with_admitted;
 use super::room;

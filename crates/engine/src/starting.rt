@@ -4,10 +4,10 @@ ghost use Rattle.std.specs.Prelude.{◌≡◌, ◌*◌, ◌≤◌, length};
 ghost use Rattle.expressions.specs.Stores.{new_store_length};
 ghost use Rattle.engine.specs.Memories.{MemoryStarted, Begun};
 ghost use Rattle.eb3.specs.RuleSets.{RuleSet};
-ghost use Rattle.eb3.specs.Operations.{sizes_needed};
+ghost use Rattle.eb3.specs.Operations.{sizes_needed, started_at};
 ghost use Rattle.admission.specs.Answering.{limits};
 ghost use Rattle.engine.specs.Describing.{AdmittedAs};
-ghost use Rattle.engine.specs.Starting.{Started, started_at, StartDone};
+ghost use Rattle.engine.specs.Starting.{Started, StartDone};
 
 use super::envelope::with_admitted;
 use super::room;

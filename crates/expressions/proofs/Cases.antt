@@ -12,7 +12,7 @@ use Rattle.eb3.specs.Expressions.{evaluate_data, evaluate_cond}
 use Rattle.eb3.specs.Spelling.{data_words, cond_words}
 use Rattle.scan.specs.Checking.{last_of}
 use Rattle.expressions.specs.declared.valued.Valued.{Valued}
-use Rattle.expressions.specs.Stores.{reading_in, environment_in}
+use Rattle.expressions.specs.Stores.{largest_number, reading_in, environment_in}
 use Rattle.expressions.specs.Answering.{value_word, truth, answer, DataAt, CondAt, Evaluated, Judged}
 use Rattle.expressions.specs.Operands.{Paired, Selected, Named, Joined, Negated}
 use Rattle.expressions.specs.Laws.Answering.{data_parted, cond_parted, data_value}
@@ -27,13 +27,13 @@ negated_word false = refl
 -- t are the words, x what the first operand answers, u the words after it, y what the next answers there
 module _ (t u M : List ℕ) (x y : Valued) where
   pub paired : (g : Value → Value → ℕ) (r : Valued) → Evaluated t M x → u ≡ last_of x.left t → Evaluated u M y
-      → r.value ≡ g (decode 65534 x.value) (decode 65534 y.value) → r.left ≡ y.left → Paired g t M r
+      → r.value ≡ g (decode largest_number x.value) (decode largest_number y.value) → r.left ≡ y.left → Paired g t M r
   paired g r f k h e l P a b rest at s =
       let p = data_parted t M x P (data_words P.edition.width b ++ rest) f a at in
       let next : DataAt u P b rest = record { plain = at.plain; in_scope = s; spelled = p.behind u k } in
       let n = data_parted u M y P rest h b next in
-      let v : decode 65534 x.value ≡ evaluate_data a (environment_in M) = data_value t M x P (data_words P.edition.width b ++ rest) f a at in
-      let w : decode 65534 y.value ≡ evaluate_data b (environment_in M) = data_value u M y P rest h b next in
+      let v : decode largest_number x.value ≡ evaluate_data a (environment_in M) = data_value t M x P (data_words P.edition.width b ++ rest) f a at in
+      let w : decode largest_number y.value ≡ evaluate_data b (environment_in M) = data_value u M y P rest h b next in
       record { value = e ∙ (λ i. g (v i) (w i)); left = l ∙ n.left }
 
 module _ (t u M : List ℕ) (x y : ℕ) where
@@ -83,9 +83,9 @@ module _ (t u v M : List ℕ) (c : ℕ) (x y : Valued) (f : Judged t M c) (k : u
       go false p q e j o = absurd (z e)
 
 pub named : (t u M : List ℕ) (at n : ℕ) (x r : Valued) → u ≡ drop 1 t → Evaluated u M x → n ≡ get_or t 0 0
-    → r.value ≡ encode 65535 (reading_in M at n (decode 65534 x.value ∷ [])) → r.left ≡ x.left → Named at t M r
+    → r.value ≡ encode 65535 (reading_in M at n (decode largest_number x.value ∷ [])) → r.left ≡ x.left → Named at t M r
 named t u M at n x r k f i e l P a rest here =
     let there : DataAt u P a rest = record { plain = here.plain; in_scope = here.in_scope; spelled = k ∙ here.spelled } in
     let p = data_parted u M x P rest f a there in
-    let v : decode 65534 x.value ≡ evaluate_data a (environment_in M) = data_value u M x P rest f a there in
+    let v : decode largest_number x.value ≡ evaluate_data a (environment_in M) = data_value u M x P rest f a there in
     record { value = e ∙ (λ o. encode 65535 (reading_in M at (i o) (v o ∷ []))); left = l ∙ p.left }

@@ -13,7 +13,7 @@ use Rattle.eb3.specs.Expressions.{Data, Undefined, Constant, Variable, Add, Subt
 use Rattle.eb3.specs.Scopes.{Scope, ArgsInScope}
 use Rattle.eb3.specs.Spelling.{number_words, data_words, args_words, cond_words}
 use Rattle.expressions.specs.declared.valued.Valued.{Valued}
-use Rattle.expressions.specs.Stores.{stored, reading_in, variable_in, environment_in, before_place, now_place}
+use Rattle.expressions.specs.Stores.{largest_number, stored, reading_in, variable_in, environment_in, before_place, now_place}
 use Rattle.expressions.specs.Answering.{value_word, truth, IsValued, answer, Plain, DataAt, CondAt, Evaluated, Judged}
 use Rattle.expressions.specs.Operands.{sum_word, difference_word, equal_word, less_word, Fetched, Paired, Selected, Named, Compared, Joined, Negated}
 use Rattle.expressions.specs.Laws.Values.{word_of_value}
@@ -96,7 +96,7 @@ module _ (s t M : List ℕ) (r : Valued) (q : t ≡ drop 1 s) where
       record { value = h.value ∙ ap (λ u. get_or u 0 0) e; left = h.left ∙ ap (λ u. length (drop 1 u)) e }
   by_data (Variable i) P rest at h =
       record {
-        value = h.value.value ∙ sym (word_of_value (stored M (get_or t 0 0)) h.small) ∙ ap (λ u. value_word (decode 65534 (stored M (get_or u 0 0)))) (q ∙ ap (drop 1) at.spelled);
+        value = h.value.value ∙ sym (word_of_value (stored M (get_or t 0 0)) h.small) ∙ ap (λ u. value_word (decode largest_number (stored M (get_or u 0 0)))) (q ∙ ap (drop 1) at.spelled);
         left = h.value.left ∙ ap (λ u. length (drop 1 u)) (q ∙ ap (drop 1) at.spelled);
       }
   by_data (Add a b) P rest at h =

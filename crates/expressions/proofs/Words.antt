@@ -13,7 +13,7 @@ use lib.Dec.{lit<, eqb, ltb}
 use borrow.Author.Tests.{lt-ltb, le-ltb, le-leb, lt-leb, eq-eqb, ne_eqb}
 use Rattle.eb3.specs.Values.{Value, undefined, number, bounded, add, subtract, equal, less, encode, decode}
 use Rattle.eb3.specs.Attributes.{apply_in_domain}
-use Rattle.expressions.specs.Stores.{stored, cell_in, reading_in, row_place, begin_place}
+use Rattle.expressions.specs.Stores.{largest_number, stored, cell_in, reading_in, row_place, begin_place}
 use Rattle.expressions.specs.Answering.{truth, answer}
 use Rattle.expressions.specs.Laws.Values.{word_of_value}
 use Rattle.expressions.specs.Operands.{sum_word, difference_word, equal_word, less_word}
@@ -27,25 +27,25 @@ apart b e f = subst T (sym e ∙ f) tt
 
 -- ── words as values ──
 
-pub decode_number : (w : ℕ) → w < 65535 → decode 65534 w ≡ number w
+pub decode_number : (w : ℕ) → w < 65535 → decode largest_number w ≡ number w
 unfolding decode bounded
 decode_number w h =
-    let l : w ≤ 65534 = omega arith in
-    rw (le-leb w 65534 l)
+    let l : w ≤ largest_number = omega arith in
+    rw (le-leb w largest_number l)
 
-pub decode_mark : (w : ℕ) → 65535 ≤ w → decode 65534 w ≡ undefined
+pub decode_mark : (w : ℕ) → 65535 ≤ w → decode largest_number w ≡ undefined
 unfolding decode bounded
 decode_mark w h =
-    let l : 65534 < w = omega arith in
-    rw (lt-leb w 65534 l)
+    let l : largest_number < w = omega arith in
+    rw (lt-leb w largest_number l)
 
 -- ── arithmetic ──
 
 abbrev Sum : ℕ → ℕ → ℕ → Type 0
-Sum a b r = (r ≡ sum_word (decode 65534 a) (decode 65534 b)) × (r < 65536)
+Sum a b r = (r ≡ sum_word (decode largest_number a) (decode largest_number b)) × (r < 65536)
 
 abbrev Difference : ℕ → ℕ → ℕ → Type 0
-Difference a b r = (r ≡ difference_word (decode 65534 a) (decode 65534 b)) × (r < 65536)
+Difference a b r = (r ≡ difference_word (decode largest_number a) (decode largest_number b)) × (r < 65536)
 
 module _ (a b : ℕ) where
   sum_fits : a + b < 65535 → Sum a b (a + b)
@@ -53,8 +53,8 @@ module _ (a b : ℕ) where
   sum_fits l =
       let h : a < 65535 = omega arith in
       let k : b < 65535 = omega arith in
-      let m : a + b ≤ 65534 = omega arith in
-      (rw (decode_number a h, decode_number b k, le-leb (a + b) 65534 m), omega arith)
+      let m : a + b ≤ largest_number = omega arith in
+      (rw (decode_number a h, decode_number b k, le-leb (a + b) largest_number m), omega arith)
 
   -- also where an operand is undefined
   sum_over : 65535 ≤ a + b → Sum a b 65535
@@ -63,8 +63,8 @@ module _ (a b : ℕ) where
     where
       go : Dec (a < 65535) → Dec (b < 65535) → Sum a b 65535
       go (yes h) (yes k) =
-          let m : 65534 < a + b = omega arith in
-          (rw (decode_number a h, decode_number b k, lt-leb (a + b) 65534 m), lit< tt)
+          let m : largest_number < a + b = omega arith in
+          (rw (decode_number a h, decode_number b k, lt-leb (a + b) largest_number m), lit< tt)
       go (yes h) (no k) =
           let m : 65535 ≤ b = omega arith in
           (rw (decode_number a h, decode_mark b m), lit< tt)
@@ -106,10 +106,10 @@ module _ (a b : ℕ) where
 -- ── comparison ──
 
 abbrev Same : ℕ → ℕ → ℕ → Type 0
-Same a b r = (r ≡ equal_word (decode 65534 a) (decode 65534 b)) × (r < 65536)
+Same a b r = (r ≡ equal_word (decode largest_number a) (decode largest_number b)) × (r < 65536)
 
 abbrev Below : ℕ → ℕ → ℕ → Type 0
-Below a b r = (r ≡ less_word (decode 65534 a) (decode 65534 b)) × (r < 65536)
+Below a b r = (r ≡ less_word (decode largest_number a) (decode largest_number b)) × (r < 65536)
 
 equal_itself : (v : Value) → truth (equal v v) ≡ 1
 unfolding truth equal
@@ -118,7 +118,7 @@ equal_itself (number n) = rw (eq-eqb n n refl)
 
 module _ (a b : ℕ) (small_a : a < 65536) (small_b : b < 65536) where
   same_words : a ≡ b → Same a b 1
-  same_words e = (sym (equal_itself (decode 65534 a)) ∙ ap (λ w. truth (equal (decode 65534 a) (decode 65534 w))) e, lit< tt)
+  same_words e = (sym (equal_itself (decode largest_number a)) ∙ ap (λ w. truth (equal (decode largest_number a) (decode largest_number w))) e, lit< tt)
 
   other_words : (a ≡ b → ⊥) → Same a b 0
   unfolding truth equal
@@ -204,18 +204,18 @@ module _ (a b r : ℕ) (small_a : a < 65536) where
 
 module _ (M : List ℕ) (at f x n : ℕ) (is_n : n ≡ stored M (row_place f)) where
   pub cell_there : (k r : ℕ) → n < 65536 → x < n → k ≡ stored M (begin_place f) → r ≡ stored M (at + (k + x)) → r < 65536
-      → (r ≡ encode 65535 (reading_in M at f (decode 65534 x ∷ []))) × (r < 65536)
+      → (r ≡ encode 65535 (reading_in M at f (decode largest_number x ∷ []))) × (r < 65536)
   unfolding reading_in apply_in_domain cell_in
   cell_there k r s h is_k e l =
       let m : x < 65535 = omega arith in
       let i : stored M (at + (stored M (begin_place f) + x)) ≡ r = ap (λ j. stored M (at + (j + x))) (sym is_k) ∙ sym e in
       (rw (decode_number x m, ← is_n, lt-ltb x n h, i) (sym (word_of_value r l)), l)
 
-  pub cell_outside : x < 65536 → n ≤ x → (65535 ≡ encode 65535 (reading_in M at f (decode 65534 x ∷ []))) × (65535 < 65536)
+  pub cell_outside : x < 65536 → n ≤ x → (65535 ≡ encode 65535 (reading_in M at f (decode largest_number x ∷ []))) × (65535 < 65536)
   unfolding reading_in apply_in_domain encode
   cell_outside s h = go (dec_lt x 65535)
     where
-      go : Dec (x < 65535) → (65535 ≡ encode 65535 (reading_in M at f (decode 65534 x ∷ []))) × (65535 < 65536)
+      go : Dec (x < 65535) → (65535 ≡ encode 65535 (reading_in M at f (decode largest_number x ∷ []))) × (65535 < 65536)
       go (yes l) = (rw (decode_number x l, ← is_n, le-ltb x n h), lit< tt)
       go (no l) =
           let k : 65535 ≤ x = omega arith in

@@ -7,7 +7,7 @@ use Rattle.eb3.specs.Expressions.{Data, Cond, evaluate_data, evaluate_cond}
 use Rattle.eb3.specs.Scopes.{Scope, DataInScope, CondInScope}
 use Rattle.eb3.specs.Spelling.{data_words, cond_words}
 use Rattle.expressions.specs.declared.valued.Valued.{Valued}
-use Rattle.expressions.specs.Stores.{environment_in}
+use Rattle.expressions.specs.Stores.{largest_number, environment_in}
 
 abbrev pub value_word : Value → ℕ
 value_word v = encode 65535 v
@@ -25,7 +25,7 @@ answer w left = w + 65536 * left
 
 -- A scope of edition 1: constants up to 65,534, of one word each; functions of one parameter.
 pub record Plain (P : Scope) : Type 0 where
-  pub largest : P.edition.top ≡ 65534
+  pub largest : P.edition.top ≡ largest_number
   pub one_word : P.edition.width ≡ 1
   pub one_parameter : P.arity ≡ (λ f. 1)
 

@@ -11,13 +11,13 @@ use Rattle.expressions.specs.declared.Operation.TheVariants.{Add, Subtract, Equa
 use Rattle.expressions.specs.declared.Connective.{Connective}
 use Rattle.expressions.specs.declared.valued.Valued.{Valued}
 use Rattle.expressions.specs.declared.Connective.TheVariants.{And, Or}
-use Rattle.expressions.specs.Stores.{stored, environment_in, reading_in}
+use Rattle.expressions.specs.Stores.{largest_number, stored, environment_in, reading_in}
 use Rattle.expressions.specs.Answering.{value_word, truth, IsValued, answer, DataAt, CondAt}
 
 -- ── what is made of two values ──
 
 abbrev pub sum_word : Value → Value → ℕ
-sum_word v w = encode 65535 (add 65534 v w)
+sum_word v w = encode 65535 (add largest_number v w)
 
 abbrev pub difference_word : Value → Value → ℕ
 difference_word v w = encode 65535 (subtract v w)

@@ -6,7 +6,7 @@
 
 ghost use Rattle.std.specs.Prelude.{◌≡◌, Bool, [], ◌∷◌, ◌≤◌, ◌<◌, length, drop, get_or};
 ghost use Rattle.eb3.specs.Values.{decode, encode, add, subtract, equal, less};
-ghost use Rattle.expressions.specs.Stores.{stored, reading_in, before_place};
+ghost use Rattle.expressions.specs.Stores.{largest_number, stored, reading_in, before_place};
 ghost use Rattle.expressions.specs.Answering.{truth, IsValued, Evaluated, Judged};
 ghost use Rattle.expressions.specs.Operands.{operated, connected, Fetched, Paired, Selected, Named, Compared, Joined, Negated};
 
@@ -36,14 +36,14 @@ const UNDEFINED: usize = 65535;
 // The word of undefined is above every number, so a sum with it is no number either.
 fn add(a: usize, b: usize) -> usize
     requires { (a < 65536) × (b < 65536) }
-    ensures { (result ≡ encode 65535 (add 65534 (decode 65534 a) (decode 65534 b))) × (result < 65536) }
+    ensures { (result ≡ encode 65535 (add largest_number (decode largest_number a) (decode largest_number b))) × (result < 65536) }
 {
     (a + b).min(UNDEFINED)
 }
 
 fn subtract(a: usize, b: usize) -> usize
     requires { (a < 65536) × (b < 65536) }
-    ensures { (result ≡ encode 65535 (subtract (decode 65534 a) (decode 65534 b))) × (result < 65536) }
+    ensures { (result ≡ encode 65535 (subtract (decode largest_number a) (decode largest_number b))) × (result < 65536) }
 {
     if a < UNDEFINED && b <= a {
         a - b
@@ -55,14 +55,14 @@ fn subtract(a: usize, b: usize) -> usize
 // Undefined equals undefined and no number: so do their words.
 fn equal(a: usize, b: usize) -> usize
     requires { (a < 65536) × (b < 65536) }
-    ensures { (result ≡ truth (equal (decode 65534 a) (decode 65534 b))) × (result < 65536) }
+    ensures { (result ≡ truth (equal (decode largest_number a) (decode largest_number b))) × (result < 65536) }
 {
     usize::from(a == b)
 }
 
 fn less(a: usize, b: usize) -> usize
     requires { (a < 65536) × (b < 65536) }
-    ensures { (result ≡ truth (less (decode 65534 a) (decode 65534 b))) × (result < 65536) }
+    ensures { (result ≡ truth (less (decode largest_number a) (decode largest_number b))) × (result < 65536) }
 {
     usize::from(a < b && b < UNDEFINED)
 }
@@ -78,7 +78,7 @@ enum Operation {
 
 fn operate(operation: Operation, a: usize, b: usize) -> usize
     requires { (a < 65536) × (b < 65536) }
-    ensures { (result ≡ operated operation (decode 65534 a) (decode 65534 b)) × (result < 65536) }
+    ensures { (result ≡ operated operation (decode largest_number a) (decode largest_number b)) × (result < 65536) }
 {
     match operation {
         Operation::Add => add(a, b),
@@ -119,7 +119,7 @@ pub fn word(m: &[u16], i: usize) -> usize
 // The cell of function f for an argument, the cells beginning at a place.
 fn cell(m: &[u16], at: usize, f: usize, x: usize) -> usize
     requires { (at < 65536) × (f < 65536) × (x < 65536) }
-    ensures { (result ≡ encode 65535 (reading_in m.now at f (decode 65534 x ∷ []))) × (result < 65536) }
+    ensures { (result ≡ encode 65535 (reading_in m.now at f (decode largest_number x ∷ []))) × (result < 65536) }
 {
     let row = store::ROWS + store::ROW_WORDS * f;
     if x < word(m, row) {

@@ -13,17 +13,23 @@ pub const SECOND_ARGUMENT: usize = 2;
 /// Where the cells begin that `before` reads.
 pub const OLD_CELLS: usize = 3;
 
+// The most functions of a rule set, and the most cells of one: its parameter's domain has at most 64 elements (document 01, "Blocks and the rule stream", items
+// 2 and 4).
+const MOST_FUNCTIONS: usize = 16;
+
+const MOST_ELEMENTS: usize = 64;
+
 /// From here a row for each function: how many cells it has, and where they begin among all cells.
-pub const ROWS: usize = 4;
+pub const ROWS: usize = OLD_CELLS + 1;
 
 /// How many words a row has.
 pub const ROW_WORDS: usize = 2;
 
-/// From here the cells that `now` reads.
-pub const CELLS: usize = 36;
+/// From here, after the rows, the cells that `now` reads.
+pub const CELLS: usize = ROWS + ROW_WORDS * MOST_FUNCTIONS;
 
 // The most cells of a rule set.
-const MOST_CELLS: usize = 1024;
+const MOST_CELLS: usize = MOST_FUNCTIONS * MOST_ELEMENTS;
 
 /// How many words a store has that holds up to 1,024 cells twice: those that `now` reads, and after them those that `before` reads.
 pub const WORDS: usize = CELLS + 2 * MOST_CELLS;

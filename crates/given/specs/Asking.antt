@@ -5,8 +5,8 @@ use Rattle.std.proofs.Math.ListN.{get_elem?}
 use Rattle.eb3.specs.Terms.{Action}
 use Rattle.eb3.specs.Moves.{Move}
 use Rattle.eb3.specs.RuleSets.{RuleSet}
-use Rattle.eb3.specs.Answers.{Answer, refused, answered, and_then}
-use Rattle.eb3.specs.Operations.{event_in, at_first}
+use Rattle.eb3.specs.Answers.{Answer, refused, answered}
+use Rattle.eb3.specs.Operations.{event_in, at_first, choice_by_number, choice_by_event}
 use Rattle.actions.specs.Codes.{action_code, Small}
 use Rattle.given.specs.declared.asking.Request.{Request}
 use Rattle.given.specs.declared.asking.Request.TheVariants as request
@@ -15,8 +15,8 @@ use Rattle.given.specs.declared.asking.Wanted.TheVariants as wanted
 
 -- Which of the listed moves: that of a number, or the first with the event's action; refusal 11 where the event is none.
 unfoldable pub asked_of : Request → RuleSet → Answer (List Move → Optional Move)
-asked_of (request.Move k) R = answered (λ xs. get_elem? xs k)
-asked_of (request.Event event) R = and_then (event_in R event.now) λ ρ. answered (at_first ρ)
+asked_of (request.Move k) R = choice_by_number k
+asked_of (request.Event event) R = choice_by_event R event.now
 
 -- The number of an event's action; none where there is no event.
 unfoldable pub event_asked : Answer Action → Option Wanted

@@ -11,7 +11,7 @@ use Rattle.eb3.specs.Semantics.{Sem_M}
 use Rattle.eb3.specs.Memory.{cell_room}
 use Rattle.eb3.specs.Operations.{cells_given}
 use Rattle.declarations.specs.Directory.{Directory, row_width}
-use Rattle.expressions.specs.Stores.{now_place, before_place}
+use Rattle.expressions.specs.Stores.{largest_number, now_place, before_place}
 use Rattle.actions.specs.Codes.{action_code}
 use Rattle.cells.specs.Layout.{Laid, Holds}
 
@@ -20,7 +20,7 @@ pub record Stored (R : RuleSet) (cells : List Value) (M : List ℕ) : Type 0 whe
   pub laid : Laid (attributes R) M
   pub holds : Holds M now_place cells
   pub counted : length cells ≡ total_cells (attributes R)
-  pub at_most : ValuesAtMost 65534 cells
+  pub at_most : ValuesAtMost largest_number cells
   pub old_place : before_place M ≡ now_place + total_cells (attributes R)
   pub room : now_place + 2 * total_cells (attributes R) ≤ length M
 

@@ -15,7 +15,7 @@ use Rattle.scan.specs.Laws.Checking.{part, back_rest}
 use Rattle.actions.specs.Codes.{action_code}
 use Rattle.listing.specs.Listing.{Fits, TermAt}
 use Rattle.listing.specs.Rows.{terms_words}
-use Rattle.codes.specs.Laws.Skipping.{all_append}
+use Rattle.eb3.specs.Generic.AllLists.{all_append}
 use Rattle.listing.specs.Laws.Rows.{terms_append}
 use Rattle.listing.specs.Laws.Positions.{term_front}
 use Rattle.listing.specs.Laws.ByCode.{by_perform as of_perform, by_sequence as of_sequence, by_choice as of_choice, by_star as of_star, by_parallel as of_parallel, by_guard as of_guard}

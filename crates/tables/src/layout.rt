@@ -11,7 +11,8 @@ ghost use Rattle.tables.specs.Layout.{label_words, label_place, process_place};
 // The most domains, labels and processes of a rule set, and the most parameters of a label and of a process.
 const MOST_DOMAINS: usize = 16;
 
-const MOST_LABELS: usize = 64;
+/// The most labels of a rule set.
+pub const MOST_LABELS: usize = 64;
 
 const MOST_PROCESSES: usize = 32;
 

@@ -13,26 +13,16 @@ use Rattle.eb3.specs.Expressions.{Reading}
 use Rattle.eb3.specs.Terms.{VisibleAction}
 use Rattle.eb3.specs.Attributes.{Attributes, domain}
 use Rattle.eb3.specs.Cells.{cell_count, cell_index, offset, cells_up_to}
-use Rattle.eb3.proofs.Laws.Cells.{length_cells}
+use Rattle.eb3.proofs.Laws.Cells.{length_cells, cells_apart}
 
 -- ── the places of a function's cells ──
-
--- A function's cells are before those of every later function.
-pub cells_below : (A : Attributes) (g i : ℕ) → g < i → offset A g + cell_count (domain A g) ≤ offset A i
-unfolding offset
-cells_below A g zero h = omega arith
-cells_below A g (suc i) h = go (λ l. cells_below A g i l) (ℕ_discrete g i)
-  where
-    go : (g < i → offset A g + cell_count (domain A g) ≤ offset A i) → Dec (g ≡ i) → offset A g + cell_count (domain A g) ≤ offset A i + cell_count (domain A i)
-    go k (yes e) = rw e (omega arith)
-    go k (no n) = let m = k (omega arith) in omega arith
 
 pub offset_mono : (A : Attributes) (g i : ℕ) → g ≤ i → offset A g ≤ offset A i
 offset_mono A g i h = go (ℕ_discrete g i)
   where
     go : Dec (g ≡ i) → offset A g ≤ offset A i
     go (yes e) = rw e (omega arith)
-    go (no n) = let m = cells_below A g i (omega arith) in omega arith
+    go (no n) = let m = cells_apart A g i (omega arith) in omega arith
 
 pub one_count : (n : ℕ) → cell_count (n ∷ []) ≡ n
 unfolding cell_count

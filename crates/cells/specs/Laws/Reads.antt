@@ -16,7 +16,8 @@ use Rattle.eb3.specs.Values.{ValuesAtMost}
 use Rattle.expressions.specs.Stores.{stored, row_place, now_place, cell_in, reading_in, environment_in, begin_place}
 use Rattle.expressions.specs.Answering.{Plain}
 use Rattle.cells.specs.Layout.{RowLaid, Laid, Holds}
-use Rattle.cells.specs.Laws.Cells.{cells_below, one_count, one_index}
+use Rattle.eb3.proofs.Laws.Cells.{cells_apart}
+use Rattle.cells.specs.Laws.Cells.{one_count, one_index}
 use Rattle.cells.specs.Agreement.{Agree, cond_agrees}
 use Rattle.cells.specs.Reads.{Begun}
 
@@ -70,7 +71,7 @@ module _ (A : Attributes) (M : List ℕ) (laid : Laid A M) (cells : List Value) 
   pub reads_cells : (at : ℕ) → Holds M at cells → (f : ℕ) → f < number_of_functions A → (vs : List Value) → reading_in M at f vs ≡ cell_at A cells f vs
   reads_cells at holds f h vs =
       let begun : Begun M at cells (total_cells A) = record { words = λ c l. holds c (omega (arith, all)); small = λ c l. value_at_most cells small c } in
-      begun_reads A M at cells (total_cells A) begun f (laid f h) (cells_below A f (number_of_functions A) h) vs
+      begun_reads A M at cells (total_cells A) begun f (laid f h) (cells_apart A f (number_of_functions A) h) vs
 
   pub guard_judged : Holds M now_place cells → (C : Cond) → Plain (guard_scope A 0) → CondInScope C (guard_scope A 0)
       → evaluate_cond C (environment_in M) ≡ guard_holds A (cell_at A cells) C

@@ -16,7 +16,7 @@ use Rattle.eb3.specs.Terms.{VisibleAction}
 use Rattle.eb3.specs.Attributes.{Attributes, domain, function, expression, variables_in_scope, number_of_functions, apply_in_domain, evaluate}
 use Rattle.eb3.proofs.Laws.Attributes.{apply_cong}
 use Rattle.eb3.specs.Cells.{cell_count, offset, total_cells, cell_at, cells_up_to}
-use Rattle.eb3.proofs.Laws.Cells.{length_cells, renewed}
+use Rattle.eb3.proofs.Laws.Cells.{length_cells, cells_apart, renewed}
 use Rattle.scan.specs.Checking.{last_of}
 use Rattle.expressions.specs.declared.valued.Valued.{Valued}
 use Rattle.expressions.specs.Stores.{stored, row_place, now_place, before_place, cell_in, reading_in, variable_in, environment_in, parameter_place, argument_place, old_cells_place, begin_place}
@@ -24,7 +24,7 @@ use Rattle.expressions.specs.Answering.{DataAt, Evaluated}
 use Rattle.expressions.specs.Laws.Answering.{data_parted, data_at_most}
 use Rattle.cells.specs.Layout.{RowLaid}
 use Rattle.cells.specs.Filling.{arguments_of, Ready, Filling, Filled}
-use Rattle.cells.specs.Laws.Cells.{cells_below, next_offset, cells_first}
+use Rattle.cells.specs.Laws.Cells.{next_offset, cells_first}
 use Rattle.cells.specs.Agreement.{Agree, data_agrees}
 use Rattle.cells.specs.Reads.{Begun}
 use Rattle.cells.specs.Laws.Reads.{row_cells, row_index, begun_reads}
@@ -107,7 +107,7 @@ module _ {t : List ℕ} {f left : ℕ} (T : Turn t f left) (M' : List ℕ) (x y 
   now_reads : (g : ℕ) → g < here.scope.now → (vs : List Value) → reading_in M'' now_place g vs ≡ cell_at T.A new g vs
   now_reads g h vs =
       let k : g < f = let n = here.names_below in omega arith in
-      begun_reads T.A M'' now_place new (offset T.A f) begun_below g (row_laid g k) (cells_below T.A g f k) vs
+      begun_reads T.A M'' now_place new (offset T.A f) begun_below g (row_laid g k) (cells_apart T.A g f k) vs
 
   before_reads : (g : ℕ) → g < here.scope.before → (vs : List Value) → reading_in M'' (before_place M'') g vs ≡ T.b g vs
   before_reads g h vs =
@@ -165,7 +165,7 @@ module _ {t : List ℕ} {f left : ℕ} (T : Turn t f left) (m : List ℕ) (enter
   count_here = row_cells T.A T.M f row_here ∙ sym size_here
 
   pub cells_here : offset T.A f + k ≤ total_cells T.A
-  cells_here = let h = cells_below T.A f (number_of_functions T.A) (subst (λ n. f < n) T.filling.functions T.known) in omega (arith, count_here)
+  cells_here = let h = cells_apart T.A f (number_of_functions T.A) (subst (λ n. f < n) T.filling.functions T.known) in omega (arith, count_here)
 
   pub turn_room : now_place + p + k ≤ length m
   turn_room = let r = T.filling.room in let h = cells_here in omega (arith, begin_here, entered.same_length)

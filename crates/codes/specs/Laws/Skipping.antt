@@ -2,7 +2,7 @@
 -- before their operands", "Moves, in order").
 use Rattle.std.specs.Prelude.{◌≡◌, refl, Bool, true, false, ◌&&◌, cond, List, [], ◌∷◌, ◌++◌, ℕ, zero, suc, ◌+◌, ◌*◌, ◌-◌, ◌≤◌, ◌<◌, T, eqb, length, drop, get_or}
 use Rattle.std.proofs.Common.{sym, ap, ◌∙◌, subst, append_assoc, arith, length-append, length-drop, drop-drop, drop_at, get_or-drop, eqb→eq}
-use Rattle.eb3.specs.Generic.AllLists.{All}
+use Rattle.eb3.specs.Generic.AllLists.{All, all_append}
 use Rattle.eb3.specs.Scopes.{Scope}
 use Rattle.eb3.specs.Terms.{Term, Done, Internal, Perform, Sequence, Choice, Star, Parallel, Guard}
 use Rattle.eb3.specs.Sizes.{breadth}
@@ -54,10 +54,6 @@ idle_start shape s P E rest h = record { pieces = of_term E ∷ []; spelt = h.sp
 row_append : (w : ℕ) (xs ys : List Piece) → row_words w (xs ++ ys) ≡ row_words w xs ++ row_words w ys
 row_append w [] ys = refl
 row_append w (x ∷ xs) ys = ap (λ l. piece_words w x ++ l) (row_append w xs ys) ∙ sym (append_assoc (piece_words w x) (row_words w xs) (row_words w ys))
-
-pub all_append : {A : Type 0} (Q : A → Type 0) (xs ys : List A) → All Q xs → All Q ys → All Q (xs ++ ys)
-all_append Q [] ys h k = k
-all_append Q (x ∷ xs) ys h k = (h.0, all_append Q xs ys h.1 k)
 
 -- Operands before what was due already: those of data and conditions before anything, those of a term before terms.
 ordered_inner : (ops xs : List Piece) → Inner ops → Ordered xs → Ordered (ops ++ xs)

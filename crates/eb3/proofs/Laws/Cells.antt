@@ -64,11 +64,11 @@ module _ (A : Attributes) where
   length_cells o b zero = refl
   length_cells o b (suc i) = length-append (cells_up_to A o b i) _ ∙ (λ j. length_cells o b i j + length_tabulate (domain A i) (evaluate A o (cell_at A (cells_up_to A o b i)) b i) j)
 
-  -- The rows of different functions do not meet.
-  offset_mono : (g i : ℕ) → g < i → offset A g + cell_count (domain A g) ≤ offset A i
+  -- A function's cells are before those of every later function.
+  pub cells_apart : (g i : ℕ) → g < i → offset A g + cell_count (domain A g) ≤ offset A i
   unfolding offset
-  offset_mono g zero h = omega arith
-  offset_mono g (suc i) h = go (λ l. offset_mono g i l) (ℕ_discrete g i)
+  cells_apart g zero h = omega arith
+  cells_apart g (suc i) h = go (λ l. cells_apart g i l) (ℕ_discrete g i)
     where
       go : (g < i → offset A g + cell_count (domain A g) ≤ offset A i) → Dec (g ≡ i) → offset A g + cell_count (domain A g) ≤ offset A i + cell_count (domain A i)
       go k (yes e) = rw e (omega arith)
@@ -79,8 +79,8 @@ module _ (A : Attributes) where
   cell_at_other i g xs ys p q n v = apply_cong (domain A g) _ _ (λ es w. go (cell_index (domain A g) es) (cell_index_below (domain A g) es w) (dec_lt g i)) v
     where
       go : (e : ℕ) → e < cell_count (domain A g) → Dec (g < i) → get_or (xs ++ ys) (offset A g + e) undefined ≡ get_or xs (offset A g + e) undefined
-      go e l (yes h) = get_or-append xs ys undefined (offset A g + e) (omega (arith, offset_mono g i h))
-      go e l (no h) = let m : offset A i + cell_count (domain A i) ≤ offset A g = offset_mono i g (omega arith) in
+      go e l (yes h) = get_or-append xs ys undefined (offset A g + e) (omega (arith, cells_apart g i h))
+      go e l (no h) = let m : offset A i + cell_count (domain A i) ≤ offset A g = cells_apart i g (omega arith) in
           get_or-eq_default (xs ++ ys) undefined (omega (arith, length-append xs ys)) ∙ sym (get_or-eq_default xs undefined (omega arith))
 
   cell_at_here : (i : ℕ) (xs : List Value) (h : List ℕ → Value) → length xs ≡ offset A i → (v : List Value) → cell_at A (xs ++ tabulate (domain A i) h) i v ≡ apply_in_domain (domain A i) h v
@@ -158,7 +158,7 @@ module _ (A : Attributes) (o : Option VisibleAction) (b : Reading) where
   unfolding cell_at
   prefix_cells f cells equal g l v =
       apply_cong (domain A g) (λ ys. get_or cells (offset A g + cell_index (domain A g) ys) undefined) (λ ys. get_or (cells_up_to A o b f) (offset A g + cell_index (domain A g) ys) undefined)
-      (λ ys w. equal (offset A g + cell_index (domain A g) ys) (omega (arith, cell_index_below (domain A g) ys w, offset_mono A g f l))) v
+      (λ ys w. equal (offset A g + cell_index (domain A g) ys) (omega (arith, cell_index_below (domain A g) ys w, cells_apart A g f l))) v
       ∙ cell_at_now A o b f g v
 
   -- So the value computed over the buffer is the cell.

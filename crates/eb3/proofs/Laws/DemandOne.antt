@@ -28,7 +28,7 @@ use Rattle.eb3.proofs.Laws.Answers.{not_both, answered_injective, refused_inject
 use Rattle.eb3.proofs.Laws.Refusals.{Within, and_then_within, or_refused_within, admission_within, refused_within}
 use Rattle.eb3.specs.Admission.{admission}
 use Rattle.eb3.proofs.Laws.Admission.{admitted}
-use Rattle.eb3.specs.Operations.{cells_needed, main_reach, sizes_needed, term_fits, memory_fits, even, term_in, event_in, listed, writing, started, moved, chosen, at_first, ran, admit, start, count, move, present, run, ran_with, tabling, run_fits}
+use Rattle.eb3.specs.Operations.{cells_needed, main_reach, sizes_needed, term_fits, memory_fits, even, term_in, event_in, listed, writing, started, started_at, counted_at, stepped_from, choice_by_event, moved, chosen, at_first, ran, admit, start, count, move, present, run, ran_with, tabling, run_fits}
 use Rattle.eb3.specs.Demands.{Roomy, RefusedAs, RefusalsHold, SpaceHolds}
 use Rattle.eb3.proofs.Laws.DemandThree.{admit_reports, fits, run_judged}
 use Rattle.eb3.specs.Readers.{numbers_in, lets_through}
@@ -101,8 +101,9 @@ module _ (rules : List ℕ) where
   unfolding present one_of all_of
   present_as term memory event next_term next_memory = writing_as Refusal.of_present next_term next_memory (admission rules) _ (admitted_within Refusal.of_present tt) (λ R.
       writing_as Refusal.of_present next_term next_memory (term_in R term) _ (within_more Refusal.of_present of_term tt (term_in R term) (term_within R term)) (λ E.
-      writing_as Refusal.of_present next_term next_memory (event_in R event) _ (within_more Refusal.of_present of_event tt (event_in R event) (event_within R event)) (λ ρ.
-      chosen_as Refusal.of_present tt tt R E memory next_term next_memory (at_first ρ))))
+      writing_as Refusal.of_present next_term next_memory (choice_by_event R event) _
+      (and_then_within Refusal.of_present (event_in R event) _ (within_more Refusal.of_present of_event tt (event_in R event) (event_within R event)) (λ ρ. tt))
+      (chosen_as Refusal.of_present tt tt R E memory next_term next_memory)))
 
   -- Run: what it leaves of the buffers and of the table, where it is refused.
   module _ (list table term memory spare_term spare_memory : List ℕ) where
@@ -143,7 +144,7 @@ pub start_writes : (rules : List ℕ) (S : Sizes) (R : RuleSet) → admission ru
 unfolding start
 start_writes rules S R a s term memory room =
     let f = fits S R s term memory room (main_reach R) (omega arith) in
-    ap (λ x. writing term memory x λ R. pick (term_fits (main_reach R) term && memory_fits R memory) (started term memory R) (unwritten term memory Refusal.space)) a
+    ap (λ x. writing term memory x λ R. started_at term memory R) a
     ∙ pick_true _ _ (term_fits (main_reach R) term && memory_fits R memory) (T_and (term_fits (main_reach R) term) (memory_fits R memory) f.0 f.1)
 
 module _ (rules : List ℕ) (S : Sizes) (R : RuleSet) (a : admission rules ≡ answered R) (s : sizes_needed R ≡ S) where
@@ -167,9 +168,9 @@ module _ (rules : List ℕ) (S : Sizes) (R : RuleSet) (a : admission rules ≡ a
   count_roomy : (term memory : List ℕ) → S.cells ≤ cell_room memory → count rules term memory ≡ refused Refusal.space → ⊥
   unfolding count and_then one_of
   count_roomy term memory room e = go (term_in R term) (term_within R term)
-      (sym (ap (λ x. and_then x λ R. and_then (term_in R term) λ E. pick (memory_fits R memory) (answered (length (listed R E memory))) (refused Refusal.space)) a) ∙ e)
+      (sym (ap (λ x. and_then x λ R. and_then (term_in R term) λ E. counted_at R E memory) a) ∙ e)
     where
-      go : (x : Answer Term) → Within of_term x → and_then x (λ E. pick (memory_fits R memory) (answered (length (listed R E memory))) (refused Refusal.space)) ≡ refused Refusal.space → ⊥
+      go : (x : Answer Term) → Within of_term x → and_then x (λ E. counted_at R E memory) ≡ refused Refusal.space → ⊥
       go (refused k) w f = not_space {X = ℕ} k (λ p. subst (λ n. T (one_of of_term n)) p w) f
       go (answered E) w f = not_both Refusal.space (length (listed R E memory)) (sym f ∙ pick_true _ _ (memory_fits R memory) (memory_roomy memory room))
 
@@ -200,14 +201,14 @@ module _ (rules : List ℕ) (S : Sizes) (R : RuleSet) (a : admission rules ≡ a
         chosen_roomy E memory next_term next_memory (λ xs. get_elem? xs k) room₁ room₂ room₃ (ap (λ (w : Written Moved). w.answer) (sym p) ∙ e)
 
     present_roomy : (event : List ℕ) → (present rules term memory event next_term next_memory).answer ≡ refused Refusal.space → ⊥
-    unfolding present one_of
+    unfolding present one_of and_then
     present_roomy event e =
-        let p : present rules term memory event next_term next_memory ≡ writing next_term next_memory (event_in R event) (λ ρ. chosen R E memory next_term next_memory (at_first ρ)) =
-        ap (λ x. writing next_term next_memory x λ R. writing next_term next_memory (term_in R term) λ E. writing next_term next_memory (event_in R event) λ ρ. chosen R E memory next_term next_memory (at_first ρ)) a
-        ∙ ap (λ x. writing next_term next_memory x λ E. writing next_term next_memory (event_in R event) λ ρ. chosen R E memory next_term next_memory (at_first ρ)) given in
+        let p : present rules term memory event next_term next_memory ≡ stepped_from R E memory next_term next_memory (choice_by_event R event) =
+        ap (λ x. writing next_term next_memory x λ R. writing next_term next_memory (term_in R term) λ E. stepped_from R E memory next_term next_memory (choice_by_event R event)) a
+        ∙ ap (λ x. writing next_term next_memory x λ E. stepped_from R E memory next_term next_memory (choice_by_event R event)) given in
         go (event_in R event) (event_within R event) (ap (λ (w : Written Moved). w.answer) (sym p) ∙ e)
       where
-        go : (x : Answer Action) → Within of_event x → (writing next_term next_memory x (λ ρ. chosen R E memory next_term next_memory (at_first ρ))).answer ≡ refused Refusal.space → ⊥
+        go : (x : Answer Action) → Within of_event x → (stepped_from R E memory next_term next_memory (and_then x λ ρ. answered (at_first ρ))).answer ≡ refused Refusal.space → ⊥
         go (refused k) w f = not_space {X = Moved} k (λ p. subst (λ n. T (one_of of_event n)) p w) f
         go (answered ρ) w f = chosen_roomy E memory next_term next_memory (at_first ρ) room₁ room₂ room₃ f
 

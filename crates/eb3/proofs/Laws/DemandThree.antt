@@ -33,11 +33,11 @@ use Rattle.eb3.specs.Bytes.{words_in, word_count, written}
 use Rattle.eb3.proofs.Laws.Bytes.{written_length}
 use Rattle.eb3.specs.Memory.{cell_room, memory_words}
 use Rattle.eb3.proofs.Laws.Memory.{memory_length}
-use Rattle.eb3.specs.Answers.{refused, answered, and_then, Sizes, Ran, Written, or_refused, Tabled, untabled}
+use Rattle.eb3.specs.Answers.{answered, and_then, Sizes, Ran, Written, or_refused, Tabled, untabled}
 use Rattle.eb3.proofs.Laws.Answers.{and_then_answered, answered_injective}
 use Rattle.eb3.specs.Admission.{admission}
 use Rattle.eb3.proofs.Laws.Admission.{admitted}
-use Rattle.eb3.specs.Operations.{cells_needed, main_reach, sizes_needed, term_fits, memory_fits, term_in, cells_given, listed, writing, moved, chosen, admit, count, move, run, ran_with, reader_counts, tabling, run_fits}
+use Rattle.eb3.specs.Operations.{cells_needed, main_reach, sizes_needed, term_fits, memory_fits, term_in, cells_given, listed, writing, counted_at, moved, chosen, admit, count, move, run, ran_at, ran_with, reader_counts, tabling, run_fits}
 use Rattle.eb3.proofs.Laws.Operations.{cut_back, values_back}
 use Rattle.eb3.specs.Demands.{Roomy, last_term, last_trace, history_moves, values_words, run_result, move_result, cut, after, Demand3, Demand3Holds, TableAfter}
 use Rattle.eb3.specs.Readers.{numbers_in, readers_in, lets_through, increased}
@@ -84,8 +84,8 @@ module _ (rules : List ℕ) (S : Sizes) (R : RuleSet) (a : admission rules ≡ a
     pub count_there : count rules term memory ≡ answered (length there)
     unfolding count and_then
     count_there =
-        ap (λ x. and_then x λ R. and_then (term_in R term) λ E. pick (memory_fits R memory) (answered (length (listed R E memory))) (refused Refusal.space)) a
-        ∙ (ap (λ x. and_then x λ E. pick (memory_fits R memory) (answered (length (listed R E memory))) (refused Refusal.space)) given
+        ap (λ x. and_then x λ R. and_then (term_in R term) λ E. counted_at R E memory) a
+        ∙ (ap (λ x. and_then x λ E. counted_at R E memory) given
         ∙ (pick_true _ _ (memory_fits R memory) memory_has_room ∙ ap (λ l. answered (length l)) listed_is))
 
     -- Move k, up to the entry of the list.
@@ -110,8 +110,7 @@ module _ (rules : List ℕ) (S : Sizes) (R : RuleSet) (a : admission rules ≡ a
       → run rules list table term memory spare_term spare_memory ≡ pick (lets_through list table) (ran_with list table term memory R) (untabled table term memory Refusal.reader)
   unfolding run
   run_judged list table term memory spare_term spare_memory room spare =
-      ap (λ x. tabling table term memory x λ R. pick (run_fits R term memory spare_term spare_memory)
-      (pick (lets_through list table) (ran_with list table term memory R) (untabled table term memory Refusal.reader)) (untabled table term memory Refusal.space)) a
+      ap (λ x. tabling table term memory x λ R. ran_at list table term memory spare_term spare_memory R) a
       ∙ pick_true _ _ (run_fits R term memory spare_term spare_memory) (run_has_room S R s term memory spare_term spare_memory room spare)
 
   -- The run from the start.

@@ -23,9 +23,9 @@ use Rattle.eb3.specs.Reading.{pick}
 use Rattle.eb3.proofs.Laws.Reading.{pick_true}
 use Rattle.eb3.specs.Bytes.{word_count, written}
 use Rattle.eb3.specs.Memory.{cell_room, memory_words}
-use Rattle.eb3.specs.Answers.{refused, answered, and_then, Moved, Written, unwritten}
+use Rattle.eb3.specs.Answers.{answered, and_then, Moved, Written, unwritten}
 use Rattle.eb3.specs.Admission.{admission}
-use Rattle.eb3.specs.Operations.{cells_needed, term_fits, memory_fits, term_in, event_in, cells_given, listed, numbered, at_first, writing, moved, chosen, count, move, present}
+use Rattle.eb3.specs.Operations.{cells_needed, term_fits, memory_fits, term_in, event_in, cells_given, listed, numbered, at_first, writing, counted_at, stepped_from, choice_by_event, moved, chosen, count, move, present}
 use Rattle.eb3.specs.Answers.{or_refused}
 use Rattle.eb3.specs.Demands.{cells_now, derived_result, Demand2, Demand2Holds}
 
@@ -39,11 +39,11 @@ module _ (rules term memory : List ℕ) (R : RuleSet) (E : Term) (a : admission 
 
   present_past : (ρ : Action) (event : List ℕ) → event_in R event ≡ answered ρ → (next_term next_memory : List ℕ)
       → present rules term memory event next_term next_memory ≡ chosen R E memory next_term next_memory (at_first ρ)
-  unfolding present
+  unfolding present and_then
   present_past ρ event e next_term next_memory =
-      ap (λ x. writing next_term next_memory x λ R. writing next_term next_memory (term_in R term) λ E. writing next_term next_memory (event_in R event) λ ρ. chosen R E memory next_term next_memory (at_first ρ)) a
-      ∙ (ap (λ x. writing next_term next_memory x λ E. writing next_term next_memory (event_in R event) λ ρ. chosen R E memory next_term next_memory (at_first ρ)) given
-      ∙ ap (λ x. writing next_term next_memory x λ ρ. chosen R E memory next_term next_memory (at_first ρ)) e)
+      ap (λ x. writing next_term next_memory x λ R. writing next_term next_memory (term_in R term) λ E. stepped_from R E memory next_term next_memory (choice_by_event R event)) a
+      ∙ (ap (λ x. writing next_term next_memory x λ E. stepped_from R E memory next_term next_memory (choice_by_event R event)) given
+      ∙ ap (λ x. stepped_from R E memory next_term next_memory (and_then x λ ρ. answered (at_first ρ))) e)
 
   -- What is chosen counts only by what it gives of the list.
   chosen_alike : (next_term next_memory : List ℕ) (f g : List Move → Option Move) → f (listed R E memory) ≡ g (listed R E memory)
@@ -70,8 +70,8 @@ module _ (rules term memory : List ℕ) (R : RuleSet) (E : Term) (a : admission 
     count_at : count rules term memory ≡ answered (length (listed R E memory))
     unfolding count and_then
     count_at =
-        ap (λ x. and_then x λ R. and_then (term_in R term) λ E. pick (memory_fits R memory) (answered (length (listed R E memory))) (refused Refusal.space)) a
-        ∙ (ap (λ x. and_then x λ E. pick (memory_fits R memory) (answered (length (listed R E memory))) (refused Refusal.space)) given
+        ap (λ x. and_then x λ R. and_then (term_in R term) λ E. counted_at R E memory) a
+        ∙ (ap (λ x. and_then x λ E. counted_at R E memory) given
         ∙ pick_true _ _ (memory_fits R memory) (le→leb (cells_needed R) (cell_room memory) room))
 
     -- A transition's outcome, written.

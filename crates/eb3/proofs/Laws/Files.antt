@@ -27,7 +27,7 @@ use Rattle.eb3.proofs.Laws.Reading.{pick_true}
 use Rattle.eb3.proofs.Laws.RuleReadingComplete.{rules_takes}
 use Rattle.eb3.proofs.Laws.RuleSpelling.{rules_small}
 use Rattle.eb3.proofs.Laws.Spelling.{Small, small_append}
-use Rattle.eb3.specs.Generic.AllLists.{All}
+use Rattle.eb3.specs.Generic.AllLists.{All, all_append}
 
 pub eq→eqb : (m n : ℕ) → m ≡ n → T (eqb m n)
 eq→eqb m n e = subst (λ x. T (eqb m x)) e (eqb_refl m)
@@ -193,10 +193,6 @@ unfolding bytes_of
 bytes_small [] = tt
 bytes_small (w ∷ ws) = (omega arith, (omega arith, bytes_small ws))
 
-all_append : (s t : List ℕ) → Bytes s → Bytes t → Bytes (s ++ t)
-all_append [] t p q = q
-all_append (b ∷ s) t p q = (p.0, all_append s t p.1 q)
-
 all_take : (n : ℕ) (s : List ℕ) → Bytes s → Bytes (take n s)
 all_take zero s p = tt
 all_take (suc n) [] p = tt
@@ -217,8 +213,8 @@ unfolding blocks_from block_of
 blocks_small i zero s p = tt
 blocks_small i (suc n) s p =
     let h = sums_small (record { a = 0; b = 0 }) (bytes_of (i ∷ []) ++ take content_bytes s) (omega arith, omega arith) in
-    all_append (block_of i (take content_bytes s)) (blocks_from (suc i) n (drop content_bytes s))
-    (all_append (bytes_of (i ∷ [])) _ (bytes_small (i ∷ [])) (h.0, (h.1, all_take content_bytes s p))) (blocks_small (suc i) n (drop content_bytes s) (all_drop content_bytes s p))
+    all_append (λ b. b < 256) (block_of i (take content_bytes s)) (blocks_from (suc i) n (drop content_bytes s))
+    (all_append (λ b. b < 256) (bytes_of (i ∷ [])) _ (bytes_small (i ∷ [])) (h.0, (h.1, all_take content_bytes s p))) (blocks_small (suc i) n (drop content_bytes s) (all_drop content_bytes s p))
 
 -- A file is made of bytes.
 pub file_bytes : (R : RuleSet) → Bytes (file_of R)

@@ -13,7 +13,7 @@ use Rattle.eb3.specs.Reading.{pick}
 use Rattle.eb3.specs.Answers.{Answer, refused, answered, and_then, Ran, Written, unwritten, Tabled, untabled}
 use Rattle.eb3.specs.Readers.{lets_through}
 use Rattle.eb3.specs.Admission.{admission}
-use Rattle.eb3.specs.Operations.{sizes_needed, term_fits, memory_fits, term_in, event_in, listed, writing, at_first, started, moved, chosen, admit, start, count, move, present, run, ran_with, tabling}
+use Rattle.eb3.specs.Operations.{sizes_needed, term_fits, memory_fits, term_in, event_in, listed, writing, at_first, started, counted_at, stepped_from, choice_by_event, moved, chosen, admit, start, count, move, present, run, ran_with, tabling}
 use Rattle.eb3.specs.Answers.{or_refused}
 use Rattle.eb3.specs.Demands.{Demand1Order, OrderHolds}
 
@@ -28,8 +28,9 @@ module _ (rules list table term memory event next_term next_memory spare_term sp
   by_term : {X : Type 0} (R : RuleSet) (f : Term → Written X) (r : Answer Term) → term_in R term ≡ r → writing next_term next_memory (term_in R term) f ≡ writing next_term next_memory r f
   by_term R f r e = ap (λ x. writing next_term next_memory x f) e
 
-  by_event : {X : Type 0} (R : RuleSet) (f : Action → Written X) (r : Answer Action) → event_in R event ≡ r → writing next_term next_memory (event_in R event) f ≡ writing next_term next_memory r f
-  by_event R f r e = ap (λ x. writing next_term next_memory x f) e
+  by_event : (R : RuleSet) (E : Term) (r : Answer Action) → event_in R event ≡ r
+      → stepped_from R E memory next_term next_memory (choice_by_event R event) ≡ stepped_from R E memory next_term next_memory (and_then r λ ρ. answered (at_first ρ))
+  by_event R E r e = ap (λ x. stepped_from R E memory next_term next_memory (and_then x λ ρ. answered (at_first ρ))) e
 
   without_room : (R : RuleSet) (E : Term) (choose : List Move → Option Move) → (term_fits (reach R.edition.width E) next_term && (memory_fits R memory && memory_fits R next_memory)) ≡ false
       → chosen R E memory next_term next_memory choose ≡ unwritten next_term next_memory Refusal.space
@@ -45,26 +46,26 @@ module _ (rules list table term memory event next_term next_memory spare_term sp
     admission_first = λ j e. (
       ap (λ x. and_then x λ R. answered (sizes_needed R)) e,
       by_rules term memory _ (refused j) e,
-      ap (λ x. and_then x λ R. and_then (term_in R term) λ E. pick (memory_fits R memory) (answered (length (listed R E memory))) (refused Refusal.space)) e,
+      ap (λ x. and_then x λ R. and_then (term_in R term) λ E. counted_at R E memory) e,
       by_rules next_term next_memory _ (refused j) e,
       by_rules next_term next_memory _ (refused j) e,
       by_rules_tabled _ (refused j) e,
     );
     term_next = λ R a j e. (
-      ap (λ x. and_then x λ R. and_then (term_in R term) λ E. pick (memory_fits R memory) (answered (length (listed R E memory))) (refused Refusal.space)) a
-          ∙ ap (λ x. and_then x λ E. pick (memory_fits R memory) (answered (length (listed R E memory))) (refused Refusal.space)) e,
+      ap (λ x. and_then x λ R. and_then (term_in R term) λ E. counted_at R E memory) a
+          ∙ ap (λ x. and_then x λ E. counted_at R E memory) e,
       by_rules next_term next_memory _ (answered R) a ∙ by_term R _ (refused j) e,
       by_rules next_term next_memory _ (answered R) a ∙ by_term R _ (refused j) e,
     );
-    event_next = λ R E a t j e. by_rules next_term next_memory _ (answered R) a ∙ by_term R _ (answered E) t ∙ by_event R _ (refused j) e;
+    event_next = λ R E a t j e. by_rules next_term next_memory _ (answered R) a ∙ by_term R _ (answered E) t ∙ by_event R E (refused j) e;
     space_before_offer = λ R E a t e. (
       by_rules next_term next_memory _ (answered R) a ∙ by_term R _ (answered E) t ∙ without_room R E (λ xs. get_elem? xs k) e,
-      λ ρ v. by_rules next_term next_memory _ (answered R) a ∙ by_term R _ (answered E) t ∙ by_event R _ (answered ρ) v ∙ without_room R E (at_first ρ) e,
+      λ ρ v. by_rules next_term next_memory _ (answered R) a ∙ by_term R _ (answered E) t ∙ by_event R E (answered ρ) v ∙ without_room R E (at_first ρ) e,
     );
     start_short = λ R a e. by_rules term memory _ (answered R) a ∙ ap (λ b. pick b (started term memory R) (unwritten term memory Refusal.space)) e;
     count_short = λ R E a t e.
-        ap (λ x. and_then x λ R. and_then (term_in R term) λ E. pick (memory_fits R memory) (answered (length (listed R E memory))) (refused Refusal.space)) a
-        ∙ (ap (λ x. and_then x λ E. pick (memory_fits R memory) (answered (length (listed R E memory))) (refused Refusal.space)) t
+        ap (λ x. and_then x λ R. and_then (term_in R term) λ E. counted_at R E memory) a
+        ∙ (ap (λ x. and_then x λ E. counted_at R E memory) t
         ∙ ap (λ b. pick b (answered (length (listed R E memory))) (refused Refusal.space)) e);
     run_short = λ R a e. by_rules_tabled _ (answered R) a ∙ ap (λ b. pick b (read_by R) (untabled table term memory Refusal.space)) e;
     run_reader = λ R a e f. by_rules_tabled _ (answered R) a

@@ -1,5 +1,5 @@
 -- Properties of every entry of a list. Generic.
-use Rattle.std.specs.Prelude.{◌≡◌, refl, List, [], ◌∷◌, ℕ, zero, suc, ◌+◌, ◌<◌, length, get_or}
+use Rattle.std.specs.Prelude.{◌≡◌, refl, List, [], ◌∷◌, ◌++◌, ℕ, zero, suc, ◌+◌, ◌<◌, length, get_or}
 use Rattle.std.proofs.Common.{ap, subst, arith}
 
 -- Every entry of a list has a property.
@@ -19,6 +19,10 @@ at_all P d (x ∷ xs) h = (h zero (omega arith), at_all P d xs (λ i l. h (suc i
 pub all_map : {A : Type 0} (P Q : A → Type 0) → ((a : A) → P a → Q a) → (xs : List A) → All P xs → All Q xs
 all_map P Q f [] h = tt
 all_map P Q f (x ∷ xs) h = (f x h.0, all_map P Q f xs h.1)
+
+pub all_append : {A : Type 0} (P : A → Type 0) (xs ys : List A) → All P xs → All P ys → All P (xs ++ ys)
+all_append P [] ys h k = k
+all_append P (x ∷ xs) ys h k = (h.0, all_append P xs ys h.1 k)
 
 -- One for each entry of a list: entry by entry, the property is the entry's.
 abbrev pub AllFor : {A B : Type 0} → (B → A → Type 0) → List B → List A → Type 0

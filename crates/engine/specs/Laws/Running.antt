@@ -13,10 +13,10 @@ use Rattle.eb3.specs.Reading.{pick}
 use Rattle.eb3.specs.Admission.{admission}
 use Rattle.eb3.specs.Answers.{Ran as Answer_ran, Tabled, untabled}
 use Rattle.eb3.specs.Readers.{lets_through, increased}
-use Rattle.eb3.specs.Operations.{cells_needed, main_reach, term_fits, memory_fits, reader_counts, ran_with, tabling, run}
+use Rattle.eb3.specs.Operations.{cells_needed, main_reach, term_fits, memory_fits, reader_counts, ran_with, tabling, ran_at, run}
 use Rattle.runs.specs.MainProcess.{RanRight}
 use Rattle.runs.specs.declared.main_process.Totals.{Totals}
-use Rattle.engine.specs.Running.{ran_as, Ran, ran_at}
+use Rattle.engine.specs.Running.{ran_as, Ran}
 use Rattle.refusals.specs.declared.Refusal.{Refusal}
 use Rattle.refusals.specs.declared.Refusal.TheVariants.{Space, Reader}
 use Rattle.refusals.specs.Numbers.{refusal}

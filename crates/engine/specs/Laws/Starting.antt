@@ -15,8 +15,8 @@ use Rattle.eb3.specs.Memory.{cell_room, memory_words}
 use Rattle.eb3.specs.Reading.{pick}
 use Rattle.eb3.specs.Admission.{admission}
 use Rattle.eb3.specs.Answers.{Written, unwritten}
-use Rattle.eb3.specs.Operations.{cells_needed, main_reach, term_fits, memory_fits, writing, started, start}
-use Rattle.engine.specs.Starting.{started_as, Started, started_at}
+use Rattle.eb3.specs.Operations.{cells_needed, main_reach, term_fits, memory_fits, writing, started, started_at, start}
+use Rattle.engine.specs.Starting.{started_as, Started}
 use Rattle.refusals.specs.declared.Refusal.{Refusal}
 use Rattle.refusals.specs.declared.Refusal.TheVariants.{Space}
 use Rattle.refusals.specs.Numbers.{refusal}

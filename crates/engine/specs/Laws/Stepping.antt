@@ -20,18 +20,17 @@ use Rattle.eb3.specs.Sizes.{reach}
 use Rattle.eb3.specs.Bytes.{words_in, word_count}
 use Rattle.eb3.specs.Memory.{cell_room}
 use Rattle.eb3.specs.Answers.{Answer, refused, answered, and_then, Moved as Answer_moved, Written, unwritten}
-use Rattle.eb3.specs.Operations.{cells_needed, term_fits, memory_fits, even, term_in, event_in, listed, at_first, writing, moved, chosen, move, present}
+use Rattle.eb3.specs.Operations.{cells_needed, term_fits, memory_fits, even, term_in, event_in, listed, at_first, choice_by_number, choice_by_event, stepped_from, writing, moved, move, present}
 use Rattle.eb3.specs.Answers.{or_refused}
 use Rattle.actions.specs.Codes.{action_code, Small}
 use Rattle.actions.specs.Laws.Actions.{action_small}
-use Rattle.given.specs.Giving.{given_in}
 use Rattle.std.specs.Borrow.{Bor}
 use Rattle.given.specs.declared.asking.Request.{Request}
 use Rattle.given.specs.declared.asking.Request.TheVariants.{Move as Move_of, Event as Event_of}
 use Rattle.given.specs.declared.asking.Wanted.{Wanted}
 use Rattle.given.specs.declared.asking.Wanted.TheVariants.{Number as Number_of, Action as Action_of}
 use Rattle.given.specs.Asking.{asked_of, event_asked, asked_as, Chooses}
-use Rattle.engine.specs.Stepping.{moved_as, Done, stepped_from, stepped}
+use Rattle.engine.specs.Stepping.{moved_as, Done, stepped}
 use Rattle.refusals.specs.declared.Refusal.{Refusal}
 use Rattle.refusals.specs.declared.Refusal.TheVariants.{Space, Stranger}
 use Rattle.refusals.specs.Numbers.{refusal}
@@ -56,21 +55,11 @@ module _ (rules term memory : List ℕ) (next_term next_memory : List ℕ) where
 
   pub move_stepped : (k : ℕ) → move rules term memory k next_term next_memory ≡ stepped rules term memory (Move_of k) next_term next_memory
   unfolding move stepped asked_of
-  move_stepped k = from_admitted (λ R E. chosen R E memory next_term next_memory λ xs. get_elem? xs k) (admission rules)
-
-  event_known : (R : RuleSet) (E : Term) (a : Answer Action)
-      → (writing next_term next_memory a λ ρ. chosen R E memory next_term next_memory (at_first ρ))
-      ≡ (writing next_term next_memory (and_then a λ ρ. answered (at_first ρ)) λ choose. chosen R E memory next_term next_memory choose)
-  unfolding and_then
-  event_known R E (refused k) = refl
-  event_known R E (answered ρ) = refl
+  move_stepped k = from_admitted (λ R E. stepped_from R E memory next_term next_memory (choice_by_number k)) (admission rules)
 
   pub present_stepped : (event : Bor (List ℕ)) → present rules term memory event.now next_term next_memory ≡ stepped rules term memory (Event_of event) next_term next_memory
   unfolding present stepped asked_of
-  present_stepped event =
-      from_admitted (λ R E. writing next_term next_memory (event_in R event.now) λ ρ. chosen R E memory next_term next_memory (at_first ρ)) (admission rules)
-      ∙ ap (λ (f : RuleSet × Term → Written Answer_moved). writing next_term next_memory (given_in rules term) f)
-      (λ i p. event_known p.0 p.1 (event_in p.0 event.now) i)
+  present_stepped event = from_admitted (λ R E. stepped_from R E memory next_term next_memory (choice_by_event R event.now)) (admission rules)
 
 -- ── what is asked for ──
 
@@ -127,12 +116,12 @@ module _ (R : RuleSet) (form : Form R) where
 
 module _ (R : RuleSet) (E : Term) (memory next_term next_memory : List ℕ) (request : Request) where
   abbrev given : Written Answer_moved
-  given = stepped_from request memory next_term next_memory (R, E)
+  given = stepped_from R E memory next_term next_memory (asked_of request R)
 
   pub stranger_done : asked_of request R ≡ refused Refusal.stranger → Done given (Err Stranger) next_term next_memory
   unfolding moved_as refusal
   stranger_done e =
-      let f : given ≡ unwritten next_term next_memory Refusal.stranger = ap (λ a. writing next_term next_memory a λ choose. chosen R E memory next_term next_memory choose) e in
+      let f : given ≡ unwritten next_term next_memory Refusal.stranger = ap (stepped_from R E memory next_term next_memory) e in
       subst (λ w. Done w (Err Stranger) next_term next_memory) (sym f) (record { answer = refl; term_after = refl; memory_after = refl })
 
   module _ (choose : List Move → Maybe Move) (e : asked_of request R ≡ answered choose) where
@@ -141,7 +130,7 @@ module _ (R : RuleSet) (E : Term) (memory next_term next_memory : List ℕ) (req
 
     by_room : (b c d : Bool) → term_fits (reach R.edition.width E) next_term ≡ b → memory_fits R memory ≡ c → memory_fits R next_memory ≡ d → given ≡ pick (b && (c && d)) choice (unwritten next_term next_memory Refusal.space)
     by_room b c d p q r =
-        ap (λ a. writing next_term next_memory a λ f. chosen R E memory next_term next_memory f) e
+        ap (stepped_from R E memory next_term next_memory) e
         ∙ (λ i. pick (p i && (q i && r i)) choice (unwritten next_term next_memory Refusal.space))
 
     lacking : given ≡ unwritten next_term next_memory Refusal.space → Done given (Err Space) next_term next_memory

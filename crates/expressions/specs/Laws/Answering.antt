@@ -12,7 +12,7 @@ use Rattle.eb3.specs.Spelling.{data_words, cond_words}
 use Rattle.scan.specs.Checking.{last_of}
 use Rattle.scan.specs.Laws.Checking.{last_behind}
 use Rattle.expressions.specs.declared.valued.Valued.{Valued}
-use Rattle.expressions.specs.Stores.{cell_in, reading_in, variable_in, environment_in, before_place, now_place}
+use Rattle.expressions.specs.Stores.{largest_number, cell_in, reading_in, variable_in, environment_in, before_place, now_place}
 use Rattle.expressions.specs.Answering.{value_word, truth, answer, Plain, DataAt, CondAt, Evaluated, Judged}
 
 -- ── words and answers ──
@@ -30,30 +30,30 @@ unfolding truth
 truth_word true = lit< tt
 truth_word false = lit< tt
 
-pub value_small : (v : Value) → AtMost 65534 v → value_word v < 65536
+pub value_small : (v : Value) → AtMost largest_number v → value_word v < 65536
 unfolding encode
 value_small undefined h = lit< tt
 value_small (number n) h = omega arith
 
 -- ── values in a store ──
 
-pub decoded_at_most : (w : ℕ) → AtMost 65534 (decode 65534 w)
+pub decoded_at_most : (w : ℕ) → AtMost largest_number (decode largest_number w)
 unfolding decode
-decoded_at_most w = bounded_at_most 65534 w
+decoded_at_most w = bounded_at_most largest_number w
 
-pub reading_at_most : (M : List ℕ) (at f : ℕ) (vs : List Value) → AtMost 65534 (reading_in M at f vs)
+pub reading_at_most : (M : List ℕ) (at f : ℕ) (vs : List Value) → AtMost largest_number (reading_in M at f vs)
 unfolding reading_in cell_in
-reading_at_most M at f vs = apply_at_most 65534 _ _ (λ xs w. decoded_at_most _) vs
+reading_at_most M at f vs = apply_at_most largest_number _ _ (λ xs w. decoded_at_most _) vs
 
 module _ (M : List ℕ) (P : Scope) (plain : Plain P) where
-  pub data_at_most : (a : Data) → DataInScope a P → AtMost 65534 (evaluate_data a (environment_in M))
+  pub data_at_most : (a : Data) → DataInScope a P → AtMost largest_number (evaluate_data a (environment_in M))
   unfolding evaluate_data variable_in
   data_at_most Undefined w = tt
   data_at_most (Constant n) w = subst (λ top. n ≤ top) plain.largest w
   data_at_most (Variable i) w = decoded_at_most _
-  data_at_most (Add a b) w = add_at_most 65534 _ _
-  data_at_most (Subtract a b) w = subtract_at_most 65534 _ _ (data_at_most a w.0)
-  data_at_most (If c a b) w = cond_at_most 65534 (evaluate_cond c (environment_in M)) _ _ (data_at_most a w.1) (data_at_most b w.2)
+  data_at_most (Add a b) w = add_at_most largest_number _ _
+  data_at_most (Subtract a b) w = subtract_at_most largest_number _ _ (data_at_most a w.0)
+  data_at_most (If c a b) w = cond_at_most largest_number (evaluate_cond c (environment_in M)) _ _ (data_at_most a w.1) (data_at_most b w.2)
   data_at_most (Now f rs) w = reading_at_most M now_place f _
   data_at_most (Before f rs) w = reading_at_most M (before_place M) f _
 
@@ -77,8 +77,8 @@ module _ (s M : List ℕ) (x : Valued) (P : Scope) (rest : List ℕ) (f : Evalua
   data_parted = parted s (data_words P.edition.width a) rest _ _ _ h.spelled (f P a rest h).value (f P a rest h).left
 
   -- the word is the value's
-  pub data_value : decode 65534 x.value ≡ evaluate_data a (environment_in M)
-  data_value = ap (decode 65534) data_parted.word ∙ decode_encode 65534 65535 (lit< tt) _ (data_at_most M P h.plain a h.in_scope)
+  pub data_value : decode largest_number x.value ≡ evaluate_data a (environment_in M)
+  data_value = ap (decode largest_number) data_parted.word ∙ decode_encode largest_number 65535 (lit< tt) _ (data_at_most M P h.plain a h.in_scope)
 
 module _ (s M : List ℕ) (x : ℕ) (P : Scope) (rest : List ℕ) (f : Judged s M x) (c : Cond) (h : CondAt s P c rest) where
   pub cond_parted : Parted s rest (x % 65536) (x / 65536) (truth (evaluate_cond c (environment_in M)))

@@ -6,15 +6,16 @@ use Rattle.std.proofs.Math.Decide.{dec_lt}
 use Rattle.std.proofs.lemmas.Bool.{lt-leb}
 use Rattle.std.proofs.lemmas.List.{get_or_default}
 use Rattle.eb3.specs.Values.{undefined, number, bounded, encode, decode}
+use Rattle.expressions.specs.Stores.{largest_number}
 
 -- A word that is read as a value is that value's word.
-pub word_of_value : (w : ℕ) → w < 65536 → encode 65535 (decode 65534 w) ≡ w
+pub word_of_value : (w : ℕ) → w < 65536 → encode 65535 (decode largest_number w) ≡ w
 unfolding encode decode bounded
 word_of_value w h = go (dec_lt w 65535)
   where
-    go : Dec (w < 65535) → encode 65535 (cond (leb w 65534) (number w) undefined) ≡ w
-    go (yes l) = let k : w ≤ 65534 = omega arith in rw (le-leb w 65534 k)
-    go (no n) = let k : 65534 < w = omega arith in rw (lt-leb w 65534 k) (omega arith)
+    go : Dec (w < 65535) → encode 65535 (cond (leb w largest_number) (number w) undefined) ≡ w
+    go (yes l) = let k : w ≤ largest_number = omega arith in rw (le-leb w largest_number k)
+    go (no n) = let k : largest_number < w = omega arith in rw (lt-leb w largest_number k) (omega arith)
 
 -- A word that is there is read whatever is read where none is.
 pub any_default : (l : List ℕ) (i d e : ℕ) → i < length l → get_or l i d ≡ get_or l i e

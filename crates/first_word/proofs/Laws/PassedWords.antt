@@ -8,7 +8,7 @@ use Rattle.eb3.specs.Editions.{Edition}
 use Rattle.eb3.specs.Scopes.{Scope}
 use Rattle.eb3.specs.Generic.Booleans.{T_fst}
 use Rattle.eb3.proofs.Laws.Refusals.{picked}
-use Rattle.eb3.specs.Generic.AllLists.{All, all_at, all_map}
+use Rattle.eb3.specs.Generic.AllLists.{All, all_at, all_map, all_append}
 use Rattle.first_word.specs.FirstOffendingWord.{Declared, Owner, of_label, of_process, Due, domain_count, domain_size, label_count, function_count, process_count, parameter_count, parameter, function_parameter_count, function_parameter, data_code, condition_code, constant, variable_number, function_number, term_code, label_number, process_number, choice_domain, parallel_domain, mask_word, argument_code, argument_constant, argument_variable, running_code, running_label, element_code, element_constant, Tests, passed, tests, judge, Next, follow, declare, parameters, declare_functions, parameter_counts, parameters_of, label_scope, expressions, functions_from, processes_due, arguments, data_operands, condition_operands, term_operands, argument_operands, operands, mask_words, mask}
 
 -- ── tests ──
@@ -114,16 +114,11 @@ dues_of_tail D [] h = tt
 dues_of_tail D (d ∷ ds) h = (h.0.0, h.1)
 
 pub tail_append : (D : Declared) (ds es : List Due) → Tail D ds → Tail D es → Tail D (ds ++ es)
-tail_append D [] es p q = q
-tail_append D (d ∷ ds) es p q = (p.0, tail_append D ds es p.1 q)
+tail_append D ds es p q = all_append (λ d. Fine D d × T (facts d).plain) ds es p q
 
 pub dues_append : (D : Declared) (ds es : List Due) → Dues D ds → Tail D es → Dues D (ds ++ es)
 dues_append D [] es p q = dues_of_tail D es q
 dues_append D (d ∷ ds) es p q = (p.0, tail_append D ds es p.1 q)
-
-pub all_append : {A : Type 0} (P : A → Type 0) (xs ys : List A) → All P xs → All P ys → All P (xs ++ ys)
-all_append P [] ys p q = q
-all_append P (x ∷ xs) ys p q = (p.0, all_append P xs ys p.1 q)
 
 pub grown : (ns : List ℕ) (w d : ℕ) → 1 ≤ get_or ns d 0 → 1 ≤ get_or (ns ++ (w ∷ [])) d 0
 grown [] w d h = let z : ⊥ = omega arith in absurd z

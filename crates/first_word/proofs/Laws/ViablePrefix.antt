@@ -15,7 +15,7 @@ use Rattle.eb3.specs.Editions.{Edition, edition_1, Defined}
 use Rattle.eb3.specs.Reading.{pick}
 use Rattle.eb3.specs.Generic.Booleans.{T_and, T_fst}
 use Rattle.eb3.proofs.Laws.Refusals.{picked}
-use Rattle.eb3.specs.Generic.AllLists.{all_at}
+use Rattle.eb3.specs.Generic.AllLists.{all_at, all_append}
 use Rattle.first_word.specs.FirstOffendingWord.{Declared, nothing_declared, Owner, of_label, of_process, Due, domain_count, domain_size, label_count, function_count, process_count, parameter_count, parameter, function_parameter_count, function_parameter, data_code, condition_code, constant, variable_number, function_number, term_code, label_number, process_number, choice_domain, parallel_domain, mask_word, argument_code, argument_constant, argument_variable, running_code, running_label, element_code, element_constant, passed, by_form, tests, Next, follow, declare, parameters, declare_functions, parameter_counts, functions_from, mask, padding, padding_place, verdict, place, first_offending, first_place, with_last}
 use Rattle.eb3.specs.RuleSets.{RuleSet}
 use Rattle.eb3.specs.RuleSpelling.{rules_words}
@@ -27,7 +27,7 @@ use Rattle.eb3.proofs.Laws.RuleReading.{FormOf, rules_sound}
 use Rattle.eb3.proofs.Laws.Editions.{edition_proper}
 use Rattle.first_word.proofs.Laws.FirstOffendingWord.{Offends}
 use Rattle.first_word.proofs.Laws.StreamRefusals.{refusal, first_offending_word}
-use Rattle.first_word.proofs.Laws.PassedWords.{judge_passed, facts, Element, Elements, Sane, Fine, Tail, Dues, Opened, Grows, tail_grows, dues_of_tail, tail_append, dues_append, all_append, tail_replicate, tail_arguments, Stepped, Started, has_domain, tail_mask, declared_stepped, step, functions_stepped, tail_functions}
+use Rattle.first_word.proofs.Laws.PassedWords.{judge_passed, facts, Element, Elements, Sane, Fine, Tail, Dues, Opened, Grows, tail_grows, dues_of_tail, tail_append, dues_append, tail_replicate, tail_arguments, Stepped, Started, has_domain, tail_mask, declared_stepped, step, functions_stepped, tail_functions}
 
 -- An accepted stream spells a rule set of the required form, and of its edition.
 pub spelled : (L : Edition) → Defined L → (words : List ℕ) → first_offending L words ≡ none → (R : RuleSet) × (rest : List ℕ) × (words ≡ rules_words R ++ rest) × FormOf L R

@@ -12,7 +12,6 @@ use Rattle.eb3.specs.Limits
 use Rattle.eb3.specs.Values.{Value}
 use Rattle.eb3.specs.Terms.{Term}
 use Rattle.eb3.specs.Moves.{moves}
-use Rattle.eb3.specs.Derivations.{state_after}
 use Rattle.eb3.specs.Attributes.{Trace}
 use Rattle.eb3.specs.Cells.{all_values}
 use Rattle.eb3.proofs.Laws.Cells.{length_values}
@@ -42,7 +41,7 @@ use Rattle.eb3.specs.Readers.{numbers_of, readers_of, numbers_in, readers_in, al
 use Rattle.eb3.proofs.Laws.Readers.{numbers_append, readers_append, all_read_append, one_outcome_each, number_increase, through_read, through_readers, through_room, let_through}
 use Rattle.eb3.specs.Admission.{admission}
 use Rattle.eb3.proofs.Laws.Admission.{admitted}
-use Rattle.eb3.specs.Operations.{cells_needed, sizes_needed, main_reach, term_fits, memory_fits, term_in, cells_given, listed, writing, chosen, count, move}
+use Rattle.eb3.specs.Operations.{cells_needed, sizes_needed, main_reach, term_fits, memory_fits, term_in, cells_given, writing, counted_at, moved_from, chosen, count, move}
 use Rattle.eb3.proofs.Laws.Operations.{term_back, values_back}
 use Rattle.eb3.specs.Demands.{last_term, last_trace, values_words, run_result, cut}
 use Rattle.eb3.proofs.Laws.DemandThree.{admit_reports, run_is, h as machine_of, run_judged, table_is}
@@ -77,17 +76,13 @@ module _ (rules : List ℕ) (S : Sizes) (R : RuleSet) (a : admission rules ≡ a
 
   count_is : (term memory : List ℕ) → count rules term memory ≡ count_by term (cells_given R memory) (memory_fits R memory)
   unfolding count and_then
-  count_is term memory = ap (λ x. and_then x λ R. and_then (term_in R term) λ E. pick (memory_fits R memory) (answered (length (listed R E memory))) (refused Refusal.space)) a
+  count_is term memory = ap (λ x. and_then x λ R. and_then (term_in R term) λ E. counted_at R E memory) a
 
   abbrev move_by : ℕ → List ℕ → List ℕ → List ℕ → List Value → Bool → Written Moved
   move_by k next_term next_memory term cells fit =
       writing next_term next_memory (term_in R term) λ E.
       pick (term_fits (reach R.edition.width E) next_term && (fit && memory_fits R next_memory))
-      (writing next_term next_memory (or_refused Refusal.not_offered (get_elem? (moves ((Sem_M (attributes R)).satisfies cells) E) k)) λ x. record {
-        answer = answered (record { action = x.action; size = size R.edition.width x.successor });
-        term = written (words R.edition.width x.successor) next_term;
-        memory = written (memory_words (state_after (Sem_M (attributes R)) cells x.action)) next_memory;
-      })
+      (writing next_term next_memory (or_refused Refusal.not_offered (get_elem? (moves ((Sem_M (attributes R)).satisfies cells) E) k)) (moved_from R cells next_term next_memory))
       (unwritten next_term next_memory Refusal.space)
 
   move_is : (k : ℕ) (next_term next_memory term memory : List ℕ)
