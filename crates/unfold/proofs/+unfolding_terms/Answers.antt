@@ -10,7 +10,7 @@ use borrow.Author.Rules.{rules}
 use Rattle.unfold.proofs.+unfolding_terms.Goals as goal
 
 pub body-returns : goal.body-returns
-body-returns t c = body_put _ _ _ _ _ _ _ _ c.last-s.ensures c.parameters_row-k.ensures _ _ _ _ (c.arguments_of.ensures ∙ ap (λ k. from 0 k (argument_at c.args.scope.now.context.variables.now c.last-s.result.now)) (length-take-le _ _ (omega arith))) c.process_entry-start.ensures refl _ c.in_ok-unfold.ensures
+body-returns t c = body_put _ _ _ _ _ _ _ _ c.last-s.ensures c.parameters_row-k.ensures _ _ _ _ (c.arguments_of.ensures ∙ ap (λ k. from 0 k (argument_at c.args.scope.now.context.variables.now c.last-s.result.now)) (length-take-le _ _ (omega arith))) c.process_entry-start.ensures refl _ c.in_ok-enter.ensures
 
 pub copies-loop-x-init : goal.copies-loop-x-init
 copies-loop-x-init t c = search quantifiers
@@ -26,6 +26,12 @@ copies-loop-x-preserved t c = copies_next _ _ _ _ _ _ _ _ _ _ c.loop-x.invariant
 
 pub copies-returns : goal.copies-returns
 copies-returns t c = copies_last _ _ _ _ _ _ _ _ _ _ c.loop-x.invariant _ _ _ (omega arith) (omega arith) c.copy-2.ensures
+
+pub enter-returns-then-is_empty : goal.enter-returns-then-is_empty
+enter-returns-then-is_empty t c = term_none _ _ _ _ _ _ c.last-s.ensures _ (search rules)
+
+pub enter-returns-then-s-eq-CALL : goal.enter-returns-then-s-eq-CALL
+enter-returns-then-s-eq-CALL t c = search terms
 
 pub guarded-returns : goal.guarded-returns
 guarded-returns t c = search (parts, c.in_ok-left.ensures)

@@ -21,6 +21,9 @@ decreases-copies l = l.scope.now.process * 262144 + 4 * l.n + 3
 abbrev pub decreases-copy : goal.decreases-copy
 decreases-copy l = l.scope.now.process * 262144 + 4 * l.n + 1
 
+abbrev pub decreases-enter : goal.decreases-enter
+decreases-enter l = l.scope.now.process * 262144 + 4 * min l.n (length l.scope.now.words.now) + 1
+
 abbrev pub decreases-guarded : goal.decreases-guarded
 decreases-guarded l = l.scope.now.process * 262144 + 4 * l.n + 1
 
