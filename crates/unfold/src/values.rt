@@ -8,7 +8,7 @@ use code_numbers::VARIABLE;
 
 // The value of argument j of those at the front of s.
 #[tactic(auto, using(crate::proofs::ValueCases::argument_variable, crate::proofs::ValueCases::argument_constant))]
-fn argument(s: &[u16], vars: &[u16], j: usize) -> u16
+pub fn argument(s: &[u16], vars: &[u16], j: usize) -> u16
     requires { 2 * j + 2 ≤ length s.now }
     ensures { result ≡ argument_at vars.now s.now j }
 {
