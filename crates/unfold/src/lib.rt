@@ -12,7 +12,7 @@ ghost use Rattle.eb3.specs.Bytes.{written};
 ghost use Rattle.unfold.specs.Unfolded.{MainUnfolded, Unfolding, UnfoldedInto, Here};
 ghost use Rattle.unfold.specs.Joints.{code_of, mask_of};
 ghost use Rattle.unfold.specs.Puts.{Puts};
-ghost use Rattle.unfold.specs.Saying.{Guards, Stars, TwoTerms, Copy, Copies, Joins, Overs, Enters, Calls};
+ghost use Rattle.unfold.specs.Saying.{Guards, Stars, TwoTerms, Copies, Joins, Overs, Enters, Calls};
 
 mod rows;
 mod scope;
@@ -106,17 +106,15 @@ fn guarded(scope: &Scope, n: usize, out: &mut Writer) -> Option<usize>
     unfold(scope, left, out)
 }
 
-// The copy of a quantifier's term for element x.
+// The copy of a quantifier's term for one element: the variables have these values, the last of which is the element's.
 #[cycle(unfolding_terms)]
-fn copy(scope: &Scope, n: usize, x: u16, out: &mut Writer) -> Option<usize>
-    requires { length scope.now.context.variables.now < 8 }
-    ensures { Puts (Here Copy scope.now n x) out.old out.new result }
+fn copy(scope: &Scope, n: usize, variables: &[u16], out: &mut Writer) -> Option<usize>
+    requires { length variables.now ≤ 8 }
+    ensures { Unfolding scope.now.words.now scope.now.context.tables.now n scope.now.process variables.now out.old out.new result }
 {
-    let more = with(scope.context.variables, x);
-    let k = scope.context.variables.len() + 1;
     let context = Context {
         tables: scope.context.tables,
-        variables: &more[..k],
+        variables,
     };
     // Stays field by field: a struct with ghost fields takes no `..*scope`.
     let inner = Scope {
@@ -127,7 +125,8 @@ fn copy(scope: &Scope, n: usize, x: u16, out: &mut Writer) -> Option<usize>
     unfold(&inner, n, out)
 }
 
-// The copies for each element of a domain of this size, nested to the right: each but the last has a head.
+// The copies for each element of a domain of this size, nested to the right: each but the last has a head. The values are in one array for all copies, in
+// which the element's is renewed.
 #[cycle(unfolding_terms)]
 fn copies(
     scope: &Scope,
@@ -141,11 +140,15 @@ fn copies(
     ensures { Puts (Here Copies scope.now n (code_of joint ∷ mask.now) 0 (size - 1)) out.old out.new result }
 {
     let most = size.saturating_sub(1) as u16;
+    let k = scope.context.variables.len();
+    let mut more = with(scope.context.variables, most);
     for x in 0..most {
         out.head(joint.code(), mask)?;
-        copy(scope, n, x, out)?;
+        more[k] = x;
+        copy(scope, n, &more[..k + 1], out)?;
     }
-    copy(scope, n, most, out)
+    more[k] = most;
+    copy(scope, n, &more[..k + 1], out)
 }
 
 // A quantifier: a domain, the mask of what joins the copies, and a term.
