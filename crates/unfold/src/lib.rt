@@ -216,8 +216,9 @@ fn call(scope: &Scope, n: usize, out: &mut Writer) -> Option<usize>
     body(scope, s.len() - 1, p, out)
 }
 
-// A body, where n words are left. Beside `unfold`: a call at once within a body is entered from here, so that it has one frame and not two, and calls within
-// one another take three quarters of the instructions.
+// A body, where n words are left.
+// Stays beside `unfold`: a call that is the whole of a body is entered from here, so that it has one frame and not two. A Start of 64 calls, each with 30
+// calls within one another, takes 0.81 of the instructions, and others take at most 1.03, measured.
 #[cycle(unfolding_terms)]
 #[tactic(auto, using(crate::proofs::RowCases::last_size))]
 fn enter(scope: &Scope, n: usize, out: &mut Writer) -> Option<usize>

@@ -56,8 +56,8 @@ pub fn put_row(scope: &Scope, n: usize, count: usize, out: &mut Writer) -> Optio
 }
 
 // The first `count` arguments of those at the front of s, a constant for each.
-// Stays beside put_row: an argument is a variable or a constant, so that it needs no table of codes. As a row, an action of two arguments takes twice the
-// instructions.
+// Stays beside put_row: an argument is a variable or a constant, so that it needs no table of codes. With arguments put as a row a Start takes up to 1.11
+// times the instructions, measured.
 fn put_arguments(s: &[u16], vars: &[u16], count: usize, out: &mut Writer) -> Option<usize>
     requires { count ≤ 2305843009213693952 }
     ensures { Puts (Constants vars.now s.now count) out.old out.new result }

@@ -1,4 +1,4 @@
-// Values of variables: those of a call's arguments (document 01, "Blocks and the rule stream", item 5: at most eight
+// Values of variables: those of a call's and of an action's arguments (document 01, "Blocks and the rule stream", item 5: at most eight
 // variables in scope).
 ghost use Rattle.std.specs.Prelude.{◌≡◌, ◌+◌, ◌*◌, ◌≤◌, length};
 ghost use Rattle.tables.specs.Tables.{from};
