@@ -98,8 +98,8 @@ fn starred(scope: &Scope, n: usize, out: &mut Writer) -> Option<usize>
     unfold(scope, n, out)
 }
 
-// Never inlined: as a part of `unfold` it has each term save more registers, and a Start of 1,000 sequences takes 1.02 times the instructions. One of 1,000
-// guards takes 1.07 times as many for it, and those of the examples differ by at most a hundredth.
+// Never inlined: as a part of `unfold` it has each term save more registers, and a Start takes up to 1.06 times the instructions (1.02 of the library of 8
+// books); one of 1,000 guards alone takes 0.96.
 #[inline(never)]
 #[cycle(unfolding_terms)]
 fn guarded(scope: &Scope, n: usize, out: &mut Writer) -> Option<usize>
