@@ -1,7 +1,7 @@
 -- A case for each way that the putting of heads and of rows of expressions returns. The premises have the form of the facts known there.
 -- Document 01, "Unfolding, size and breadth".
 use mathlib.Core.Path.{◌≡◌, refl, sym, ap, ◌∙◌, subst}
-use mathlib.Core.List.{List, [], ◌∷◌}
+use mathlib.Core.List.{List, [], ◌∷◌, ◌++◌}
 use Prim.Native.Nat.{ℕ, zero, suc, ◌+◌, ◌-◌, ◌*◌, ◌≤◌, ◌<◌, min}
 use native.Mathlib.Numerals.{add-one}
 use native.Mathlib.Omega.{arith}
@@ -10,14 +10,16 @@ use lib.Seq.{get_or-drop, take-suc, take_all, length-take-le}
 use borrow.Author.Tests.{eq-eqb, ne_eqb}
 use Rattle.std.proofs.Common.{inl, inr}
 use Rattle.std.proofs.lemmas.Bool.{cases_eq}
-use Rattle.std.proofs.lemmas.List.{get_or-take}
+use Rattle.std.proofs.lemmas.List.{get_or-take, take-append-drop}
 use borrow.Rule.Slice.PartMut.{put_mid}
 use Rattle.std.specs.Int.{w16, to_le_bytes}
 use Rattle.eb3.specs.Bytes.{bytes_of, written}
 use Rattle.eb3.specs.Reading.{pick}
+use Rattle.eb3.specs.Spelling.{number_words, arguments_words}
 use Rattle.scan.specs.Checking.{last_of}
+use Rattle.scan.specs.Laws.Checking.{part}
 use Rattle.tables.specs.Layout.{label_place}
-use Rattle.tables.specs.Tables.{row}
+use Rattle.tables.specs.Tables.{from, row}
 use Rattle.std.specs.Prelude.{Option, Some, None, ⊤, ◌⊎◌}
 use Rattle.codes.specs.Table.{words_after, operands_after}
 use Rattle.codes.specs.Shapes.{more_words}
@@ -26,11 +28,11 @@ use mathlib.Core.Bool.{Bool, true, false}
 use lib.Dec.{eqb}
 use Rattle.unfold.specs.declared.writer.Writer.{Writer}
 use Rattle.unfold.specs.Written.{written_from}
-use Rattle.unfold.specs.Puts.{Puts, Heads, Putting}
+use Rattle.unfold.specs.Puts.{Puts, Heads, Exactly, Then, Putting}
 use Rattle.unfold.specs.Laws.Puts.{from_next, head_none, head_some, head_last, puts_lost, putting_fail, putting_next, putting_all, putting_start, putting_stuck}
 use Rattle.unfold.specs.Instantiation.{Instantiates, front_width, front_words}
-use Rattle.unfold.specs.Saying.{Performs, Conditions}
-use Rattle.unfold.specs.Laws.Saying.{where_in}
+use Rattle.unfold.specs.Saying.{argument_at, Constants, Performs, Conditions}
+use Rattle.unfold.specs.Laws.Saying.{where_none, where_in}
 use Rattle.unfold.specs.Laws.Instantiation.{last_behind, row_step, row_there, row_known, row_done}
 
 -- ── a code and the words that go with it ──
@@ -99,6 +101,17 @@ one_word c = go (eqb c 1)
 
 -- ── a row ──
 
+-- the same of the end of t as of the last n words
+pub last_again : (n : ℕ) (t s : List ℕ) → s ≡ last_of n t → s ≡ last_of (length s) t
+last_again n t s e = sym (last_behind t s [] n (sym e))
+
+-- b is what is left of s after m words
+pub last_after : (n m : ℕ) (t s b : List ℕ) → s ≡ last_of n t → b ≡ take (length s - m) (drop m s) → b ≡ last_of (length b) t
+last_after n m t s b e f = sym (last_behind t b (take m s) n (sym e ∙ sym (take-append-drop m s) ∙ ap (λ u. take m s ++ u) (sym (f ∙ part m s))))
+
+pub part_size : (m : ℕ) (s : List ℕ) → length (take (length s - m) (drop m s)) ≡ length s - m
+part_size m s = ap length (part m s) ∙ length-drop m s
+
 pub last_size : (n : ℕ) (t s : List ℕ) → s ≡ last_of n t → length s ≡ min n (length t)
 unfolding last_of
 last_size n t s e = omega (arith, ap length e, length-drop (length t - n) t)
@@ -142,9 +155,9 @@ module _ (t σ : List ℕ) (count n : ℕ) where
       pub row_none : (r : Option ℕ) → r ≡ None → Heads (front_words σ (take (1 + w) s) (length (take (1 + w) s))) y z None → Puts (Instantiates t σ count n) x z r
       row_none r e q = puts_lost _ x z r e (putting_fail _ _ x y p _ z _ (row_step t σ s k left (1 + w) is_s some m_is) (head_none _ (length s - (1 + w)) y z (put_whole None q)))
 
-      pub row_next : (u : ⊤) (o : ℕ) → Heads (front_words σ (take (1 + w) s) (length (take (1 + w) s))) y z (Some u) → o ≡ operands_after c → Putting (Instantiates t σ count n) (Instantiates t σ (k - 1 + o) (length s - (1 + w))) x z
-      row_next u o q f =
-          subst (λ j. Putting (Instantiates t σ count n) (Instantiates t σ (k - 1 + j) (length s - (1 + w))) x z) (sym (f ∙ ap operands_after is_c))
+      pub row_next : (u : ⊤) (o : ℕ) (b : List ℕ) → Heads (front_words σ (take (1 + w) s) (length (take (1 + w) s))) y z (Some u) → o ≡ operands_after c → b ≡ take (length s - (1 + w)) (drop (1 + w) s) → Putting (Instantiates t σ count n) (Instantiates t σ (k - 1 + o) (length b)) x z
+      row_next u o b q f g =
+          subst (λ S. Putting (Instantiates t σ count n) S x z) (λ i. Instantiates t σ (k - 1 + sym (f ∙ ap operands_after is_c) i) (sym (ap length (g ∙ part (1 + w) s) ∙ length-drop (1 + w) s) i))
           (putting_next _ _ x y p _ z (λ j. Instantiates t σ (k - 1 + operands_after (get_or s 0 0)) (length s - (1 + w))) (length s - (1 + w)) (row_step t σ s k left (1 + w) is_s some m_is) (head_some _ (length s - (1 + w)) y z u (put_whole (Some u) q)))
 
   pub row_end : (k left : ℕ) (x y : Writer) → Putting (Instantiates t σ count n) (Instantiates t σ k left) x y → k ≤ 0 → left ≤ length t → Puts (Instantiates t σ count n) x y (Some left)
@@ -152,16 +165,60 @@ module _ (t σ : List ℕ) (count n : ℕ) where
       putting_all _ _ x y left p
       (λ ws rest g. let d = row_done t σ k left (let o : k ≡ 0 = omega arith in o) ws rest g in (d.0, let f : length (last_of left t) ≡ left = omega (arith, last_size left t (last_of left t) refl) in sym f ∙ d.1))
 
--- ── an action, and a condition ──
+-- ── arguments, an action, and a condition ──
+
+-- j arguments are put, and the others are to come
+abbrev pub ArgumentsFrom : List ℕ → List ℕ → ℕ → ℕ → List ℕ → List ℕ → Type 0
+ArgumentsFrom σ s count j = Exactly (arguments_words 1 (from j (count - j) (argument_at σ s))) (length s - 2 * count)
+
+module _ (σ s : List ℕ) (count : ℕ) (x : Writer) where
+  pub arguments_short : length s < 2 * count → Puts (Constants σ s count) x x None
+  arguments_short h = where_none _ _ x (λ l. let z : ⊥ = omega arith in z)
+
+  pub arguments_start : Putting (Constants σ s count) (ArgumentsFrom σ s count 0) x x
+  arguments_start =
+      putting_start (Constants σ s count) (ArgumentsFrom σ s count 0) x
+      (λ ws rest h. record { same_words = h.says.same_words ∙ ap (λ k. arguments_words 1 (from 0 k (argument_at σ s))) (let z : count ≡ count - 0 = omega arith in z); same_left = h.says.same_left })
+
+  module _ (j : ℕ) (y : Writer) (p : Putting (Constants σ s count) (ArgumentsFrom σ s count j) x y) where
+    pub arguments_end : count ≤ j → Puts (Constants σ s count) x y (Some (length s - 2 * count))
+    unfolding from arguments_words
+    arguments_end l =
+        putting_all _ _ x y _ p
+        (λ ws rest h. (h.same_words ∙ ap (λ k. arguments_words 1 (from j k (argument_at σ s))) (let z : count - j ≡ 0 = omega arith in z), h.same_left))
+
+    module _ (more : j < count) (v : ℕ) (is_v : v ≡ argument_at σ s j) (z : Writer) where
+      argument_words_next : arguments_words 1 (from j (count - j) (argument_at σ s)) ≡ (1 ∷ v ∷ []) ++ arguments_words 1 (from (j + 1) (count - (j + 1)) (argument_at σ s))
+      unfolding from arguments_words number_words
+      argument_words_next =
+          ap (λ k. arguments_words 1 (from j k (argument_at σ s))) (let e : count - j ≡ suc (count - (j + 1)) = omega arith in e)
+          ∙ (λ i. 1 ∷ sym is_v i ∷ arguments_words 1 (from (sym (add-one j) i) (count - (j + 1)) (argument_at σ s)))
+
+      argument_step : (ws rest : List ℕ) → ArgumentsFrom σ s count j ws rest → Then (Exactly (1 ∷ v ∷ []) (length s - 2 * count)) (λ m. ArgumentsFrom σ s count (j + 1)) ws rest
+      argument_step ws rest h = record {
+        front = 1 ∷ v ∷ [];
+        back = arguments_words 1 (from (j + 1) (count - (j + 1)) (argument_at σ s));
+        between = rest;
+        one = record { same_words = refl; same_left = h.same_left };
+        two = record { same_words = refl; same_left = h.same_left };
+        joined = h.same_words ∙ argument_words_next;
+      }
+
+      pub arguments_full : (r : Option ℕ) → r ≡ None → Heads (1 ∷ v ∷ []) y z None → Puts (Constants σ s count) x z r
+      arguments_full r e q = puts_lost _ x z r e (putting_fail _ _ x y p _ z _ argument_step (head_none _ (length s - 2 * count) y z q))
+
+      pub arguments_next : (u : ⊤) → Heads (1 ∷ v ∷ []) y z (Some u) → Putting (Constants σ s count) (ArgumentsFrom σ s count (j + 1)) x z
+      arguments_next u q = putting_next _ _ x y p _ z (λ m. ArgumentsFrom σ s count (j + 1)) (length s - 2 * count) argument_step (head_some _ (length s - 2 * count) y z u q)
 
 module _ (t T σ s : List ℕ) (n : ℕ) (x : Writer) (is_s : s ≡ last_of n t) where
   module _ (y : Writer) where
-    pub action_put : (u : ⊤) (l : ℕ) (ds : List ℕ) (z : Writer) (r : Option ℕ) → Heads (21 ∷ take 1 s) x y (Some u) → l ≡ get_or s 0 0 → ds ≡ row T (label_place l) → Puts (Instantiates t σ (length ds) (length s - 1)) y z r → Puts (Performs t T n σ) x z r
-    action_put u l ds z r p e f q =
+    pub action_put : (u : ⊤) (l : ℕ) (ds b : List ℕ) (z : Writer) (r : Option ℕ) → Heads (21 ∷ take 1 s) x y (Some u) → l ≡ get_or s 0 0 → ds ≡ row T (label_place l) → b ≡ drop 1 s → Puts (Constants σ b (length ds)) y z r → Puts (Performs t T n σ) x z r
+    action_put u l ds b z r p e f g q =
         let k : length ds ≡ length (row T (label_place (get_or (last_of n t) 0 0))) = ap length (f ∙ ap (λ j. row T (label_place j)) (e ∙ ap (λ u. get_or u 0 0) is_s)) in
+        let b_is : b ≡ drop 1 (last_of n t) = g ∙ ap (drop 1) is_s in
         where_in _ _ x _ _
-        (head_last _ _ (Instantiates t σ (length (row T (label_place (get_or (last_of n t) 0 0))))) x y u z r (subst (λ v. Heads (21 ∷ take 1 v) x y (Some u)) is_s p)
-        (subst (λ j. Puts (Instantiates t σ j (length (last_of n t) - 1)) y z r) k (subst (λ v. Puts (Instantiates t σ (length ds) (length v - 1)) y z r) is_s q)))
+        (head_last _ _ (λ m. Constants σ (drop 1 (last_of n t)) (length (row T (label_place (get_or (last_of n t) 0 0))))) x y u z r (subst (λ v. Heads (21 ∷ take 1 v) x y (Some u)) is_s p)
+        (subst (λ S. Puts S y z r) (λ i. Constants σ (b_is i) (k i)) q))
 
 module _ (t T σ : List ℕ) (n : ℕ) (x y : Writer) where
   pub condition_put : (u : ⊤) (z : Writer) (r : Option ℕ) → Heads (26 ∷ []) x y (Some u) → Puts (Instantiates t σ 1 n) y z r → Puts (Conditions t T n σ) x z r

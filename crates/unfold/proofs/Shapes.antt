@@ -5,18 +5,17 @@ use mathlib.Core.List.{List, [], ◌∷◌, ◌++◌, map, append_assoc, append-
 use Prim.Native.Nat.{ℕ, zero, suc, ◌+◌, ◌-◌, ◌*◌, ◌≤◌, ◌<◌}
 use native.Mathlib.Omega.{arith}
 use lib.Dec.{eqb}
-use lib.ListN.{length, take, drop, get_or, length-append, length-map}
+use lib.ListN.{length, take, drop, get_or, length-append}
 use lib.Seq.{take_at, get_or-drop, drop-drop}
 use Rattle.eb3.specs.Generic.Lists.{Within, concat_map}
-use Rattle.eb3.specs.Generic.AllLists.{All}
-use Rattle.eb3.specs.Expressions.{Constant, Variable, Cond}
+use Rattle.eb3.specs.Expressions.{Cond}
 use Rattle.eb3.specs.Terms.{Term, Done, Choice, Parallel}
 use Rattle.eb3.specs.Scopes.{CondInScope, guard_scope}
 use Rattle.eb3.specs.Reading.{pick}
 use Rattle.eb3.specs.RuleSets.{Argument, constant_argument, variable_argument, RuleTerm, rule_internal, rule_perform, rule_sequence, rule_choice, rule_star, rule_parallel, rule_guard, choice_over, parallel_over, call, RuleSet, domain_size, sizes_of, label, process, attributes}
-use Rattle.eb3.specs.Spelling.{number_words, data_words, cond_words, arguments_words, words}
+use Rattle.eb3.specs.Spelling.{number_words, cond_words, arguments_words, words}
 use Rattle.eb3.specs.RuleSpelling.{argument_words, rule_words}
-use Rattle.eb3.specs.Unfolding.{argument_value, instantiate_data, instantiate_cond, right_nest, unfold_term, unfold_in}
+use Rattle.eb3.specs.Unfolding.{argument_value, instantiate_cond, right_nest, unfold_term, unfold_in}
 use Rattle.eb3.proofs.Laws.Unfolding.{call_unfolds}
 use Rattle.eb3.proofs.Laws.Elements.{within_counted, within_more, arguments_within}
 use Rattle.eb3.specs.WellFormedness.{ArgumentsFit, Allowed}
@@ -26,33 +25,12 @@ use Rattle.tables.specs.Tables.{from, row, declared}
 use Rattle.tables.specs.Laws.Editions.{width_in_tables}
 use Rattle.unfold.specs.Unfolded.{Ready, unfolded_words}
 use Rattle.unfold.specs.Puts.{Exactly}
-use Rattle.unfold.specs.Instantiation.{Expression, value, test, expression_words, instantiate, PlainExpression}
+use Rattle.unfold.specs.Instantiation.{test, expression_words, instantiate}
 use Rattle.unfold.specs.Laws.Instantiation.{last_behind}
 use Rattle.unfold.specs.Saying.{Unfolds, Performs, Guards, Stars, Copies, Joins, Overs, argument_at, Enters, Calls}
 use Rattle.unfold.proofs.RuleFacts.{domain_same, label_row, parameters_row, body_stands, guard_plain, arguments_counted}
 
--- ── arguments as expressions, and their values ──
-
-abbrev expression : Argument → Expression
-expression (constant_argument v) = value (Constant v)
-expression (variable_argument i) = value (Variable i)
-
-arguments_plain : (rs : List Argument) → All PlainExpression (map expression rs)
-arguments_plain [] = tt
-arguments_plain (constant_argument v ∷ rs) = (tt, arguments_plain rs)
-arguments_plain (variable_argument i ∷ rs) = (tt, arguments_plain rs)
-
-arguments_spelled : (rs : List Argument) → concat_map expression_words (map expression rs) ≡ concat_map (argument_words 1) rs
-unfolding expression_words data_words argument_words
-arguments_spelled [] = refl
-arguments_spelled (constant_argument v ∷ rs) = ap (λ z. (1 ∷ number_words 1 v) ++ z) (arguments_spelled rs)
-arguments_spelled (variable_argument i ∷ rs) = ap (λ z. 2 ∷ i ∷ z) (arguments_spelled rs)
-
-arguments_put : (σ : List ℕ) (rs : List Argument) → arguments_words 1 (map (argument_value σ) rs) ≡ concat_map expression_words (map (instantiate σ) (map expression rs))
-unfolding arguments_words argument_value expression_words instantiate instantiate_data data_words number_words
-arguments_put σ [] = refl
-arguments_put σ (constant_argument v ∷ rs) = ap (λ z. 1 ∷ v ∷ z) (arguments_put σ rs)
-arguments_put σ (variable_argument i ∷ rs) = ap (λ z. 1 ∷ get_or σ i 0 ∷ z) (arguments_put σ rs)
+-- ── arguments, and their values ──
 
 arguments_long : (rs : List Argument) → length (concat_map (argument_words 1) rs) ≡ 2 * length rs
 unfolding argument_words number_words
@@ -204,6 +182,9 @@ module _ (t T : List ℕ) (n m i : ℕ) (σ : List ℕ) (R : RuleSet) (ready : R
         let here : last_of m t ≡ l ∷ args = behind ∙ f in
         let label_is : get_or (last_of m t) 0 0 ≡ l = ap (λ z. get_or z 0 0) here in
         let long : length (last_of m t) ≡ suc (length args) = ap length here in
+        let count : length rs ≡ length (row T (label_place (get_or (last_of m t) 0 0))) = arguments_counted R Γ (label R l) rs a ∙ ap length (sym (ap (λ k. row T (label_place k)) label_is ∙ label_row t T R ready l h)) in
+        let behind_is : drop 1 (last_of m t) ≡ concat_map (argument_words 1) rs ++ rest = ap (drop 1) here ∙ ap (λ w. concat_map (argument_words w) rs ++ rest) one_word in
+        let length_is : length (drop 1 (last_of m t)) ≡ length (concat_map (argument_words 1) rs) + length rest = ap length behind_is ∙ length-append (concat_map (argument_words 1) rs) rest in
         record {
           holds = omega arith;
           says = record {
@@ -212,11 +193,11 @@ module _ (t T : List ℕ) (n m i : ℕ) (σ : List ℕ) (R : RuleSet) (ready : R
             between = args;
             one = record { same_words = ap (λ z. 21 ∷ take 1 z) (sym here); same_left = omega arith };
             two = record {
-              row = map expression rs;
-              counted = length-map rs expression ∙ arguments_counted R Γ (label R l) rs a ∙ ap length (sym (ap (λ k. row T (label_place k)) label_is ∙ label_row t T R ready l h));
-              all_plain = arguments_plain rs;
-              spelled = last_behind t args (c ∷ l ∷ []) n (e ∙ ap (λ z. c ∷ z) f) ∙ ap (λ z. z ++ rest) (ap (λ w. concat_map (argument_words w) rs) one_word ∙ sym (arguments_spelled rs));
-              instantiated = ap (λ w. arguments_words w (map (argument_value σ) rs)) one_word ∙ arguments_put σ rs;
+              holds = omega (arith, long, length_is, arguments_long rs, count);
+              says = record {
+                same_words = ap (λ w. arguments_words w (map (argument_value σ) rs)) one_word ∙ ap (arguments_words 1) (sym (values_are σ (drop 1 (last_of m t)) rest rs behind_is) ∙ ap (λ k. from 0 k (argument_at σ (drop 1 (last_of m t)))) count);
+                same_left = omega (arith, length_is, arguments_long rs, count);
+              };
             };
             joined = g;
           };

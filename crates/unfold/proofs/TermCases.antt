@@ -5,7 +5,8 @@ use mathlib.Core.List.{List, [], ◌∷◌, ◌++◌}
 use Prim.Native.Nat.{ℕ, suc, ◌+◌, ◌-◌, ◌*◌, ◌≤◌, ◌<◌}
 use native.Mathlib.Numerals.{add-one}
 use native.Mathlib.Omega.{arith}
-use lib.ListN.{length, take, drop, get_or, length-append}
+use lib.ListN.{length, take, drop, get_or, set, length-append}
+use Rattle.std.proofs.lemmas.List.{length-take, length-set, take-take, take-set-le, take_at, take_more_set}
 use borrow.Author.Tests.{ne_eqb}
 use Rattle.eb3.specs.RuleSets.{domain_size}
 use Rattle.eb3.specs.RuleSpelling.{rule_words}
@@ -61,9 +62,25 @@ module _ (t T : List ℕ) (n i : ℕ) (σ : List ℕ) (x y : Writer) where
 
 -- ── copies ──
 
+-- An array begins with the values of the variables, and has room for an element's after them.
+abbrev pub Begins : List ℕ → List ℕ → Type 0
+Begins σ more = (length σ < length more) × (take (length σ) more ≡ σ)
+
+pub values_start : (σ more : List ℕ) (e : ℕ) → take (length σ + 1) more ≡ σ ++ (e ∷ []) → Begins σ more
+values_start σ more e h = (
+  omega (arith, ap length h, length-take (length σ + 1) more, length-append σ (e ∷ [])),
+  sym (take-take (length σ) (length σ + 1) more (omega arith)) ∙ ap (take (length σ)) h ∙ take_at σ (e ∷ []) (length σ) refl,
+)
+
+pub values_kept : (σ more : List ℕ) (e : ℕ) → Begins σ more → Begins σ (set more (length σ) e)
+values_kept σ more e h = (omega (arith, h.0, length-set more (length σ) e), take-set-le (length σ) more (length σ) e (omega arith) ∙ h.1)
+
 module _ (t T : List ℕ) (n i : ℕ) (σ : List ℕ) where
   pub copy_put : (e : ℕ) (vs : List ℕ) (x y : Writer) (r : Option ℕ) → take (length σ + 1) vs ≡ σ ++ (e ∷ []) → Unfolding t T n i (take (length σ + 1) vs) x y r → Puts (Copy t T n i σ e) x y r
   copy_put e vs x y r h u = term_puts t T n i (σ ++ (e ∷ [])) x y r (subst (λ v. Unfolding t T n i v x y r) h u)
+
+  pub copied : (e : ℕ) (more : List ℕ) (x y : Writer) (r : Option ℕ) → Begins σ more → Unfolding t T n i (take (length σ + 1) (set more (length σ) e)) x y r → Puts (Copy t T n i σ e) x y r
+  copied e more x y r h u = copy_put e (set more (length σ) e) x y r (take_more_set more (length σ) e h.0 ∙ ap (λ v. v ++ (e ∷ [])) h.1) u
 
   module _ (h : List ℕ) (size : ℕ) where
     abbrev All : List ℕ → List ℕ → Type 0

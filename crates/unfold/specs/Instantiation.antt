@@ -1,6 +1,6 @@
--- Expressions in a row with their variables become constants (document 01, "Unfolding, size and breadth"): the arguments of an action, and a guard's
--- condition. Each variable's two words become a constant's two words, so the words are gone through from the front: the first word or two of an
--- expression, and as many expressions after them as its code has operands.
+-- Expressions in a row with their variables become constants (document 01, "Unfolding, size and breadth"): a guard's condition. Each
+-- variable's two words become a constant's two words, so the words are gone through from the front: the first word or two of an expression, and as many
+-- expressions after them as its code has operands.
 use Rattle.std.specs.Prelude.{◌≡◌, List, [], ◌∷◌, ◌++◌, map, ℕ, ◌+◌, eqb, length, take, get_or}
 use Rattle.eb3.specs.Generic.Lists.{concat_map}
 use Rattle.eb3.specs.Generic.AllLists.{All}

@@ -3,6 +3,7 @@
 use Rattle.std.specs.Prelude.{◌≡◌, List, [], ◌∷◌, ◌++◌, ℕ, zero, suc, ◌+◌, ◌-◌, ◌*◌, ◌≤◌, ◌<◌, eqb, length, take, drop, get_or}
 use Rattle.eb3.specs.Reading.{pick}
 use Rattle.eb3.specs.RuleSets.{RuleTerm, RuleSet, domain_size}
+use Rattle.eb3.specs.Spelling.{arguments_words}
 use Rattle.scan.specs.Checking.{last_of}
 use Rattle.tables.specs.Layout.{label_place, process_place, body_at}
 use Rattle.tables.specs.Tables.{from, row, declared}
@@ -24,10 +25,20 @@ pub record Where (A : Type 0) (S : List ℕ → List ℕ → Type 0) (ws rest : 
   pub holds : A
   pub says : S ws rest
 
+-- The value of argument j of those at the front of s.
+unfoldable pub argument_at : List ℕ → List ℕ → ℕ → ℕ
+argument_at σ s j = pick (eqb (get_or s (2 * j) 0) 2) (get_or σ (get_or s (2 * j + 1) 0) 0) (get_or s (2 * j + 1) 0)
+
+-- A constant for each of the first k arguments of those at the front of s.
+abbrev pub Constants : List ℕ → List ℕ → ℕ → List ℕ → List ℕ → Type 0
+Constants σ s k = Where (2 * k ≤ length s) (Exactly (arguments_words 1 (from 0 k (argument_at σ s))) (length s - 2 * k))
+
 module _ (t T : List ℕ) (n : ℕ) where
   -- An action: its label, and as many arguments as the label has parameters.
   abbrev pub Performs : List ℕ → List ℕ → List ℕ → Type 0
-  Performs σ = Where (1 ≤ length (last_of n t)) (Then (Exactly (21 ∷ take 1 (last_of n t)) (length (last_of n t) - 1)) (Instantiates t σ (length (row T (label_place (get_or (last_of n t) 0 0))))))
+  Performs σ =
+      Where (1 ≤ length (last_of n t))
+      (Then (Exactly (21 ∷ take 1 (last_of n t)) (length (last_of n t) - 1)) (λ m. Constants σ (drop 1 (last_of n t)) (length (row T (label_place (get_or (last_of n t) 0 0))))))
 
   -- A guard's condition, and its term.
   abbrev pub Conditions : List ℕ → List ℕ → List ℕ → Type 0
@@ -64,10 +75,6 @@ abbrev pub Overs : List ℕ → List ℕ → ℕ → ℕ → List ℕ → ℕ �
 Overs t T n i σ c k =
     Where ((1 + k ≤ length (last_of n t)) × (length σ < 8) × (domain_size (declared T) (get_or (last_of n t) 0 0) ≤ 64))
     (Copies t T (length (last_of n t) - (1 + k)) i σ (c ∷ take k (drop 1 (last_of n t))) 0 (domain_size (declared T) (get_or (last_of n t) 0 0) - 1))
-
--- The value of argument j of those at the front of s.
-unfoldable pub argument_at : List ℕ → List ℕ → ℕ → ℕ
-argument_at σ s j = pick (eqb (get_or s (2 * j) 0) 2) (get_or σ (get_or s (2 * j + 1) 0) 0) (get_or s (2 * j + 1) 0)
 
 -- A process's body, where the tables say that it is; after k arguments as many words are left as the whole leaves.
 pub record Body (t T : List ℕ) (n p : ℕ) (σ : List ℕ) (k : ℕ) (ws rest : List ℕ) : Type 0 where

@@ -1,11 +1,12 @@
-// Rows of expressions whose variables become constants: an action's arguments and a guard's condition (document 01, "Unfolding, size and
-// breadth").
-ghost use Rattle.std.specs.Prelude.{◌≡◌, ◌≤◌, length, IfSome};
+// What stands in an action and in a guard, its variables become constants: arguments, and a condition, which is a row of expressions (document 01,
+// "Unfolding, size and breadth").
+ghost use Rattle.std.specs.Prelude.{◌≡◌, ◌*◌, ◌≤◌, length, IfSome};
 ghost use Rattle.unfold.specs.Puts.{Puts, Heads};
 ghost use Rattle.unfold.specs.Instantiation.{Instantiates, front_words};
-ghost use Rattle.unfold.specs.Saying.{Performs, Conditions};
+ghost use Rattle.unfold.specs.Saying.{Constants, Performs, Conditions};
 
 use super::scope::Scope;
+use super::values::argument;
 use super::writer::Writer;
 use code_numbers::{ACTION, CONSTANT, GUARD, VARIABLE};
 use codes::{EDITION_1, code_at, operands_after, words_after};
@@ -33,10 +34,10 @@ pub fn put_row(scope: &Scope, n: usize, count: usize, out: &mut Writer) -> Optio
     ensures puts { Puts (Instantiates scope.now.words.now scope.now.context.variables.now count n) out.old out.new result }
     ensures left { IfSome result (λ left. left ≤ n) }
 {
-    let mut left = last(scope.words, n).len();
+    let mut s = last(scope.words, n);
+    let vars = scope.context.variables;
     let mut k = count;
     while 0 < k {
-        let s = last(scope.words, left);
         let c = code_at(s, 0)?;
         let m = 1 + words_after(c, EDITION_1);
         // No front of an expression has more than two words. Stays though the next test is enough: without it they are copied by a loop, and a
@@ -47,11 +48,29 @@ pub fn put_row(scope: &Scope, n: usize, count: usize, out: &mut Writer) -> Optio
         if s.len() < m {
             return None;
         }
-        put_front(&s[..m], scope.context.variables, out)?;
+        put_front(&s[..m], vars, out)?;
         k = k - 1 + operands_after(c);
-        left = s.len() - m;
+        s = &s[m..];
     }
-    Some(left)
+    Some(s.len())
+}
+
+// The first `count` arguments of those at the front of s, a constant for each.
+// Stays beside put_row: an argument is a variable or a constant, so that it needs no table of codes. With arguments put as a row a Start takes up to 1.11
+// times the instructions, measured.
+fn put_arguments(s: &[u16], vars: &[u16], count: usize, out: &mut Writer) -> Option<usize>
+    requires { count ≤ 2305843009213693952 }
+    ensures { Puts (Constants vars.now s.now count) out.old out.new result }
+{
+    let m = 2 * count;
+    if s.len() < m {
+        return None;
+    }
+    for j in 0..count {
+        let v = [argument(s, vars, j)];
+        out.head(CONSTANT as u16, &v)?;
+    }
+    Some(s.len() - m)
 }
 
 // An action: its label, and an argument for each of the label's parameters.
@@ -64,7 +83,7 @@ pub fn action(scope: &Scope, n: usize, out: &mut Writer) -> Option<usize>
     }
     out.head(ACTION as u16, &s[..1])?;
     let k = label_row(scope.context.tables, first(s)).len();
-    put_row(scope, s.len() - 1, k, out)
+    put_arguments(behind(s), scope.context.variables, k, out)
 }
 
 // A guard's code and its condition.

@@ -3,29 +3,35 @@ use mathlib.Core.Path.{refl, ap, ◌∙◌}
 use lib.Seq.{length-take-le}
 use Rattle.tables.specs.Tables.{from}
 use Rattle.unfold.specs.Saying.{argument_at}
-use Rattle.unfold.proofs.TermCases.{term_none, body_put, copies_full, copies_lost, copies_next, copies_last, terms, parts, quantifiers}
+use Rattle.unfold.proofs.TermCases.{term_none, body_put, values_kept, values_start, copied, copies_full, copies_lost, copies_next, copies_last, terms, parts, quantifiers}
 use Rattle.unfold.proofs.RowCases.{last_size}
 use native.Mathlib.Omega.{arith}
 use borrow.Author.Rules.{rules}
 use Rattle.unfold.proofs.+unfolding_terms.Goals as goal
 
 pub body-returns : goal.body-returns
-body-returns t c = body_put _ _ _ _ _ _ _ _ c.last-s.ensures c.parameters_row-k.ensures _ _ _ _ (c.arguments_of.ensures ∙ ap (λ k. from 0 k (argument_at c.args.scope.now.context.variables.now c.last-s.result.now)) (length-take-le _ _ (omega arith))) c.process_entry-start.ensures refl _ c.in_ok-unfold.ensures
+body-returns t c = body_put _ _ _ _ _ _ _ _ c.last-s.ensures c.parameters_row-k.ensures _ _ _ _ (c.arguments_of.ensures ∙ ap (λ k. from 0 k (argument_at c.args.scope.now.context.variables.now c.last-s.result.now)) (length-take-le _ _ (omega arith))) c.process_entry-start.ensures refl _ c.in_ok-enter.ensures
 
 pub copies-loop-x-init : goal.copies-loop-x-init
-copies-loop-x-init t c = search quantifiers
+copies-loop-x-init t c = (values_start _ _ _ c.with-more.ensures, search quantifiers)
 
 pub copies-returns-in_err-head : goal.copies-returns-in_err-head
-copies-returns-in_err-head t c = copies_full _ _ _ _ _ _ _ _ _ _ c.loop-x.invariant (omega arith) _ _ (ap (λ k. k ∷ c.args.mask.now) c.code.ensures) _ c.from_residual.ensures c.in_err-head.ensures
+copies-returns-in_err-head t c = copies_full _ _ _ _ _ _ _ _ _ _ c.loop-x.invariant.1 (omega arith) _ _ (ap (λ k. k ∷ c.args.mask.now) c.code.ensures) _ c.from_residual.ensures c.in_err-head.ensures
 
 pub copies-returns-in_err-copy : goal.copies-returns-in_err-copy
-copies-returns-in_err-copy t c = copies_lost _ _ _ _ _ _ _ _ _ _ c.loop-x.invariant (omega arith) _ _ (ap (λ k. k ∷ c.args.mask.now) c.code.ensures) _ c.in_ok-head.ensures _ _ c.from_residual-in_err-copy.ensures c.in_err-copy.ensures
+copies-returns-in_err-copy t c = copies_lost _ _ _ _ _ _ _ _ _ _ c.loop-x.invariant.1 (omega arith) _ _ (ap (λ k. k ∷ c.args.mask.now) c.code.ensures) _ c.in_ok-head.ensures _ _ c.from_residual-in_err-copy.ensures (copied _ _ _ _ _ _ _ _ _ _ c.loop-x.invariant.0 c.in_err-copy.ensures)
 
 pub copies-loop-x-preserved : goal.copies-loop-x-preserved
-copies-loop-x-preserved t c = copies_next _ _ _ _ _ _ _ _ _ _ c.loop-x.invariant (omega arith) _ _ (ap (λ k. k ∷ c.args.mask.now) c.code.ensures) _ c.in_ok-head.ensures _ _ c.in_ok-copy.ensures
+copies-loop-x-preserved t c = (values_kept _ _ _ c.loop-x.invariant.0, copies_next _ _ _ _ _ _ _ _ _ _ c.loop-x.invariant.1 (omega arith) _ _ (ap (λ k. k ∷ c.args.mask.now) c.code.ensures) _ c.in_ok-head.ensures _ _ (copied _ _ _ _ _ _ _ _ _ _ c.loop-x.invariant.0 c.in_ok-copy.ensures))
 
 pub copies-returns : goal.copies-returns
-copies-returns t c = copies_last _ _ _ _ _ _ _ _ _ _ c.loop-x.invariant _ _ _ (omega arith) (omega arith) c.copy-2.ensures
+copies-returns t c = copies_last _ _ _ _ _ _ _ _ _ _ c.loop-x.invariant.1 _ _ _ (omega arith) (omega arith) (copied _ _ _ _ _ _ _ _ _ _ c.loop-x.invariant.0 c.copy-2.ensures)
+
+pub enter-returns-then-is_empty : goal.enter-returns-then-is_empty
+enter-returns-then-is_empty t c = term_none _ _ _ _ _ _ c.last-s.ensures _ (search rules)
+
+pub enter-returns-then-s-eq-CALL : goal.enter-returns-then-s-eq-CALL
+enter-returns-then-s-eq-CALL t c = search terms
 
 pub guarded-returns : goal.guarded-returns
 guarded-returns t c = search (parts, c.in_ok-left.ensures)

@@ -7,6 +7,7 @@ use Rattle.unfold.specs.Joints.{code_of}
 use Rattle.unfold.specs.Unfolded.{Here}
 use Rattle.unfold.specs.Puts.{Putting}
 use Rattle.unfold.specs.Saying.{Copies}
+use Rattle.unfold.proofs.TermCases.{Begins}
 use Rattle.unfold.proofs.+unfolding_terms.Given as goal
 
 abbrev pub decreases-body : goal.decreases-body
@@ -20,6 +21,9 @@ decreases-copies l = l.scope.now.process * 262144 + 4 * l.n + 3
 
 abbrev pub decreases-copy : goal.decreases-copy
 decreases-copy l = l.scope.now.process * 262144 + 4 * l.n + 1
+
+abbrev pub decreases-enter : goal.decreases-enter
+decreases-enter l = l.scope.now.process * 262144 + 4 * min l.n (length l.scope.now.words.now) + 1
 
 abbrev pub decreases-guarded : goal.decreases-guarded
 decreases-guarded l = l.scope.now.process * 262144 + 4 * l.n + 1
@@ -40,4 +44,5 @@ abbrev pub decreases-unfold : goal.decreases-unfold
 decreases-unfold l = l.scope.now.process * 262144 + 4 * min l.n (length l.scope.now.words.now)
 
 abbrev pub invariant-copies-loop-x : goal.invariant-copies-loop-x
-invariant-copies-loop-x l = Putting (Here Copies l.scope l.n (code_of l.joint ∷ l.mask) 0 (l.size - 1)) (Here Copies l.scope l.n (code_of l.joint ∷ l.mask) l.x (l.size - 1 - l.x)) l.initial.out l.out
+invariant-copies-loop-x l =
+    Begins l.scope.context.variables.now l.more × Putting (Here Copies l.scope l.n (code_of l.joint ∷ l.mask) 0 (l.size - 1)) (Here Copies l.scope l.n (code_of l.joint ∷ l.mask) l.x (l.size - 1 - l.x)) l.initial.out l.out
