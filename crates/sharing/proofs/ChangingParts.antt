@@ -95,73 +95,65 @@ join_roomless h = record { same_length = refl; mid_same_length = refl; right = �
 -- ── a part ──
 
 module _ (d : List ℕ) {u : List ℕ} {n i e w : ℕ} {p mid mid1 s : List ℕ} (within : n ≤ length d) (ie : i ≤ e) (en : e ≤ n) (short_u : length u ≤ 65503) (short_p : length p ≤ 65535) (is : s ≡ last_of (w - 32) u) where
-  -- The part's successor was written.
-  module _ {o : Option Reached} (b : Beginning s p 0 mid mid1 o) (P : Scope) (l : ℕ) (E : Term) (ρ : Action) (T : Term) (g : w ≡ part_word l) (a : PartAt u P l E) (f : follow E p ≡ followed ρ T [])
-      (m : marked P.edition.width E p ≡ true) (room : RoomFor P.edition.width T i (n - e) (length d) (length mid)) where
-    there : s ≡ last_of l u
-    there =
+  module _ (P : Scope) (l : ℕ) (E : Term) (ρ : Action) (T : Term) (g : w ≡ part_word l) (a : PartAt u P l E) (f : follow E p ≡ followed ρ T []) (m : marked P.edition.width E p ≡ true)
+      (room : RoomFor P.edition.width T i (n - e) (length d) (length mid)) where
+    -- The part's successor was written.
+    begun : {o : Option Reached} → Beginning s p 0 mid mid1 o → BeganRight u P (follow E p) 0 mid mid1 o
+    begun b =
         let z : w - 32 ≡ l = omega arith in
-        is ∙ ap (λ j. last_of j u) z
-
-    many : length s ≡ l
-    many = ap length there ∙ last_length l u a.within
-
-    begun : BeganRight u P (follow E p) 0 mid mid1 o
-    begun =
+        let there : s ≡ last_of l u = is ∙ ap (λ j. last_of j u) z in
+        let many : length s ≡ l = ap length there ∙ last_length l u a.within in
         let fits : 0 + size P.edition.width (follow E p).successor ≤ length mid = omega (arith, ap (λ (y : Followed). size P.edition.width y.successor) f, room.spelled) in
         b.right u P E a.rest short_u (omega (arith, many, a.within)) (there ∙ ap (λ j. last_of j u) (sym many)) (subst (λ z. TermAt z P E a.rest) (sym there) a.there) a.unmasked m short_p fits
 
-    is_T : term_of begun.shared ≡ T
-    is_T = begun.is_successor ∙ ap (λ (y : Followed). y.successor) f
-
-    put : take (length (shared_words begun.shared)) mid1 ≡ shared_words begun.shared
-    put = put_front (shared_words begun.shared) mid mid1 begun.written
-
-    moved : length (shared_words begun.shared) + (n - e) ≤ length mid1
-    moved = omega (arith, room.moved begun.shared is_T, b.same_length)
-
-  -- No successor was written.
-  pub part_lost : {z : Option Moved} {mid2 : List ℕ} → Beginning s p 0 mid mid1 None → mid2 ≡ mid1 → PartChanged u d n i e w p mid d mid2 z
-  part_lost b same = record { same_length = refl; mid_same_length = ap length same ∙ b.same_length; right = λ P l E ρ T g a f m room. absurd (none-some _ (begun b P l E ρ T g a f m room).answered) }
-
-  module _ (at left k : ℕ) (b : Beginning s p 0 mid mid1 (Some (reached at left k))) where
-    module _ (P : Scope) (l : ℕ) (E : Term) (ρ : Action) (T : Term) (g : w ≡ part_word l) (a : PartAt u P l E) (f : follow E p ≡ followed ρ T []) (m : marked P.edition.width E p ≡ true)
-        (room : RoomFor P.edition.width T i (n - e) (length d) (length mid)) where
+    module _ {at left k : ℕ} (b : Beginning s p 0 mid mid1 (Some (reached at left k))) where
       abbrev X : Shared
-      X = (begun b P l E ρ T g a f m room).shared
+      X = (begun b).shared
 
-      whole : i + (length (shared_words X) + (n - e)) ≤ length d
-      whole = room.whole X (is_T b P l E ρ T g a f m room)
+      is_X : term_of X ≡ T
+      is_X = (begun b).is_successor ∙ ap (λ (y : Followed). y.successor) f
 
       count : at ≡ length (shared_words X)
-      count = omega (arith, same_at (begun b P l E ρ T g a f m room).answered)
+      count = omega (arith, same_at (begun b).answered)
+
+      put : take (length (shared_words X)) mid1 ≡ shared_words X
+      put = put_front (shared_words X) mid mid1 (begun b).written
+
+      moved : length (shared_words X) + (n - e) ≤ length mid1
+      moved = omega (arith, room.moved X is_X, b.same_length)
 
       -- There is always room.
       roomy : {d' mid2 : List ℕ} → Spliced d mid1 n i e at d' mid2 None → ⊥
-      roomy c = c.made ie en within (omega (arith, count, whole)) (omega (arith, count, moved b P l E ρ T g a f m room))
+      roomy c = c.made ie en within (omega (arith, count, room.whole X is_X)) (omega (arith, count, moved))
 
       part_right : {d' mid2 : List ℕ} {x : Moved} → Spliced d mid1 n i e at d' mid2 (Some x.words) → x.action ≡ k → ChangedRight u P ρ T (take i d) (slice e n d) d' (Some x)
-      part_right {x = x} c is_k =
-          let h = begun b P l E ρ T g a f m room in
-          let there_put = put b P l E ρ T g a f m room in
-          let within_mid = moved b P l E ρ T g a f m room in
-          record {
-            shared = X;
-            stands = h.stands;
-            is_successor = is_T b P l E ρ T g a f m room;
-            held = splice_held within ie en c X count there_put whole within_mid;
-            moved = x;
-            answered = refl;
-            words_are = splice_length within ie en c X count there_put whole within_mid;
-            action_is = is_k ∙ (same_action h.answered ∙ ap (λ (y : Followed). action_code y.action) f);
-          }
+      part_right {x = x} c is_k = record {
+        shared = X;
+        stands = (begun b).stands;
+        is_successor = is_X;
+        held = splice_held within ie en c X count put (room.whole X is_X) moved;
+        moved = x;
+        answered = refl;
+        words_are = splice_length within ie en c X count put (room.whole X is_X) moved;
+        action_is = is_k ∙ (same_action (begun b).answered ∙ ap (λ (y : Followed). action_code y.action) f);
+      }
 
-    pub part_unplaced : {d' mid2 : List ℕ} {z : Option Moved} → Spliced d mid1 n i e at d' mid2 None → PartChanged u d n i e w p mid d' mid2 z
-    part_unplaced c = record {
+  -- No successor was written.
+  pub part_lost : {mid2 : List ℕ} {z : Option Moved} → Beginning s p 0 mid mid1 None → mid2 ≡ mid1 → PartChanged u d n i e w p mid d mid2 z
+  part_lost b same = record { same_length = refl; mid_same_length = ap length same ∙ b.same_length; right = λ P l E ρ T g a f m room. absurd (none-some _ (begun P l E ρ T g a f m room b).answered) }
+
+  module _ {d' mid2 : List ℕ} where
+    pub part_unplaced : {z : Option Moved} (at left k : ℕ) → Beginning s p 0 mid mid1 (Some (reached at left k)) → Spliced d mid1 n i e at d' mid2 None → PartChanged u d n i e w p mid d' mid2 z
+    part_unplaced at left k b c = record {
       same_length = c.same_length;
       mid_same_length = c.mid_same_length ∙ b.same_length;
-      right = λ P l E ρ T g a f m room. absurd (roomy P l E ρ T g a f m room c);
+      right = λ P l E ρ T g a f m room. absurd (roomy P l E ρ T g a f m room b c);
     }
 
-    pub part_written : {d' mid2 : List ℕ} {x : Moved} → Spliced d mid1 n i e at d' mid2 (Some x.words) → x.action ≡ k → PartChanged u d n i e w p mid d' mid2 (Some x)
-    part_written c is_k = record { same_length = c.same_length; mid_same_length = c.mid_same_length ∙ b.same_length; right = λ P l E ρ T g a f m room. part_right P l E ρ T g a f m room c is_k }
+    pub part_written : {x : Moved} (at left k : ℕ) → Beginning s p 0 mid mid1 (Some (reached at left k)) → Spliced d mid1 n i e at d' mid2 (Some x.words) → x.action ≡ k
+        → PartChanged u d n i e w p mid d' mid2 (Some x)
+    part_written at left k b c is_k = record {
+      same_length = c.same_length;
+      mid_same_length = c.mid_same_length ∙ b.same_length;
+      right = λ P l E ρ T g a f m room. part_right P l E ρ T g a f m room b c is_k;
+    }
