@@ -5,6 +5,7 @@ use mathlib.Core.Bool.{true, false, cond}
 use mathlib.Core.List.{List, ◌++◌}
 use Prim.Native.Nat.{ℕ, ◌+◌, ◌≤◌, ◌<◌}
 use native.Mathlib.Omega.{arith}
+use Rattle.std.specs.Prelude.{Option, None}
 use lib.ListN.{length, drop, get_or, set, length-drop, length-set}
 use lib.Seq.{drop-drop}
 use Rattle.eb3.specs.Expressions.{Cond}
@@ -24,7 +25,7 @@ use Rattle.listing.specs.Laws.Operands.{is_done, other_test}
 use Rattle.paths.specs.Paths.{followed, within, follow, marked}
 use Rattle.sharing.specs.Shared.{PartAt}
 use Rattle.sharing.specs.Laws.Shared.{size_some}
-use Rattle.sharing.specs.Beginning.{BeganRight, Beginning, ActionNumber, EndPut}
+use Rattle.sharing.specs.Beginning.{Reached, BeganRight, Beginning, ActionNumber, EndPut}
 use Rattle.successors.specs.Laws.Terms.{sequence_two, choice_two, star_first, guard_condition, guard_operand, right_there, left_within}
 use Rattle.successors.specs.Laws.Following.{leaf, choice_left_follows, choice_left_marked, choice_right_follows, choice_right_marked, star_end_follows, round_follows, round_marked}
 use Rattle.sharing.proofs.BeginningEnds.{Under, under_on, last_tail, part_at}
@@ -32,20 +33,20 @@ use Rattle.sharing.proofs.BeginningGiven.{Skipped, lent, Given, begun, by_any, b
 
 -- ── leaves ──
 
-pub leaf_case : (s p x y : List ℕ) (at r w : ℕ) → w ≡ get_or s 0 0 → (w ≡ 21 → ⊥) → (w ≡ 22 → ⊥) → (w ≡ 23 → ⊥) → (w ≡ 24 → ⊥) → (w ≡ 25 → ⊥) → (w ≡ 26 → ⊥)
-    → EndPut x y at (length p) 0 r → Beginning s p at x y r
+pub leaf_case : (s p x y : List ℕ) (at w : ℕ) (r : Option Reached) → w ≡ get_or s 0 0 → (w ≡ 21 → ⊥) → (w ≡ 22 → ⊥) → (w ≡ 23 → ⊥) → (w ≡ 24 → ⊥) → (w ≡ 25 → ⊥) → (w ≡ 26 → ⊥)
+    → EndPut (length p) 0 at x y r → Beginning s p at x y r
 unfolding size action_code
-leaf_case s p x y at r w e a b c d i f m =
-    by_any m.same_length m.bounded (λ u P rest G h g k.
+leaf_case s p x y at w r e a b c d i f m =
+    by_any m.same_length (λ u P rest G h g k.
     let q : w ≡ code_in_front G = e ∙ h in
     let v : follow G p ≡ followed internal Done p = (leaf P.edition.width G (λ j. a (q ∙ j)) (λ j. b (q ∙ j)) (λ j. c (q ∙ j)) (λ j. d (q ∙ j)) (λ j. i (q ∙ j)) (λ j. f (q ∙ j)) p rest).0 in
     subst (λ z. BeganRight u P z at x y r) (sym v) (ended internal p m (subst (λ z. at + size P.edition.width z.successor ≤ length x) v k) refl refl))
 
 module _ (s p t : List ℕ) (behind : t ≡ drop 1 s) where
-  pub action_case : (x y : List ℕ) (at r a : ℕ) → get_or s 0 0 ≡ 21 → ActionNumber t a → EndPut x y at (length p) a r → Beginning s p at x y r
+  pub action_case : (x y : List ℕ) (at a : ℕ) (r : Option Reached) → get_or s 0 0 ≡ 21 → ActionNumber t a → EndPut (length p) a at x y r → Beginning s p at x y r
   unfolding follow size
-  action_case x y at r a e f m =
-      by_action m.same_length m.bounded e (λ u P rest v g k.
+  action_case x y at a r e f m =
+      by_action m.same_length e (λ u P rest v g k.
       ended (visible v) p m k refl (f v rest (subst (λ z. ActionAt z v rest) (sym behind) (action_at s P v rest g.there))))
 
   -- ── a sequence ──
@@ -61,10 +62,10 @@ module _ (s p t : List ℕ) (behind : t ≡ drop 1 s) where
   unfolding follow
   goes_follows E F n = ap (λ b. cond b (follow F p) (within (λ X. Sequence X F) (follow E p))) n
 
-  pub sequence_done : (x y : List ℕ) (at r : ℕ) (v : List ℕ) → get_or s 0 0 ≡ 22 → get_or t 0 0 ≡ 30 → v ≡ drop 1 t → Beginning v p at x y r → Beginning s p at x y r
+  pub sequence_done : (x y : List ℕ) (at : ℕ) (r : Option Reached) (v : List ℕ) → get_or s 0 0 ≡ 22 → get_or t 0 0 ≡ 30 → v ≡ drop 1 t → Beginning v p at x y r → Beginning s p at x y r
   unfolding follow marked done? words
   sequence_done x y at r v e d h m =
-      by_sequence m.same_length m.bounded e (λ u P rest E F g k.
+      by_sequence m.same_length e (λ u P rest E F g k.
       let two = two_there g in
       let o : E ≡ Done = is_done E (sym d ∙ term_front t P E (words P.edition.width F ++ rest) two.first) in
       let i : v ≡ words P.edition.width F ++ rest = h ∙ (ap (drop 1) two.first.spelled ∙ ap (λ G. drop 1 (words P.edition.width G ++ (words P.edition.width F ++ rest))) o) in
@@ -82,18 +83,18 @@ module _ (s p t : List ℕ) (behind : t ≡ drop 1 s) where
       subst (λ z. BeganRight u P z at x y r) (sym q) (begun m u P rest F given (subst (λ z. at + size P.edition.width z.successor ≤ length x) q k)))
 
   module _ (x : List ℕ) (at : ℕ) (e : get_or s 0 0 ≡ 22) (d : get_or t 0 0 ≡ 30 → ⊥) where
-    pub sequence_full : length x < at + 2 → Beginning s p at x x 0
+    pub sequence_full : length x < at + 2 → Beginning s p at x x None
     unfolding size
     sequence_full h =
-        by_sequence refl (omega arith) e (λ u P rest E F g k.
+        by_sequence refl e (λ u P rest E F g k.
         let l : at + size P.edition.width (Sequence (follow E p).successor F) ≤ length x = subst (λ z. at + size P.edition.width z.successor ≤ length x) (goes_follows E F (goes d g)) k in
         absurd (omega (arith, l, h, size_some P.edition.width (follow E p).successor, size_some P.edition.width F)))
 
-    pub sequence_goes : (y : List ℕ) (r n : ℕ) → at + 2 ≤ length x → Skipped t n → Beginning t p (at + 2) (set (set x at 22) (at + 1) (32 + n)) y r → Beginning s p at x y r
+    pub sequence_goes : (y : List ℕ) (r : Option Reached) (n : ℕ) → at + 2 ≤ length x → Skipped t n → Beginning t p (at + 2) (set (set x at 22) (at + 1) (32 + n)) y r → Beginning s p at x y r
     unfolding marked size
     sequence_goes y r n room skip m =
         let same : length (set (set x at 22) (at + 1) (32 + n)) ≡ length x = length-set (set x at 22) (at + 1) (32 + n) ∙ length-set x at 22 in
-        by_sequence (m.same_length ∙ same) m.bounded e (λ u P rest E F g k.
+        by_sequence (m.same_length ∙ same) e (λ u P rest E F g k.
         let two = two_there g in
         let z : done? E ≡ false = goes d g in
         let q = goes_follows E F z in
@@ -109,11 +110,11 @@ module _ (s p t : List ℕ) (behind : t ≡ drop 1 s) where
 
   -- ── a guard ──
 
-  pub guard_case : (x y : List ℕ) (at r : ℕ) (v : List ℕ) (n : ℕ) → get_or s 0 0 ≡ 26 → (n ≤ length t) × ((P : Scope) (C : Cond) (rest : List ℕ) → CondAt t P C rest → n ≡ length rest) → v ≡ last_of n t
-      → Beginning v p at x y r → Beginning s p at x y r
+  pub guard_case : (x y : List ℕ) (at : ℕ) (r : Option Reached) (v : List ℕ) (n : ℕ) → get_or s 0 0 ≡ 26
+      → (n ≤ length t) × ((P : Scope) (C : Cond) (rest : List ℕ) → CondAt t P C rest → n ≡ length rest) → v ≡ last_of n t → Beginning v p at x y r → Beginning s p at x y r
   unfolding follow marked
   guard_case x y at r v n e k h m =
-      by_guard m.same_length m.bounded e (λ u P rest C E g room.
+      by_guard m.same_length e (λ u P rest C E g room.
       let o = words P.edition.width E ++ rest in
       let c : CondAt t P C o = subst (λ z. CondAt z P C o) (sym behind) (guard_condition s P rest C E g.there) in
       let i : v ≡ o = h ∙ (ap (λ j. last_of j t) (k.1 P C o c) ∙ (ap (last_of (length o)) c.spelled ∙ last_behind (cond_words P.edition.width C) o)) in
@@ -133,9 +134,9 @@ module _ (s p t : List ℕ) (behind : t ≡ drop 1 s) where
     both_there : {u rest : List ℕ} {P : Scope} {E F : Term} → Given u s P (Choice E F) rest p → TwoAt t P E F rest
     both_there {u} {rest} {P} {E} {F} g = subst (λ z. TwoAt z P E F rest) (sym behind) (choice_two s P rest E F g.there)
 
-    pub choice_left : (y q : List ℕ) (r : ℕ) → q ≡ drop 1 p → get_or p 0 0 ≡ 0 → Beginning t q at x y r → Beginning s p at x y r
+    pub choice_left : (y q : List ℕ) (r : Option Reached) → q ≡ drop 1 p → get_or p 0 0 ≡ 0 → Beginning t q at x y r → Beginning s p at x y r
     choice_left y q r on d m =
-        by_choice m.same_length m.bounded e (λ u P rest E F g k.
+        by_choice m.same_length e (λ u P rest E F g k.
         let f : follow (Choice E F) p ≡ follow E q = choice_left_follows p d E F ∙ ap (follow E) (sym on) in
         let given : Given u t P E (words P.edition.width F ++ rest) q = record {
           few = g.few;
@@ -149,15 +150,15 @@ module _ (s p t : List ℕ) (behind : t ≡ drop 1 s) where
 
     -- The right operand begins after n words, n being the number that the path gives.
     module _ (n : ℕ) (d : get_or p 0 0 ≡ 0 → ⊥) (is : n ≡ get_or p 1 0) where
-      pub choice_short : length t < n → Beginning s p at x x 0
+      pub choice_short : length t < n → Beginning s p at x x None
       choice_short h =
-          by_choice refl (omega arith) e (λ u P rest E F g k.
+          by_choice refl e (λ u P rest E F g k.
           absurd (omega (arith, h, left_within (both_there g) n (is ∙ (choice_right_marked p d P.edition.width E F g.led).0))))
 
-      pub choice_right : (y q : List ℕ) (r : ℕ) → q ≡ drop 2 p → Beginning (lent n t) q at x y r → Beginning s p at x y r
+      pub choice_right : (y q : List ℕ) (r : Option Reached) → q ≡ drop 2 p → Beginning (lent n t) q at x y r → Beginning s p at x y r
       choice_right y q r on given =
           let m : Beginning (drop n t) q at x y r = subst (λ z. Beginning z q at x y r) (part n t) given in
-          by_choice m.same_length m.bounded e (λ u P rest E F g k.
+          by_choice m.same_length e (λ u P rest E F g k.
           let f : follow (Choice E F) p ≡ follow F q = choice_right_follows p d E F ∙ ap (follow F) (sym on) in
           let w = choice_right_marked p d P.edition.width E F g.led in
           let h : Given u (drop n t) P F rest q = record {
@@ -173,10 +174,10 @@ module _ (s p t : List ℕ) (behind : t ≡ drop 1 s) where
   -- ── a star ──
 
   module _ (x : List ℕ) (at : ℕ) (q : List ℕ) (on : q ≡ drop 1 p) (e : get_or s 0 0 ≡ 24) where
-    pub star_ends : (y : List ℕ) (r : ℕ) → get_or p 0 0 ≡ 0 → EndPut x y at (length q) 0 r → Beginning s p at x y r
+    pub star_ends : (y : List ℕ) (r : Option Reached) → get_or p 0 0 ≡ 0 → EndPut (length q) 0 at x y r → Beginning s p at x y r
     unfolding size action_code
     star_ends y r d m =
-        by_star m.same_length m.bounded e (λ u P rest E g k.
+        by_star m.same_length e (λ u P rest E g k.
         let f : follow (Star E) p ≡ followed internal Done q = star_end_follows p d E ∙ ap (followed internal Done) (sym on) in
         subst (λ z. BeganRight u P z at x y r) (sym f) (ended internal q m (subst (λ z. at + size P.edition.width z.successor ≤ length x) f k) refl refl))
 
@@ -184,18 +185,18 @@ module _ (s p t : List ℕ) (behind : t ≡ drop 1 s) where
       again : (E : Term) → follow (Star E) p ≡ within (λ X. Sequence X (Star E)) (follow E q)
       again E = round_follows p d E ∙ ap (λ z. within (λ X. Sequence X (Star E)) (follow E z)) (sym on)
 
-      pub round_full : length x < at + 2 → Beginning s p at x x 0
+      pub round_full : length x < at + 2 → Beginning s p at x x None
       unfolding size
       round_full h =
-          by_star refl (omega arith) e (λ u P rest E g k.
+          by_star refl e (λ u P rest E g k.
           let l : at + size P.edition.width (Sequence (follow E q).successor (Star E)) ≤ length x = subst (λ z. at + size P.edition.width z.successor ≤ length x) (again E) k in
           absurd (omega (arith, l, h, size_some P.edition.width (follow E q).successor, size_some P.edition.width (Star E))))
 
-      pub round : (y : List ℕ) (r : ℕ) → at + 2 ≤ length x → Beginning t q (at + 2) (set (set x at 22) (at + 1) (32 + length s)) y r → Beginning s p at x y r
+      pub round : (y : List ℕ) (r : Option Reached) → at + 2 ≤ length x → Beginning t q (at + 2) (set (set x at 22) (at + 1) (32 + length s)) y r → Beginning s p at x y r
       unfolding size
       round y r room m =
           let same : length (set (set x at 22) (at + 1) (32 + length s)) ≡ length x = length-set (set x at 22) (at + 1) (32 + length s) ∙ length-set x at 22 in
-          by_star (m.same_length ∙ same) m.bounded e (λ u P rest E g k.
+          by_star (m.same_length ∙ same) e (λ u P rest E g k.
           let l : at + size P.edition.width (Sequence (follow E q).successor (Star E)) ≤ length x = subst (λ z. at + size P.edition.width z.successor ≤ length x) (again E) k in
           let given : Given u t P E rest q = record {
             few = g.few;

@@ -3,8 +3,9 @@
 use mathlib.Core.Path.{◌≡◌, refl, sym, ap, ◌∙◌}
 use mathlib.Core.Bool.{true}
 use mathlib.Core.List.{List, [], ◌∷◌}
-use Prim.Native.Nat.{ℕ, ◌+◌, ◌-◌, ◌≤◌, ◌<◌}
+use Prim.Native.Nat.{ℕ, ◌+◌, ◌-◌, ◌≤◌}
 use native.Mathlib.Omega.{arith}
+use Rattle.std.specs.Prelude.{Option}
 use lib.ListN.{length, take, drop, get_or, set}
 use Rattle.eb3.specs.Expressions.{Cond}
 use Rattle.eb3.specs.Scopes.{Scope}
@@ -17,7 +18,8 @@ use Rattle.listing.specs.Laws.Positions.{term_front}
 use Rattle.listing.specs.Laws.ByCode.{by_perform as of_perform, by_sequence as of_sequence, by_choice as of_choice, by_star as of_star, by_parallel as of_parallel, by_guard as of_guard}
 use Rattle.paths.specs.Paths.{Followed, followed, within, follow, marked}
 use Rattle.sharing.specs.Shared.{Ended, Then, term_of, shared_words, Unmasked, PartAt}
-use Rattle.sharing.specs.Beginning.{began, BeganRight, Beginning, EndPut}
+use Rattle.sharing.specs.Beginning.{Reached, BeganRight, Beginning, EndPut}
+use Rattle.sharing.proofs.BeginningCodes.{reached_same, further}
 use Rattle.sharing.proofs.BeginningPuts.{put_two, put_behind}
 use Rattle.sharing.proofs.BeginningEnds.{Under}
 
@@ -41,23 +43,22 @@ pub record Given (u s : List ℕ) (P : Scope) (E : Term) (rest p : List ℕ) : T
 -- ── the term known by its first word ──
 
 -- What holds of the successor of G, where there is room for it.
-abbrev Led : List ℕ → List ℕ → ℕ → List ℕ → List ℕ → ℕ → List ℕ → Scope → List ℕ → Term → Type 0
+abbrev Led : List ℕ → List ℕ → ℕ → List ℕ → List ℕ → Option Reached → List ℕ → Scope → List ℕ → Term → Type 0
 Led s p at x y r u P rest G = Given u s P G rest p → at + size P.edition.width (follow G p).successor ≤ length x → BeganRight u P (follow G p) at x y r
 
-module _ {s p : List ℕ} {at : ℕ} {x y : List ℕ} {r : ℕ} where
+module _ {s p : List ℕ} {at : ℕ} {x y : List ℕ} {r : Option Reached} where
   pub begun : Beginning s p at x y r → (u : List ℕ) (P : Scope) (rest : List ℕ) (G : Term) → Led s p at x y r u P rest G
   begun m u P rest G g k = m.right u P G rest g.few g.under.fewer g.under.end g.there g.bare g.led g.short k
 
-  from_led : length y ≡ length x → r < 4503599627370496 → ((u : List ℕ) (P : Scope) (rest : List ℕ) (G : Term) → TermAt s P G rest → Led s p at x y r u P rest G) → Beginning s p at x y r
-  from_led same small f = record {
+  from_led : length y ≡ length x → ((u : List ℕ) (P : Scope) (rest : List ℕ) (G : Term) → TermAt s P G rest → Led s p at x y r u P rest G) → Beginning s p at x y r
+  from_led same f = record {
     same_length = same;
-    bounded = small;
     right = λ u P G rest few fewer end t b m l k. f u P rest G t (record { few = few; under = record { fewer = fewer; end = end }; there = t; bare = b; led = m; short = l }) k;
   }
 
-  module _ (same : length y ≡ length x) (small : r < 4503599627370496) where
+  module _ (same : length y ≡ length x) where
     pub by_any : ((u : List ℕ) (P : Scope) (rest : List ℕ) (G : Term) → get_or s 0 0 ≡ code_in_front G → Led s p at x y r u P rest G) → Beginning s p at x y r
-    by_any f = from_led same small (λ u P rest G t. f u P rest G (term_front s P G rest t))
+    by_any f = from_led same (λ u P rest G t. f u P rest G (term_front s P G rest t))
 
     pub by_action : get_or s 0 0 ≡ 21 → ((u : List ℕ) (P : Scope) (rest : List ℕ) (a : VisibleAction) → Led s p at x y r u P rest (Perform a)) → Beginning s p at x y r
     by_action e f = by_any (λ u P rest G h. of_perform (Led s p at x y r u P rest) (f u P rest) G (sym e ∙ h))
@@ -80,15 +81,15 @@ module _ {s p : List ℕ} {at : ℕ} {x y : List ℕ} {r : ℕ} where
 -- ── what is made ──
 
 -- Done in the place of what moved.
-pub ended : {u : List ℕ} {P : Scope} {at : ℕ} {x y : List ℕ} {left a r : ℕ} (ρ : Action) (rest : List ℕ) → EndPut x y at left a r → at + 1 ≤ length x → left ≡ length rest → a ≡ action_code ρ
+pub ended : {u : List ℕ} {P : Scope} {at : ℕ} {x y : List ℕ} {left a : ℕ} {r : Option Reached} (ρ : Action) (rest : List ℕ) → EndPut left a at x y r → at + 1 ≤ length x → left ≡ length rest → a ≡ action_code ρ
     → BeganRight u P (followed ρ Done rest) at x y r
 unfolding term_of shared_words
 ended {u} {P} {at} {x} {y} {left} {a} {r} ρ rest m k e f =
     let w = m.right k in
-    record { shared = Ended; stands = tt; is_successor = refl; written = w.0; answered = w.1 ∙ (ap (λ l. began (at + 1) l a) e ∙ ap (began (at + 1) (length rest)) f) }
+    record { shared = Ended; stands = tt; is_successor = refl; written = w.0; answered = w.1 ∙ reached_same refl e f }
 
 -- What an operand becomes, and then F, which stays in the unfolding and is held as its place l.
-pub then_began : {u : List ℕ} {P : Scope} {at : ℕ} {x y : List ℕ} {r : ℕ} (f : Followed) (l : ℕ) (F : Term) → at + 2 ≤ length x → PartAt u P l F
+pub then_began : {u : List ℕ} {P : Scope} {at : ℕ} {x y : List ℕ} {r : Option Reached} (f : Followed) (l : ℕ) (F : Term) → at + 2 ≤ length x → PartAt u P l F
     → BeganRight u P f (at + 2) (set (set x at 22) (at + 1) (32 + l)) y r → BeganRight u P (within (λ X. Sequence X F) f) at x y r
 unfolding term_of shared_words
 then_began {u} {P} {at} {x} {y} {r} f l F h part b =
@@ -99,5 +100,5 @@ then_began {u} {P} {at} {x} {y} {r} f l F h part b =
       stands = (b.stands, part);
       is_successor = ap (λ X. Sequence X F) b.is_successor;
       written = put_behind x (22 ∷ (32 + l) ∷ []) w (set (set x at 22) (at + 1) (32 + l)) y at (at + 2) h refl (put_two x at 22 (32 + l) h) b.written;
-      answered = b.answered ∙ ap (λ j. began j (length f.rest) (action_code f.action)) n;
+      answered = further n b.answered;
     }

@@ -3,8 +3,10 @@
 use mathlib.Core.Path.{◌≡◌, refl, sym, ap, ◌∙◌, subst}
 use mathlib.Core.Bool.{Bool, true, false, cond}
 use mathlib.Core.List.{List, [], ◌∷◌, ◌++◌}
-use Prim.Native.Nat.{ℕ, ◌+◌, ◌*◌, ◌/◌, ◌%◌, ◌≤◌, ◌<◌}
+use Prim.Native.Nat.{ℕ, ◌+◌, ◌≤◌, ◌<◌}
 use native.Mathlib.Omega.{arith}
+use Rattle.std.specs.Prelude.{Option, None, Some}
+use Rattle.std.proofs.lemmas.Option.{none-some}
 use lib.Dec.{eqb}
 use lib.ListN.{length, drop, get_or, set, length-append, length-drop, length-set}
 use borrow.Author.Tests.{ne_eqb}
@@ -20,13 +22,13 @@ use Rattle.listing.specs.Positions.{TwoAt}
 use Rattle.listing.specs.Laws.Positions.{second_at}
 use Rattle.paths.specs.Paths.{Followed, followed, within, follow, marked}
 use Rattle.sharing.specs.Shared.{Beside, no_mask, term_of, shared_words, Unmasked}
-use Rattle.sharing.specs.Laws.Shared.{size_some, shared_short, shared_some}
-use Rattle.sharing.specs.Beginning.{began, BeganRight, Beginning, EndPut, TwoRight, LeftBegun, BothBegun}
+use Rattle.sharing.specs.Laws.Shared.{size_some, shared_short}
+use Rattle.sharing.specs.Beginning.{Reached, reached, BeganRight, Beginning, EndPut, TwoRight, LeftBegun, BothBegun}
 use Rattle.successors.specs.Laws.Following.{rest_of_path, rest_short, parallel_end_follows, parallel_left_follows, parallel_left_marked, parallel_right_follows, parallel_right_marked, parallel_both_follows, parallel_both_marked, size_marked}
 use Rattle.sharing.proofs.BeginningPuts.{put_one, one_put, put_behind}
 use Rattle.sharing.proofs.BeginningEnds.{Under, under_on, last_tail, one_word, bare_mask}
 use Rattle.successors.specs.Laws.Terms.{parallel_two, parallel_long, right_there, left_within}
-use Rattle.sharing.proofs.BeginningCodes.{began_at, began_left, began_action, began_both}
+use Rattle.sharing.proofs.BeginningCodes.{reached_same, further, same_at, same_left, same_action}
 use Rattle.sharing.proofs.BeginningGiven.{Skipped, lent, Given, begun, by_parallel, ended}
 
 -- The word of what is at the front of v.
@@ -35,70 +37,43 @@ word_of v = cond (eqb (get_or v 0 0) 30) 30 (32 + length v)
 
 -- ── the left operand moves ──
 
--- What a successor's words take is what its term takes at most, so its answer says where they end.
-module _ {u : List ℕ} {P : Scope} (E : Term) (p : List ℕ) {at : ℕ} {x y : List ℕ} {r : ℕ} (few : length x ≤ 65535) (short : length p ≤ 65535) (room : at + size P.edition.width (follow E p).successor ≤ length x)
-    (b : BeganRight u P (follow E p) at x y r) where
-  words_fit : length (shared_words b.shared) ≤ size P.edition.width (follow E p).successor
-  words_fit = subst (λ G. length (shared_words b.shared) ≤ size P.edition.width G) b.is_successor (shared_short P.edition.width b.shared)
+-- What a successor's words take is what its term takes at most.
+words_fit : {u : List ℕ} {P : Scope} {f : Followed} {at : ℕ} {x y : List ℕ} {r : Option Reached} (b : BeganRight u P f at x y r) → length (shared_words b.shared) ≤ size P.edition.width f.successor
+words_fit {u} {P} b = subst (λ G. length (shared_words b.shared) ≤ size P.edition.width G) b.is_successor (shared_short P.edition.width b.shared)
 
-  ends : r % 65536 ≡ at + length (shared_words b.shared)
-  ends = began_at r (at + length (shared_words b.shared)) (length (follow E p).rest) (action_code (follow E p).action) b.answered (omega (arith, words_fit))
+-- What is known of the left operand.
+left_given : (e p : List ℕ) {u rest : List ℕ} {P : Scope} {E F : Term} → length u ≤ 65503 → length e ≤ length u → e ≡ last_of (length e) u → TwoAt e P E F rest → Unmasked E
+    → marked P.edition.width E p ≡ true → length p ≤ 65535 → Given u e P E (words P.edition.width F ++ rest) p
+left_given e p l a b t c d s = record { few = l; under = record { fewer = a; end = b }; there = t.first; bare = c; led = d; short = s }
 
-  left_of_path : r / 65536 % 65536 ≡ length (follow E p).rest
-  left_of_path = began_left r (at + length (shared_words b.shared)) (length (follow E p).rest) (action_code (follow E p).action) b.answered (omega (arith, words_fit)) (omega (arith, short, rest_short E p))
+-- Where there is room, something is written.
+lost : {e p x y : List ℕ} {at : ℕ} {u rest : List ℕ} {P : Scope} (E : Term) → Beginning e p at x y None → Given u e P E rest p → at + size P.edition.width (follow E p).successor ≤ length x → ⊥
+lost {u = u} {rest} {P} E m g k = none-some _ (begun m u P rest E g k).answered
 
-  number : r / 4294967296 ≡ action_code (follow E p).action
-  number = began_action r (at + length (shared_words b.shared)) (length (follow E p).rest) (action_code (follow E p).action) b.answered (omega (arith, words_fit)) (omega (arith, short, rest_short E p))
+pub left_lost : (e p x y : List ℕ) (at : ℕ) → Beginning e p at x y None → LeftBegun e p at x y None
+left_lost e p x y at m = record { same_length = m.same_length; right = λ u P E F rest l a b t c f d s k. absurd (lost E m (left_given e p l a b t c d s) (omega (arith, k))) }
 
-  where_ends : (r % 65536 ≡ at + length (shared_words b.shared)) × (r % 65536 ≤ at + size P.edition.width (follow E p).successor)
-  where_ends = (ends, omega (arith, ends, words_fit))
-
-  what_is_left : (r / 65536 % 65536 ≡ length (follow E p).rest) × (r / 4294967296 ≡ action_code (follow E p).action)
-  what_is_left = (left_of_path, number)
-
-module _ (e p x y : List ℕ) (at r : ℕ) (m : Beginning e p at x y r) (few : length x ≤ 65535) where
-  -- What is known of the left operand.
-  left_given : {u rest : List ℕ} {P : Scope} {E F : Term} → length u ≤ 65503 → length e ≤ length u → e ≡ last_of (length e) u → TwoAt e P E F rest → Unmasked E → marked P.edition.width E p ≡ true → length p ≤ 65535
-      → Given u e P E (words P.edition.width F ++ rest) p
-  left_given l a b t c d s = record { few = l; under = record { fewer = a; end = b }; there = t.first; bare = c; led = d; short = s }
-
-  -- Where something is written the answer is not 0.
-  lost : {u rest : List ℕ} {P : Scope} (E : Term) → Given u e P E rest p → at + size P.edition.width (follow E p).successor ≤ length x → r ≡ 0 → ⊥
-  lost {u} {rest} {P} E g k z =
-      let b = begun m u P rest E g k in
-      let i : r % 65536 ≡ at + length (shared_words b.shared) = (where_ends E p few g.short k b).0 in
-      omega (arith, i, z, shared_some b.shared)
-
-  pub left_lost : r ≡ 0 → LeftBegun e p at x y 0
-  left_lost z = record {
+module _ (e p x y : List ℕ) (at i left a : ℕ) (m : Beginning e p at x y (Some (reached i left a))) where
+  pub left_without_room : length y ≤ i → LeftBegun e p at x y None
+  left_without_room h = record {
     same_length = m.same_length;
-    bounded = omega arith;
-    right = λ u P E F rest l a b t c f d s k. absurd (lost E (left_given l a b t c d s) (omega (arith, k)) z);
+    right = λ u P E F rest l a b t c f d s k.
+        let g = begun m u P (words P.edition.width F ++ rest) E (left_given e p l a b t c d s) (omega (arith, k)) in
+        absurd (omega (arith, h, k, m.same_length, same_at g.answered, words_fit g));
   }
 
-  pub left_full : length y ≤ r % 65536 → LeftBegun e p at x y 0
-  left_full h = record {
-    same_length = m.same_length;
-    bounded = omega arith;
+  pub left_written : (n : ℕ) (v : List ℕ) (w : ℕ) → i < length y → Skipped e n → v ≡ last_of n e → w ≡ word_of v → LeftBegun e p at x (set y i w) (Some (reached (i + 1) left a))
+  left_written n v w h skip is fw = record {
+    same_length = length-set y i w ∙ m.same_length;
     right = λ u P E F rest l a b t c f d s k.
-        let g = begun m u P (words P.edition.width F ++ rest) E (left_given l a b t c d s) (omega (arith, k)) in
-        absurd (omega (arith, h, k, m.same_length, (where_ends E p few s (omega (arith, k)) g).1));
-  }
-
-  pub left_begun : (n : ℕ) (v : List ℕ) (w : ℕ) → r % 65536 < length y → Skipped e n → v ≡ last_of n e → w ≡ word_of v → LeftBegun e p at x (set y (r % 65536) w) (r + 1)
-  unfolding began
-  left_begun n v w h skip is fw = record {
-    same_length = length-set y (r % 65536) w ∙ m.same_length;
-    bounded = omega (arith, m.bounded, h, few, m.same_length);
-    right = λ u P E F rest l a b t c f d s k.
-        let z : at + size P.edition.width (follow E p).successor ≤ length x = omega (arith, k) in
-        let given = left_given l a b t c d s in
-        let g = begun m u P (words P.edition.width F ++ rest) E given z in
-        let end : r % 65536 ≡ at + length (shared_words g.shared) = (where_ends E p few s z g).0 in
+        let given = left_given e p l a b t c d s in
+        let g = begun m u P (words P.edition.width F ++ rest) E given (omega (arith, k)) in
+        let end : i ≡ at + length (shared_words g.shared) = same_at g.answered in
         let o = one_word (under_on v given.under (last_tail n e v is)) (second_at n v t (skip.1 P E (words P.edition.width F ++ rest) t.first) is) f in
         let q : shared_words o.shared ≡ w ∷ [] = o.word ∙ ap (λ j. j ∷ []) (sym fw) in
         let X = shared_words g.shared in
         let Y = shared_words o.shared in
+        let next : i + 1 ≡ at + length (X ++ Y) = omega (arith, end, length-append X Y, ap length q) in
         record {
           X = g.shared;
           Y = o.shared;
@@ -106,119 +81,83 @@ module _ (e p x y : List ℕ) (at r : ℕ) (m : Beginning e p at x y r) (few : l
           Y_stands = o.stands;
           X_is = g.is_successor;
           Y_is = o.is;
-          written = put_behind x X Y y (set y (r % 65536) w) at (r % 65536) (omega (arith, end, h, m.same_length)) end g.written (one_put y (r % 65536) w Y h q);
-          answered = omega (arith, g.answered, length-append X Y, ap length q);
+          written = put_behind x X Y y (set y i w) at i (omega (arith, end, h, m.same_length)) end g.written (one_put y i w Y h q);
+          answered = reached_same next (same_left g.answered) (same_action g.answered);
         };
   }
 
--- The same where the place, the words left of the path and the action's number are known one by one.
-module _ (e p x y : List ℕ) (at i left a : ℕ) (m : Beginning e p at x y (began i left a)) (few : length x ≤ 65535) (place : i ≤ 65535) where
-  place_is : began i left a % 65536 ≡ i
-  place_is = began_at (began i left a) i left a refl place
-
-  pub left_without_room : length y ≤ i → LeftBegun e p at x y 0
-  left_without_room h = left_full e p x y at (began i left a) m few (omega (arith, h, place_is))
-
-  pub left_written : (n : ℕ) (v : List ℕ) (w : ℕ) → i < length y → Skipped e n → v ≡ last_of n e → w ≡ word_of v → LeftBegun e p at x (set y i w) (began (i + 1) left a)
-  unfolding began
-  left_written n v w h skip is fw =
-      let next : began i left a + 1 ≡ began (i + 1) left a = omega arith in
-      subst (λ j. LeftBegun e p at x (set y j w) (began (i + 1) left a)) place_is
-      (subst (λ r. LeftBegun e p at x (set y (began i left a % 65536) w) r) next (left_begun e p x y at (began i left a) m few n v w (omega (arith, h, place_is)) skip is fw))
-
 -- ── both operands move ──
 
-pub both_lost : (e p x y : List ℕ) (n at : ℕ) → Beginning e p at x y 0 → length x ≤ 65535 → BothBegun e n p at x y 0
-both_lost e p x y n at m few = record {
+pub both_lost : (e p x y : List ℕ) (n at : ℕ) → Beginning e p at x y None → BothBegun e n p at x y None
+both_lost e p x y n at m = record {
   same_length = m.same_length;
-  bounded = omega arith;
-  right = λ u P E F rest l a b t is c f d j s k.
-      absurd (lost e p x y at 0 m few E (record { few = l; under = record { fewer = a; end = b }; there = t.first; bare = c; led = d; short = s }) (omega (arith, k)) refl);
+  right = λ u P E F rest l a b t is c f d j s k. absurd (lost E m (left_given e p l a b t c d s) (omega (arith, k)));
 }
 
-module _ (e p q x y z : List ℕ) (n at r o : ℕ) (m : Beginning e p at x y r) (few : length x ≤ 65535) (is : q ≡ last_of (r / 65536 % 65536) p) (given : Beginning (lent n e) q (r % 65536) y z o) where
-  there : Beginning (drop n e) q (r % 65536) y z o
-  there = subst (λ l. Beginning l q (r % 65536) y z o) (part n e) given
+module _ (e p q x y z : List ℕ) (n at i left a : ℕ) (m : Beginning e p at x y (Some (reached i left a))) (is : q ≡ last_of left p) where
+  module _ {o : Option Reached} (given : Beginning (lent n e) q i y z o) where
+    there : Beginning (drop n e) q i y z o
+    there = subst (λ l. Beginning l q i y z o) (part n e) given
 
-  pub both_begun : BothBegun e n p at x z (o % 4294967296 + r / 4294967296 * 4294967296)
-  unfolding began
-  both_begun = record {
-    same_length = there.same_length ∙ m.same_length;
-    bounded = omega (arith, m.bounded);
-    right = λ u P E F rest l a b t isn c f d j s k.
-        let i : at + size P.edition.width (follow E p).successor ≤ length x = omega (arith, k) in
-        let known : Given u e P E (words P.edition.width F ++ rest) p = record { few = l; under = record { fewer = a; end = b }; there = t.first; bare = c; led = d; short = s } in
-        let g = begun m u P (words P.edition.width F ++ rest) E known i in
-        let end = where_ends E p few s i g in
-        let left = what_is_left E p few s i g in
-        let on : q ≡ (follow E p).rest = is ∙ rest_of_path E p (r / 65536 % 65536) left.0 in
-        let lq : length q ≤ 65535 = omega (arith, ap length on, rest_short E p, s) in
-        let known_right : Given u (drop n e) P F rest q = record {
-          few = l;
-          under = under_on (drop n e) known.under (n, refl);
-          there = right_there t n isn;
-          bare = f;
-          led = subst (λ w. marked P.edition.width F w ≡ true) (sym on) j;
-          short = lq;
-        } in
-        let room : r % 65536 + size P.edition.width (follow F (follow E p).rest).successor ≤ length y = omega (arith, end.1, k, m.same_length) in
-        let roomq : r % 65536 + size P.edition.width (follow F q).successor ≤ length y = subst (λ w. r % 65536 + size P.edition.width (follow F w).successor ≤ length y) (sym on) room in
-        let h = begun there u P rest F known_right roomq in
-        let fewy : length y ≤ 65535 = omega (arith, few, m.same_length) in
+    both_long : length z ≡ length x
+    both_long = there.same_length ∙ m.same_length
+
+    module _ {u rest : List ℕ} {P : Scope} {E F : Term} (known : Given u e P E (words P.edition.width F ++ rest) p) (t : TwoAt e P E F rest) (isn : n ≡ size P.edition.width E) (f : Unmasked F)
+        (j : marked P.edition.width F (follow E p).rest ≡ true) (k : at + (size P.edition.width (follow E p).successor + size P.edition.width (follow F (follow E p).rest).successor) ≤ length x) where
+      left_one : BeganRight u P (follow E p) at x y (Some (reached i left a))
+      left_one = begun m u P (words P.edition.width F ++ rest) E known (omega (arith, k))
+
+      on : q ≡ (follow E p).rest
+      on = is ∙ rest_of_path E p left (same_left left_one.answered)
+
+      right_known : Given u (drop n e) P F rest q
+      right_known = record {
+        few = known.few;
+        under = under_on (drop n e) known.under (n, refl);
+        there = right_there t n isn;
+        bare = f;
+        led = subst (λ w. marked P.edition.width F w ≡ true) (sym on) j;
+        short = omega (arith, ap length on, rest_short E p, known.short);
+      }
+
+      right_one : BeganRight u P (follow F q) i y z o
+      right_one =
+          let room : i + size P.edition.width (follow F (follow E p).rest).successor ≤ length y = omega (arith, same_at left_one.answered, words_fit left_one, k, m.same_length) in
+          begun there u P rest F right_known (subst (λ w. i + size P.edition.width (follow F w).successor ≤ length y) (sym on) room)
+
+  pub both_lost_second : Beginning (lent n e) q i y z None → BothBegun e n p at x z None
+  both_lost_second given = record {
+    same_length = both_long given;
+    right = λ u P E F rest l a b t isn c f d j s k. absurd (none-some _ (right_one given (left_given e p l a b t c d s) t isn f j k).answered);
+  }
+
+  pub both_written : (i' left' b : ℕ) → Beginning (lent n e) q i y z (Some (reached i' left' b)) → BothBegun e n p at x z (Some (reached i' left' a))
+  both_written i' left' b given = record {
+    same_length = both_long given;
+    right = λ u P E F rest l a' b' t isn c f d j s k.
+        let known = left_given e p l a' b' t c d s in
+        let g = left_one given known t isn f j k in
+        let h = right_one given known t isn f j k in
+        let w = on given known t isn f j k in
         let X = shared_words g.shared in
         let Y = shared_words h.shared in
-        let ex : r % 65536 ≡ at + length X = end.0 in
-        let ey : o % 65536 ≡ r % 65536 + length Y = (where_ends F q fewy lq roomq h).0 in
-        let both : o % 4294967296 ≡ r % 65536 + length Y + 65536 * length (follow F q).rest =
-        began_both o (r % 65536 + length Y) (length (follow F q).rest) (action_code (follow F q).action) h.answered (omega (arith, ey)) (omega (arith, lq, rest_short F q)) in
-        let lf : length (follow F q).rest ≡ length (follow F (follow E p).rest).rest = ap (λ w. length (follow F w).rest) on in
+        let ex : i ≡ at + length X = same_at g.answered in
+        let ey : i' ≡ at + length (X ++ Y) = omega (arith, ex, same_at h.answered, length-append X Y) in
         record {
           X = g.shared;
           Y = h.shared;
           X_stands = g.stands;
           Y_stands = h.stands;
           X_is = g.is_successor;
-          Y_is = h.is_successor ∙ ap (λ w. (follow F w).successor) on;
-          written = put_behind x X Y y z at (r % 65536) (omega (arith, ex, end.1, i)) ex g.written h.written;
-          answered = omega (arith, both, lf, left.1, ex, length-append X Y);
+          Y_is = h.is_successor ∙ ap (λ v. (follow F v).successor) w;
+          written = put_behind x X Y y z at i (omega (arith, ex, words_fit g, k)) ex g.written h.written;
+          answered = reached_same ey (same_left h.answered ∙ ap (λ v. length (follow F v).rest) w) (same_action g.answered);
         };
   }
 
-  pub second_lost : o ≡ 0 → BothBegun e n p at x z 0
-  unfolding began
-  second_lost none = record {
-    same_length = there.same_length ∙ m.same_length;
-    bounded = omega arith;
-    right = λ u P E F rest l a b t isn c f d j s k.
-        let T = both_begun.right u P E F rest l a b t isn c f d j s k in
-        let X = shared_words T.X in
-        let Y = shared_words T.Y in
-        let fx : length X ≤ size P.edition.width (follow E p).successor = subst (λ G. length X ≤ size P.edition.width G) T.X_is (shared_short P.edition.width T.X) in
-        let fy : length Y ≤ size P.edition.width (follow F (follow E p).rest).successor = subst (λ G. length Y ≤ size P.edition.width G) T.Y_is (shared_short P.edition.width T.Y) in
-        absurd (omega (arith, T.answered, none, length-append X Y, shared_some T.X, fx, fy, k, few));
-  }
-
--- The same where the place, the words left of the path and the action's number are known one by one.
-module _ (e p q x y z : List ℕ) (n at i left a o : ℕ) (m : Beginning e p at x y (began i left a)) (few : length x ≤ 65535) (place : i ≤ 65535) (short : left ≤ 65535) (is : q ≡ last_of left p) (given : Beginning (lent n e) q i y z o) where
-  rest_is : q ≡ last_of (began i left a / 65536 % 65536) p
-  rest_is = is ∙ ap (λ j. last_of j p) (sym (began_left (began i left a) i left a refl place short))
-
-  from_there : Beginning (lent n e) q (began i left a % 65536) y z o
-  from_there = subst (λ j. Beginning (lent n e) q j y z o) (sym (began_at (began i left a) i left a refl place)) given
-
-  pub both_lost_second : o ≡ 0 → BothBegun e n p at x z 0
-  both_lost_second = second_lost e p q x y z n at (began i left a) o m few rest_is from_there
-
-  pub both_written : (i' left' b : ℕ) → o ≡ began i' left' b → i' ≤ 65535 → left' ≤ 65535 → BothBegun e n p at x z (began i' left' a)
-  unfolding began
-  both_written i' left' b f h k =
-      let r : o % 4294967296 ≡ i' + 65536 * left' = began_both o i' left' b f h k in
-      let l : began i left a / 4294967296 ≡ a = began_action (began i left a) i left a refl place short in
-      subst (BothBegun e n p at x z) (omega (arith, r, l)) (both_begun e p q x y z n at (began i left a) o m few rest_is from_there)
-
 -- ── after the code of a parallel ──
 
-beside : {u : List ℕ} {P : Scope} {at : ℕ} {x y : List ℕ} {r : ℕ} (Δ : Mask) (E F : Term) (ρ : Action) (rest : List ℕ) → Δ ≡ no_mask → at < length x → TwoRight u P E F ρ rest (at + 1) (set x at 25) y r
+beside : {u : List ℕ} {P : Scope} {at : ℕ} {x y : List ℕ} {r : Option Reached} (Δ : Mask) (E F : Term) (ρ : Action) (rest : List ℕ) → Δ ≡ no_mask → at < length x → TwoRight u P E F ρ rest (at + 1) (set x at 25) y r
     → BeganRight u P (followed ρ (Parallel Δ E F) rest) at x y r
 unfolding term_of shared_words
 beside {u} {P} {at} {x} {y} {r} Δ E F ρ rest bare room t =
@@ -229,7 +168,7 @@ beside {u} {P} {at} {x} {y} {r} Δ E F ρ rest bare room t =
       stands = (t.X_stands, t.Y_stands);
       is_successor = ap (λ d. Parallel d (term_of t.X) (term_of t.Y)) (sym bare) ∙ (ap (λ G. Parallel Δ G (term_of t.Y)) t.X_is ∙ ap (λ G. Parallel Δ E G) t.Y_is);
       written = put_behind x (25 ∷ []) w (set x at 25) y at (at + 1) (omega (arith, room)) refl (put_one x at 25 room) t.written;
-      answered = t.answered ∙ ap (λ j. began j (length rest) (action_code ρ)) n;
+      answered = further n t.answered;
     }
 
 -- Whatever moves, a parallel is left.
@@ -249,18 +188,18 @@ moving_size width p Δ E F h = subst (λ b. 5 ≤ size width (pick b (followed i
     go false false = omega arith
 
 module _ (s p x : List ℕ) (at : ℕ) (code : get_or s 0 0 ≡ 25) where
-  pub parallel_ends : (y q : List ℕ) (r : ℕ) → q ≡ drop 1 p → get_or p 0 0 ≡ 0 → EndPut x y at (length q) 0 r → Beginning s p at x y r
+  pub parallel_ends : (y q : List ℕ) (r : Option Reached) → q ≡ drop 1 p → get_or p 0 0 ≡ 0 → EndPut (length q) 0 at x y r → Beginning s p at x y r
   unfolding size action_code
   parallel_ends y q r on d m =
-      by_parallel m.same_length m.bounded code (λ u P rest Δ E F g k.
+      by_parallel m.same_length code (λ u P rest Δ E F g k.
       let f : follow (Parallel Δ E F) p ≡ followed internal Done q = parallel_end_follows p d Δ E F ∙ ap (followed internal Done) (sym on) in
       subst (λ z. BeganRight u P z at x y r) (sym f) (ended internal q m (subst (λ z. at + size P.edition.width z.successor ≤ length x) f k) refl refl))
 
-  pub parallel_short : length s < 5 → Beginning s p at x x 0
-  parallel_short h = by_parallel refl (omega arith) code (λ u P rest Δ E F g k. absurd (omega (arith, h, parallel_long s P rest Δ E F g.there)))
+  pub parallel_short : length s < 5 → Beginning s p at x x None
+  parallel_short h = by_parallel refl code (λ u P rest Δ E F g k. absurd (omega (arith, h, parallel_long s P rest Δ E F g.there)))
 
-  pub parallel_full : (get_or p 0 0 ≡ 0 → ⊥) → length x < at + 2 → Beginning s p at x x 0
-  parallel_full d h = by_parallel refl (omega arith) code (λ u P rest Δ E F g k. absurd (omega (arith, h, k, moving_size P.edition.width p Δ E F d)))
+  pub parallel_full : (get_or p 0 0 ≡ 0 → ⊥) → length x < at + 2 → Beginning s p at x x None
+  parallel_full d h = by_parallel refl code (λ u P rest Δ E F g k. absurd (omega (arith, h, k, moving_size P.edition.width p Δ E F d)))
 
   -- Its operands come after five words.
   module _ (e : List ℕ) (cut : e ≡ drop 5 s) where
@@ -273,10 +212,10 @@ module _ (s p x : List ℕ) (at : ℕ) (code : get_or s 0 0 ≡ 25) where
     below : {u rest : List ℕ} {P : Scope} {Δ : Mask} {E F : Term} → Given u s P (Parallel Δ E F) rest p → Under u e
     below g = under_on e g.under (5, cut)
 
-    pub parallel_left : (y q : List ℕ) (r : ℕ) → q ≡ drop 1 p → get_or p 0 0 ≡ 1 → at + 2 ≤ length x → LeftBegun e q (at + 1) (set x at 25) y r → Beginning s p at x y r
+    pub parallel_left : (y q : List ℕ) (r : Option Reached) → q ≡ drop 1 p → get_or p 0 0 ≡ 1 → at + 2 ≤ length x → LeftBegun e q (at + 1) (set x at 25) y r → Beginning s p at x y r
     unfolding size
     parallel_left y q r on d room m =
-        by_parallel (m.same_length ∙ length-set x at 25) m.bounded code (λ u P rest Δ E F g k.
+        by_parallel (m.same_length ∙ length-set x at 25) code (λ u P rest Δ E F g k.
         let f : follow (Parallel Δ E F) p ≡ within (λ X. Parallel Δ X F) (follow E q) = parallel_left_follows p Δ E F d ∙ ap (λ c. within (λ X. Parallel Δ X F) (follow E c)) (sym on) in
         let l : at + size P.edition.width (Parallel Δ (follow E q).successor F) ≤ length x = subst (λ z. at + size P.edition.width z.successor ≤ length x) f k in
         let c : marked P.edition.width E q ≡ true = subst (λ z. marked P.edition.width E z ≡ true) (sym on) (parallel_left_marked p Δ E F P.edition.width d g.led) in
@@ -285,13 +224,14 @@ module _ (s p x : List ℕ) (at : ℕ) (code : get_or s 0 0 ≡ 25) where
         subst (λ z. BeganRight u P z at x y r) (sym f) (beside Δ (follow E q).successor F (follow E q).action (follow E q).rest (no_label g) (omega (arith, room)) t))
 
     module _ (n : ℕ) (is : n ≡ get_or p 1 0) where
-      pub parallel_right : (y q : List ℕ) (r w : ℕ) → q ≡ drop 2 p → get_or p 0 0 ≡ 2 → at + 2 ≤ length x → w ≡ word_of e → Beginning (lent n e) q (at + 2) (set (set x at 25) (at + 1) w) y r → Beginning s p at x y r
+      pub parallel_right : (y q : List ℕ) (r : Option Reached) (w : ℕ) → q ≡ drop 2 p → get_or p 0 0 ≡ 2 → at + 2 ≤ length x → w ≡ word_of e
+          → Beginning (lent n e) q (at + 2) (set (set x at 25) (at + 1) w) y r → Beginning s p at x y r
       unfolding size
       parallel_right y q r w on d room fw given =
           let m : Beginning (drop n e) q (at + 2) (set (set x at 25) (at + 1) w) y r = subst (λ z. Beginning z q (at + 2) (set (set x at 25) (at + 1) w) y r) (part n e) given in
           let same : length (set (set x at 25) (at + 1) w) ≡ length x = length-set (set x at 25) (at + 1) w ∙ length-set x at 25 in
           let h : at + 1 < length (set x at 25) = omega (arith, room, length-set x at 25) in
-          by_parallel (m.same_length ∙ same) m.bounded code (λ u P rest Δ E F g k.
+          by_parallel (m.same_length ∙ same) code (λ u P rest Δ E F g k.
           let f : follow (Parallel Δ E F) p ≡ within (λ X. Parallel Δ E X) (follow F q) = parallel_right_follows p Δ E F d ∙ ap (λ c. within (λ X. Parallel Δ E X) (follow F c)) (sym on) in
           let l : at + size P.edition.width (Parallel Δ E (follow F q).successor) ≤ length x = subst (λ z. at + size P.edition.width z.successor ≤ length x) f k in
           let c = parallel_right_marked p Δ E F P.edition.width d g.led in
@@ -318,20 +258,20 @@ module _ (s p x : List ℕ) (at : ℕ) (code : get_or s 0 0 ≡ 25) where
             X_is = o.is;
             Y_is = b.is_successor;
             written = put_behind (set x at 25) X Y (set (set x at 25) (at + 1) w) y (at + 1) (at + 2) (omega (arith, h, ap length v)) (omega (arith, ap length v)) (one_put (set x at 25) (at + 1) w X h v) b.written;
-            answered = b.answered ∙ ap (λ i. began i (length (follow F q).rest) (action_code (follow F q).action)) j;
+            answered = further {i = at + 2 + length Y} {j = at + 1 + length (X ++ Y)} j b.answered;
           } in
           subst (λ z. BeganRight u P z at x y r) (sym f) (beside Δ E (follow F q).successor (follow F q).action (follow F q).rest (no_label g) (omega (arith, room)) t))
 
       module _ (d0 : get_or p 0 0 ≡ 0 → ⊥) (d1 : get_or p 0 0 ≡ 1 → ⊥) where
-        pub parallel_cut : length e < n → Beginning s p at x x 0
+        pub parallel_cut : length e < n → Beginning s p at x x None
         parallel_cut h =
-            by_parallel refl (omega arith) code (λ u P rest Δ E F g k.
+            by_parallel refl code (λ u P rest Δ E F g k.
             absurd (omega (arith, h, left_within (sides g) n (is ∙ size_marked p Δ E F P.edition.width d0 d1 g.led))))
 
-        pub parallel_both : (y q : List ℕ) (r : ℕ) → q ≡ drop 2 p → (get_or p 0 0 ≡ 2 → ⊥) → at + 2 ≤ length x → BothBegun e n q (at + 1) (set x at 25) y r → Beginning s p at x y r
+        pub parallel_both : (y q : List ℕ) (r : Option Reached) → q ≡ drop 2 p → (get_or p 0 0 ≡ 2 → ⊥) → at + 2 ≤ length x → BothBegun e n q (at + 1) (set x at 25) y r → Beginning s p at x y r
         unfolding size
         parallel_both y q r on d2 room m =
-            by_parallel (m.same_length ∙ length-set x at 25) m.bounded code (λ u P rest Δ E F g k.
+            by_parallel (m.same_length ∙ length-set x at 25) code (λ u P rest Δ E F g k.
             let c = parallel_both_marked p Δ E F d0 d1 d2 P.edition.width g.led in
             let f : follow (Parallel Δ E F) p ≡ followed (follow E q).action (Parallel Δ (follow E q).successor (follow F (follow E q).rest).successor) (follow F (follow E q).rest).rest =
             parallel_both_follows p Δ E F d0 d1 d2

@@ -3,9 +3,10 @@ use mathlib.Core.Path.{◌≡◌, refl, sym, ap, ◌∙◌}
 use mathlib.Core.List.{List, [], ◌∷◌, ◌++◌, append_assoc}
 use Prim.Native.Nat.{ℕ, suc, ◌+◌, ◌≤◌, ◌<◌}
 use native.Mathlib.Omega.{arith}
+use Rattle.std.specs.Prelude.{Some}
 use lib.ListN.{length, take, drop, set, length-append, length-drop, length-set}
 use lib.Seq.{length-take-le, take_at, drop_at, drop-drop, set_split}
-use Rattle.sharing.specs.Beginning.{put_at, began, EndPut}
+use Rattle.sharing.specs.Beginning.{put_at, reached, EndPut}
 
 pub put_one : (x : List ℕ) (i c : ℕ) → i < length x → set x i c ≡ put_at i (c ∷ []) x
 put_one x i c h =
@@ -50,6 +51,5 @@ put_two x i c d h =
 
 -- ── done ──
 
-pub end_put : (x : List ℕ) (i left a : ℕ) → i < length x → length x ≤ 65535 → left ≤ 65535 → a < 1048576 → EndPut x (set x i 30) i left a (began (i + 1) left a)
-unfolding began
-end_put x i left a h l m n = record { same_length = length-set x i 30; bounded = omega arith; right = λ k. (put_one x i 30 h, refl) }
+pub end_put : (x : List ℕ) (i left a : ℕ) → i < length x → EndPut left a i x (set x i 30) (Some (reached (i + 1) left a))
+end_put x i left a h = record { same_length = length-set x i 30; right = λ k. (put_one x i 30 h, refl) }

@@ -2,9 +2,10 @@
 use mathlib.Core.Path.{◌≡◌, refl, sym, ap, ◌∙◌, subst}
 use mathlib.Core.Bool.{true}
 use mathlib.Core.List.{List, [], ◌∷◌, ◌++◌}
-use Prim.Native.Nat.{ℕ, ◌+◌, ◌-◌, ◌*◌, ◌/◌, ◌%◌, ◌≤◌, ◌<◌}
+use Prim.Native.Nat.{ℕ, ◌+◌, ◌-◌, ◌≤◌, ◌<◌}
 use native.Mathlib.Omega.{arith}
 use Rattle.std.specs.Prelude.{Option, None, Some}
+use Rattle.std.proofs.lemmas.Option.{none-some}
 use lib.ListN.{length, take, drop, set, length-append, length-set}
 use lib.Seq.{slice, length-slice, length-take-le, take-append_seam, take-suc-set}
 use Rattle.eb3.specs.Scopes.{Scope}
@@ -16,10 +17,10 @@ use Rattle.listing.specs.Listing.{TermAt}
 use Rattle.actions.specs.Codes.{action_code}
 use Rattle.paths.specs.Paths.{Followed, follow, followed, marked}
 use Rattle.sharing.specs.Shared.{Shared, Ended, term_of, part_word, shared_words, PartAt}
-use Rattle.sharing.specs.Beginning.{began, put_at, BeganRight, Beginning}
-use Rattle.sharing.specs.Laws.Shared.{shared_some}
+use Rattle.sharing.specs.Beginning.{Reached, reached, put_at, BeganRight, Beginning}
 use Rattle.sharing.specs.Splicing.{Spliced}
-use Rattle.sharing.proofs.BeginningCodes.{began_at, began_action}
+use Rattle.sharing.proofs.BeginningCodes.{same_at, same_action}
+use Rattle.sharing.specs.declared.moved.Moved.{Moved}
 use Rattle.sharing.specs.Changing.{RoomFor, ChangedRight, Joined, PartChanged}
 
 -- The first words of an array into which others were put.
@@ -46,37 +47,36 @@ module _ {d mid : List ℕ} {n i e k : ℕ} {d' mid' : List ℕ} {r : ℕ} (with
     pub splice_held : take (length all) d' ≡ all
     splice_held = ap (λ m. take m d') (sym splice_length) ∙ spliced.1 ∙ ap (λ m. take i d ++ (take m mid ++ slice e n d)) is ∙ ap (λ l. take i d ++ (l ++ slice e n d)) put
 
-    pub splice_low : r ≤ length d
-    splice_low = omega (arith, spliced.0, is)
-
 -- ── done ──
 
 done_put : (mid : List ℕ) → (length mid ≡ 0 → ⊥) → take 1 (set mid 0 30) ≡ 30 ∷ []
 done_put mid h = take-suc-set mid 0 30 (omega arith)
 
-module _ {d : List ℕ} {n i : ℕ} {mid d' mid' : List ℕ} {r : ℕ} (within : n ≤ length d) (short : length d ≤ 65535) where
-  pub join_put : (length mid ≡ 0 → ⊥) → Spliced d (set mid 0 30) n i (i + 3) 1 d' mid' (Some r) → Joined d n i mid d' mid' (r + 65536 * 0)
-  unfolding shared_words term_of action_code
-  join_put some s = record {
-    same_length = s.same_length;
-    mid_same_length = s.mid_same_length ∙ length-set mid 0 30;
-    right = λ u P h room.
-        let whole : i + (1 + (n - (i + 3))) ≤ length d = room.whole Ended refl in
-        let moved : 1 + (n - (i + 3)) ≤ length (set mid 0 30) = omega (arith, room.moved Ended refl, length-set mid 0 30) in
-        let front : i ≤ i + 3 = omega arith in
-        let low : r ≤ length d = splice_low within front h s Ended refl (done_put mid some) whole moved in
-        record {
-          shared = Ended;
-          stands = tt;
-          is_successor = refl;
-          held = splice_held within front h s Ended refl (done_put mid some) whole moved;
-          answered = omega (arith, splice_length within front h s Ended refl (done_put mid some) whole moved);
-          low = omega (arith, low);
-        };
-  }
+pub join_put : {d : List ℕ} {n i : ℕ} {mid d' mid' : List ℕ} {x : Moved} → n ≤ length d → (length mid ≡ 0 → ⊥) → x.action ≡ 0 → Spliced d (set mid 0 30) n i (i + 3) 1 d' mid' (Some x.words)
+    → Joined d n i mid d' mid' (Some x)
+unfolding shared_words term_of action_code
+join_put {d} {n} {i} {mid} {d'} {mid'} {x} within some a s = record {
+  same_length = s.same_length;
+  mid_same_length = s.mid_same_length ∙ length-set mid 0 30;
+  right = λ u P h room.
+      let whole : i + (1 + (n - (i + 3))) ≤ length d = room.whole Ended refl in
+      let moved : 1 + (n - (i + 3)) ≤ length (set mid 0 30) = omega (arith, room.moved Ended refl, length-set mid 0 30) in
+      let front : i ≤ i + 3 = omega arith in
+      record {
+        shared = Ended;
+        stands = tt;
+        is_successor = refl;
+        held = splice_held within front h s Ended refl (done_put mid some) whole moved;
+        moved = x;
+        answered = refl;
+        words_are = splice_length within front h s Ended refl (done_put mid some) whole moved;
+        action_is = a;
+      };
+}
 
 -- There is always room.
-pub join_unplaced : {d : List ℕ} {n i : ℕ} {mid d' mid' : List ℕ} {z : ℕ} → n ≤ length d → i + 3 ≤ n → (length mid ≡ 0 → ⊥) → Spliced d (set mid 0 30) n i (i + 3) 1 d' mid' None → Joined d n i mid d' mid' z
+pub join_unplaced : {d : List ℕ} {n i : ℕ} {mid d' mid' : List ℕ} {z : Option Moved} → n ≤ length d → i + 3 ≤ n → (length mid ≡ 0 → ⊥) → Spliced d (set mid 0 30) n i (i + 3) 1 d' mid' None
+    → Joined d n i mid d' mid' z
 unfolding shared_words term_of
 join_unplaced {mid = mid} within enough some s = record {
   same_length = s.same_length;
@@ -85,112 +85,75 @@ join_unplaced {mid = mid} within enough some s = record {
 }
 
 -- The words end before the parallel's three words do, or the scratch array has no room.
-pub join_short : {d : List ℕ} {n i : ℕ} {mid : List ℕ} {r : ℕ} → n < i + 3 → Joined d n i mid d mid r
+pub join_short : {d : List ℕ} {n i : ℕ} {mid : List ℕ} {r : Option Moved} → n < i + 3 → Joined d n i mid d mid r
 join_short h = record { same_length = refl; mid_same_length = refl; right = λ u P g room. absurd (omega arith) }
 
-pub join_roomless : {d : List ℕ} {n i : ℕ} {mid : List ℕ} {r : ℕ} → length mid ≡ 0 → Joined d n i mid d mid r
+pub join_roomless : {d : List ℕ} {n i : ℕ} {mid : List ℕ} {r : Option Moved} → length mid ≡ 0 → Joined d n i mid d mid r
 unfolding shared_words term_of
 join_roomless h = record { same_length = refl; mid_same_length = refl; right = λ u P g room. absurd (omega (arith, room.moved Ended refl)) }
 
 -- ── a part ──
 
-began_is : (at left a : ℕ) → began at left a ≡ at + 65536 * (left + 65536 * a)
-unfolding began
-began_is at left a = refl
-
-module _ (d : List ℕ) {u : List ℕ} {n i e w : ℕ} {p mid mid1 s : List ℕ} {r : ℕ} (within : n ≤ length d) (ie : i ≤ e) (en : e ≤ n) (short_u : length u ≤ 65503) (short_d : length d ≤ 65535)
-    (short_p : length p ≤ 65535) (short_mid : length mid ≤ 65535) (is : s ≡ last_of (w - 32) u) (b : Beginning s p 0 mid mid1 r) where
+module _ (d : List ℕ) {u : List ℕ} {n i e w : ℕ} {p mid mid1 s : List ℕ} (within : n ≤ length d) (ie : i ≤ e) (en : e ≤ n) (short_u : length u ≤ 65503) (short_p : length p ≤ 65535) (is : s ≡ last_of (w - 32) u) where
   module _ (P : Scope) (l : ℕ) (E : Term) (ρ : Action) (T : Term) (g : w ≡ part_word l) (a : PartAt u P l E) (f : follow E p ≡ followed ρ T []) (m : marked P.edition.width E p ≡ true)
       (room : RoomFor P.edition.width T i (n - e) (length d) (length mid)) where
-    there : s ≡ last_of l u
-    there =
+    -- The part's successor was written.
+    begun : {o : Option Reached} → Beginning s p 0 mid mid1 o → BeganRight u P (follow E p) 0 mid mid1 o
+    begun b =
         let z : w - 32 ≡ l = omega arith in
-        is ∙ ap (λ j. last_of j u) z
-
-    many : length s ≡ l
-    many = ap length there ∙ last_length l u a.within
-
-    begun : BeganRight u P (follow E p) 0 mid mid1 r
-    begun =
+        let there : s ≡ last_of l u = is ∙ ap (λ j. last_of j u) z in
+        let many : length s ≡ l = ap length there ∙ last_length l u a.within in
         let fits : 0 + size P.edition.width (follow E p).successor ≤ length mid = omega (arith, ap (λ (y : Followed). size P.edition.width y.successor) f, room.spelled) in
         b.right u P E a.rest short_u (omega (arith, many, a.within)) (there ∙ ap (λ j. last_of j u) (sym many)) (subst (λ z. TermAt z P E a.rest) (sym there) a.there) a.unmasked m short_p fits
 
-    abbrev X : Shared
-    X = begun.shared
+    module _ {at left k : ℕ} (b : Beginning s p 0 mid mid1 (Some (reached at left k))) where
+      abbrev X : Shared
+      X = (begun b).shared
 
-    is_X : term_of X ≡ T
-    is_X = begun.is_successor ∙ ap (λ (y : Followed). y.successor) f
+      is_X : term_of X ≡ T
+      is_X = (begun b).is_successor ∙ ap (λ (y : Followed). y.successor) f
 
-    told : r ≡ length (shared_words X) + 65536 * (65536 * action_code ρ)
-    told = omega (
-      arith,
-      begun.answered,
-      began_is (0 + length (shared_words X)) (length (follow E p).rest) (action_code (follow E p).action),
-      ap (λ (y : Followed). length y.rest) f,
-      ap (λ (y : Followed). action_code y.action) f,
-    )
+      count : at ≡ length (shared_words X)
+      count = omega (arith, same_at (begun b).answered)
 
-    few : length (shared_words X) ≤ 65535
-    few = omega (arith, room.moved X is_X)
+      put : take (length (shared_words X)) mid1 ≡ shared_words X
+      put = put_front (shared_words X) mid mid1 (begun b).written
 
-    something : r ≡ 0 → ⊥
-    something z = omega (arith, told, z, shared_some X)
+      moved : length (shared_words X) + (n - e) ≤ length mid1
+      moved = omega (arith, room.moved X is_X, b.same_length)
 
-    written_count : r % 65536 ≡ length (shared_words X)
-    written_count = omega (arith, told, few)
+      -- There is always room.
+      roomy : {d' mid2 : List ℕ} → Spliced d mid1 n i e at d' mid2 None → ⊥
+      roomy c = c.made ie en within (omega (arith, count, room.whole X is_X)) (omega (arith, count, moved))
 
-    action_number : r / 4294967296 ≡ action_code ρ
-    action_number = omega (arith, told, few)
-
-    moved : length (shared_words X) + (n - e) ≤ length mid1
-    moved = omega (arith, room.moved X is_X, b.same_length)
-
-    put : take (length (shared_words X)) mid1 ≡ shared_words X
-    put = put_front (shared_words X) mid mid1 begun.written
-
-    -- There is always room.
-    roomy : {d' mid2 : List ℕ} → Spliced d mid1 n i e (r % 65536) d' mid2 None → ⊥
-    roomy c = c.made ie en within (omega (arith, written_count, room.whole X is_X)) (omega (arith, written_count, moved))
-
-    module _ {d' mid2 : List ℕ} {k : ℕ} (c : Spliced d mid1 n i e (r % 65536) d' mid2 (Some k)) where
-      pub answer_low : k ≤ length d
-      answer_low = splice_low within ie en c X written_count put (room.whole X is_X) moved
-
-      pub part_right : ChangedRight u P ρ T (take i d) (slice e n d) d' (k + 65536 * (r / 4294967296))
-      part_right = record {
+      part_right : {d' mid2 : List ℕ} {x : Moved} → Spliced d mid1 n i e at d' mid2 (Some x.words) → x.action ≡ k → ChangedRight u P ρ T (take i d) (slice e n d) d' (Some x)
+      part_right {x = x} c is_k = record {
         shared = X;
-        stands = begun.stands;
+        stands = (begun b).stands;
         is_successor = is_X;
-        held = splice_held within ie en c X written_count put (room.whole X is_X) moved;
-        answered = omega (arith, splice_length within ie en c X written_count put (room.whole X is_X) moved, action_number);
-        low = omega (arith, answer_low, b.bounded);
+        held = splice_held within ie en c X count put (room.whole X is_X) moved;
+        moved = x;
+        answered = refl;
+        words_are = splice_length within ie en c X count put (room.whole X is_X) moved;
+        action_is = is_k ∙ (same_action (begun b).answered ∙ ap (λ (y : Followed). action_code y.action) f);
       }
 
-  part_roomless : {d' mid2 : List ℕ} {z : ℕ} → Spliced d mid1 n i e (r % 65536) d' mid2 None → PartChanged u d n i e w p mid d' mid2 z
-  part_roomless c = record {
-    same_length = c.same_length;
-    mid_same_length = c.mid_same_length ∙ b.same_length;
-    right = λ P l E ρ T g a f m room. absurd (roomy P l E ρ T g a f m room c);
-  }
-
-  module _ {d' mid2 : List ℕ} {k : ℕ} (c : Spliced d mid1 n i e (r % 65536) d' mid2 (Some k)) where
-    part_made : PartChanged u d n i e w p mid d' mid2 (k + 65536 * (r / 4294967296))
-    part_made = record { same_length = c.same_length; mid_same_length = c.mid_same_length ∙ b.same_length; right = λ P l E ρ T g a f m room. part_right P l E ρ T g a f m room c }
-
   -- No successor was written.
-  pub part_lost : {z : ℕ} {mid2 : List ℕ} → r ≡ 0 → mid2 ≡ mid1 → PartChanged u d n i e w p mid d mid2 z
-  part_lost z same = record { same_length = refl; mid_same_length = ap length same ∙ b.same_length; right = λ P l E ρ T g a f m room. absurd (something P l E ρ T g a f m room z) }
+  pub part_lost : {mid2 : List ℕ} {z : Option Moved} → Beginning s p 0 mid mid1 None → mid2 ≡ mid1 → PartChanged u d n i e w p mid d mid2 z
+  part_lost b same = record { same_length = refl; mid_same_length = ap length same ∙ b.same_length; right = λ P l E ρ T g a f m room. absurd (none-some _ (begun P l E ρ T g a f m room b).answered) }
 
-cut : (at left a : ℕ) {d mid1 : List ℕ} {n i e : ℕ} {d' mid2 : List ℕ} {o : Option ℕ} → at ≤ 65535 → Spliced d mid1 n i e at d' mid2 o → Spliced d mid1 n i e (began at left a % 65536) d' mid2 o
-cut at left a {d} {mid1} {n} {i} {e} {d'} {mid2} {o} place c = subst (λ j. Spliced d mid1 n i e j d' mid2 o) (sym (began_at (began at left a) at left a refl place)) c
+  module _ {d' mid2 : List ℕ} where
+    pub part_unplaced : {z : Option Moved} (at left k : ℕ) → Beginning s p 0 mid mid1 (Some (reached at left k)) → Spliced d mid1 n i e at d' mid2 None → PartChanged u d n i e w p mid d' mid2 z
+    part_unplaced at left k b c = record {
+      same_length = c.same_length;
+      mid_same_length = c.mid_same_length ∙ b.same_length;
+      right = λ P l E ρ T g a f m room. absurd (roomy P l E ρ T g a f m room b c);
+    }
 
--- The same where the number of words, the words left of the path and the action's number are known one by one.
-module _ (at left a : ℕ) {u d : List ℕ} {n i e w : ℕ} {p mid mid1 s d' mid2 : List ℕ} (within : n ≤ length d) (ie : i ≤ e) (en : e ≤ n) (short_u : length u ≤ 65503) (short_d : length d ≤ 65535)
-    (short_p : length p ≤ 65535) (short_mid : length mid ≤ 65535) (is : s ≡ last_of (w - 32) u) (b : Beginning s p 0 mid mid1 (began at left a)) (place : at ≤ 65535) (few : left ≤ 65535) where
-  pub part_written : {k : ℕ} → Spliced d mid1 n i e at d' mid2 (Some k) → PartChanged u d n i e w p mid d' mid2 (k + 65536 * a)
-  part_written {k} c =
-      let q : began at left a / 4294967296 ≡ a = began_action (began at left a) at left a refl place few in
-      subst (λ j. PartChanged u d n i e w p mid d' mid2 (k + 65536 * j)) q (part_made d within ie en short_u short_d short_p short_mid is b (cut at left a place c))
-
-  pub part_unplaced : {z : ℕ} → Spliced d mid1 n i e at d' mid2 None → PartChanged u d n i e w p mid d' mid2 z
-  part_unplaced c = part_roomless d within ie en short_u short_d short_p short_mid is b (cut at left a place c)
+    pub part_written : {x : Moved} (at left k : ℕ) → Beginning s p 0 mid mid1 (Some (reached at left k)) → Spliced d mid1 n i e at d' mid2 (Some x.words) → x.action ≡ k
+        → PartChanged u d n i e w p mid d' mid2 (Some x)
+    part_written at left k b c is_k = record {
+      same_length = c.same_length;
+      mid_same_length = c.mid_same_length ∙ b.same_length;
+      right = λ P l E ρ T g a f m room. part_right P l E ρ T g a f m room b c is_k;
+    }

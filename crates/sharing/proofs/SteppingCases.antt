@@ -3,8 +3,8 @@ use mathlib.Core.Path.{◌≡◌, refl, sym, ap, ◌∙◌, subst}
 use mathlib.Core.List.{List, [], ◌++◌, append-nil}
 use mathlib.Core.Option.{some}
 use Prim.Native.Nat.{ℕ, ◌+◌, ◌-◌, ◌/◌, ◌%◌, ◌≤◌, ◌<◌}
-use native.Mathlib.Nat.{le_refl}
 use native.Mathlib.Omega.{arith}
+use Rattle.std.specs.Prelude.{Option, None}
 use lib.ListN.{length, take, drop, get_elem?, length-append}
 use lib.Seq.{slice, length-take-le, take-take, take-append_seam, drop-append_seam}
 use Rattle.eb3.specs.Generic.PositionsLaws.{none_beyond}
@@ -18,6 +18,7 @@ use Rattle.derivation.specs.Derived.{passed}
 use Rattle.sharing.specs.Shared.{Shared, term_of, shared_words, Stands}
 use Rattle.sharing.specs.Finding.{Place, FoundRight, Found}
 use Rattle.sharing.specs.Changing.{Changes, RoomFor, ChangedRight, Changed}
+use Rattle.sharing.specs.declared.moved.Moved.{Moved}
 use Rattle.sharing.specs.Stepping.{StepTaken, Stepped}
 use Rattle.sharing.specs.Laws.Shared.{shared_some}
 use Rattle.sharing.proofs.SteppingPlaces.{moves_here, place_room, place_taken}
@@ -27,8 +28,8 @@ abbrev Never : List ℕ → List ℕ → ℕ → List ℕ → ℕ → ℕ → �
 Never u d n M k paths numbers = (P : Scope) (S : Shared) → n ≤ length d → take n d ≡ shared_words S → Stands u P S → length u ≤ paths → length u ≤ numbers
     → (x : Move) → get_elem? (moves (holding M) (term_of S)) k ≡ some x → ⊥
 
-never_stepped : {u d : List ℕ} {n : ℕ} {M : List ℕ} {k paths numbers room : ℕ} → Never u d n M k paths numbers → Stepped u d n M k paths numbers room d passed
-never_stepped h = record { same_length = refl; taken = λ P S a b c e f x g _ _. absurd (h P S a b c e f x g); not_offered = λ P S a b c e f g. (le_refl passed, refl) }
+never_stepped : {u d : List ℕ} {n : ℕ} {M : List ℕ} {k paths numbers room : ℕ} → Never u d n M k paths numbers → Stepped u d n M k paths numbers room d None
+never_stepped h = record { same_length = refl; taken = λ P S a b c e f x g _ _. absurd (h P S a b c e f x g); not_offered = λ P S a b c e f g. (refl, refl) }
 
 module _ (u d : List ℕ) (n : ℕ) (M s : List ℕ) (k numbers : ℕ) (entry exit : List ℕ) (r : ℕ) (short : length d ≤ 65535) (is : s ≡ take n d) (f : Found u s M k entry exit numbers r) where
   -- ── what was found ──
@@ -82,7 +83,7 @@ module _ (u d : List ℕ) (n : ℕ) (M s : List ℕ) (k numbers : ℕ) (entry ex
     here_words : slice (n - r % 65536) n d ≡ shared_words place.here ++ place.after
     here_words = ap (λ i. slice i n d) front_is ∙ ap (drop (length place.before)) all_words ∙ drop-append_seam place.before (shared_words place.here ++ place.after)
 
-    module _ {p mid d' mid' : List ℕ} {z : ℕ} (isp : p ≡ drop (r / 65536) exit) (c : Changed u d n (n - r % 65536) p mid d' mid' z) (space : size P.edition.width x.successor ≤ length d) (room : size P.edition.width x.successor ≤ length mid) where
+    module _ {p mid d' mid' : List ℕ} {z : Option Moved} (isp : p ≡ drop (r / 65536) exit) (c : Changed u d n (n - r % 65536) p mid d' mid' z) (space : size P.edition.width x.successor ≤ length d) (room : size P.edition.width x.successor ≤ length mid) where
       step_right : StepTaken u P x d' z
       step_right =
           let h = moves_here place.moving in
@@ -94,19 +95,19 @@ module _ (u d : List ℕ) (n : ℕ) (M s : List ℕ) (k numbers : ℕ) (entry ex
 
   -- ── the ways of returning ──
 
-  pub not_found : {room : ℕ} → passed ≤ r → Stepped u d n M k (length entry) numbers room d passed
+  pub not_found : {room : ℕ} → passed ≤ r → Stepped u d n M k (length entry) numbers room d None
   not_found h = never_stepped (λ P S a b c p q x e. omega (arith, (right a P S b c p q x e).low))
 
-  pub place_beyond : {room : ℕ} → n < r % 65536 → Stepped u d n M k (length entry) numbers room d passed
+  pub place_beyond : {room : ℕ} → n < r % 65536 → Stepped u d n M k (length entry) numbers room d None
   place_beyond h = never_stepped (λ P S a b c p q x e. omega (arith, left_is a P S b c p q x e, all_count a P S b c p q x e))
 
-  pub place_empty : {room : ℕ} → r % 65536 ≡ 0 → Stepped u d n M k (length entry) numbers room d passed
+  pub place_empty : {room : ℕ} → r % 65536 ≡ 0 → Stepped u d n M k (length entry) numbers room d None
   place_empty h = never_stepped (λ P S a b c p q x e. omega (arith, left_is a P S b c p q x e, shared_some (right a P S b c p q x e).place.here))
 
-  pub path_beyond : {room : ℕ} → length exit < r / 65536 → Stepped u d n M k (length entry) numbers room d passed
+  pub path_beyond : {room : ℕ} → length exit < r / 65536 → Stepped u d n M k (length entry) numbers room d None
   path_beyond h = never_stepped (λ P S a b c p q x e. omega (arith, f.same_length, path_is a P S b c p q x e, path_within a P S b c p q x e))
 
-  pub place_changed : {p mid d' mid' : List ℕ} {z : ℕ} → r < passed → p ≡ drop (r / 65536) exit → Changed u d n (n - r % 65536) p mid d' mid' z → Stepped u d n M k (length entry) numbers (length mid) d' z
+  pub place_changed : {p mid d' mid' : List ℕ} {z : Option Moved} → r < passed → p ≡ drop (r / 65536) exit → Changed u d n (n - r % 65536) p mid d' mid' z → Stepped u d n M k (length entry) numbers (length mid) d' z
   place_changed h isp c = record {
     same_length = c.same_length;
     taken = λ P S a b st p q x e space room. step_right a P S b st p q x e isp c space room;

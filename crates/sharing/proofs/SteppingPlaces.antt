@@ -5,6 +5,7 @@ use mathlib.Core.List.{List, [], ◌∷◌, ◌++◌, append-nil}
 use mathlib.Core.Option.{some, some-injective}
 use Prim.Native.Nat.{ℕ, zero, suc, ◌+◌, ◌≤◌, ◌<◌}
 use native.Mathlib.Omega.{arith}
+use Rattle.std.specs.Prelude.{Option}
 use lib.ListN.{length, take, get_elem?, length-append}
 use Rattle.eb3.specs.Scopes.{Scope}
 use Rattle.eb3.specs.Terms.{Term, Done, internal, done?}
@@ -20,6 +21,7 @@ use Rattle.sharing.specs.Laws.Shared.{shared_short}
 use Rattle.sharing.specs.Finding.{Moving, part, resumed, joined, Place}
 use Rattle.sharing.specs.Changing.{Changes, RoomFor, ChangedRight}
 use Rattle.sharing.specs.Changing as changing
+use Rattle.sharing.specs.declared.moved.Moved.{Moved}
 use Rattle.sharing.specs.Stepping.{StepTaken}
 
 entry_within : (l : List Move) (k : ℕ) → k < length l → (x : Move) × (get_elem? l k ≡ some x)
@@ -91,7 +93,7 @@ module _ {u : List ℕ} {P : Scope} {M p : List ℕ} {S : Shared} {k : ℕ} (a :
         whole = λ X h. omega (arith, around_short X h);
       }
 
-  pub place_taken : {d' : List ℕ} {r : ℕ} → ChangedRight u P made_here.made.action made_here.made.successor a.before a.after d' r → StepTaken u P x d' r
+  pub place_taken : {d' : List ℕ} {r : Option Moved} → ChangedRight u P made_here.made.action made_here.made.successor a.before a.after d' r → StepTaken u P x d' r
   place_taken {d'} {r} c =
       let X : Shared = c.shared in
       let w = a.words_around X in
@@ -100,6 +102,8 @@ module _ {u : List ℕ} {P : Scope} {M p : List ℕ} {S : Shared} {k : ℕ} (a :
         stands = a.stands_around X c.stands;
         is_successor = same_successor X c.is_successor;
         held = ap (λ l. take (length l) d') w ∙ c.held ∙ sym w;
-        answered = omega (arith, c.answered, ap length w, ap action_code (same_action X c.is_successor));
-        low = c.low;
+        moved = c.moved;
+        answered = c.answered;
+        words_are = c.words_are ∙ sym (ap length w);
+        action_is = c.action_is ∙ ap action_code (same_action X c.is_successor);
       }

@@ -111,7 +111,7 @@ sought_path {s} {M} {k} {entry} {mid} {exit} {n} {r} e h = subst (λ p. Sought s
 pub found_path : {u s M : List ℕ} {k : ℕ} {entry mid exit : List ℕ} {n r : ℕ} → exit ≡ mid → Found u s M k entry mid n r → Found u s M k entry exit n r
 found_path {u} {s} {M} {k} {entry} {mid} {exit} {n} {r} e h = subst (λ p. Found u s M k entry p n r) (sym e) h
 
-pub changed_at : {u d : List ℕ} {n i j : ℕ} {p mid d' mid' : List ℕ} {z : ℕ} → i ≡ j → Changed u d n (n - j) p mid d' mid' z → Changed u d n (n - i) p mid d' mid' z
+pub changed_at : {u d : List ℕ} {n i j : ℕ} {p mid d' mid' : List ℕ} {z : _} → i ≡ j → Changed u d n (n - j) p mid d' mid' z → Changed u d n (n - i) p mid d' mid' z
 changed_at {u} {d} {n} {i} {j} {p} {mid} {d'} {mid'} {z} e h = subst (λ k. Changed u d n (n - k) p mid d' mid' z) (sym e) h
 
 pub part_as : {u : List ℕ} {w here left : ℕ} {M : List ℕ} {k : ℕ} {entry exit : List ℕ} {n q r : ℕ} → q ≡ r → PartFound u w here left M k entry exit n q → PartFound u w here left M k entry exit n r

@@ -51,7 +51,7 @@ impl Writer<'_> {
     fn put_done(&mut self, left: usize, action: usize) -> Option<usize>
         requires { (left ≤ 65535) × (action < 1048576) }
         ensures kept { Kept self.old self.new result }
-        ensures put { Into (λ at entry exit r. EndPut entry exit at left action r) self.old self.new result }
+        ensures put { Into (EndPut left action) self.old self.new result }
     {
         let at = self.at;
         if self.out.len() <= at {
@@ -192,7 +192,10 @@ impl Writer<'_> {
     // The right operand moves, alone after the place of the left one, or together with it.
     #[cycle(beginning)]
     fn begin_right(&mut self, s: &[u16], path: &[u16]) -> Option<usize>
-        requires { (length s.now ≤ 65503) × (get_or s.now 0 0 ≡ 25) × (5 ≤ length s.now) × (get_or path.now 0 0 ≡ 0 → ⊥) × (get_or path.now 0 0 ≡ 1 → ⊥) × (length path.now ≤ 65535) × (self.old.at + 2 ≤ length self.old.out.now) }
+        requires words { (length s.now ≤ 65503) × (length path.now ≤ 65535) }
+        requires parallel { (get_or s.now 0 0 ≡ 25) × (5 ≤ length s.now) }
+        requires right_moves { (get_or path.now 0 0 ≡ 0 → ⊥) × (get_or path.now 0 0 ≡ 1 → ⊥) }
+        requires room { self.old.at + 2 ≤ length self.old.out.now }
         ensures kept { Kept self.old self.new result }
         ensures begun { Into (Beginning s.now path.now) self.old self.new result }
     {

@@ -45,13 +45,13 @@ pub begin_parallel-returns-then-d-eq-LEFT_MOVES-clause-begun : goal.begin_parall
 begin_parallel-returns-then-d-eq-LEFT_MOVES-clause-begun t c = parallel_left c.args.s.now c.args.path.now _ _ c.requires.1 _ (part 5 c.args.s.now) _ _ _ c.behind-then-d-eq-LEFT_MOVES.ensures (sym c.first-d.ensures.0 ∙ c.if-d-eq-LEFT_MOVES.true) c.if-self-at.false c.begin_left.ensures.begun
 
 pub begin_right-returns-then-e-n-clause-begun : goal.begin_right-returns-then-e-n-clause-begun
-begin_right-returns-then-e-n-clause-begun t c = parallel_cut c.args.s.now c.args.path.now _ _ c.requires.1 _ (part 5 c.args.s.now) _ c.size_word-n.ensures.0 c.requires.3 c.requires.4 c.if-e-n.true
+begin_right-returns-then-e-n-clause-begun t c = parallel_cut c.args.s.now c.args.path.now _ _ c.requires.parallel.0 _ (part 5 c.args.s.now) _ c.size_word-n.ensures.0 c.requires.right_moves.0 c.requires.right_moves.1 c.if-e-n.true
 
 pub begin_right-returns-then-first-eq-RIGHT_MOVES-clause-begun : goal.begin_right-returns-then-first-eq-RIGHT_MOVES-clause-begun
-begin_right-returns-then-first-eq-RIGHT_MOVES-clause-begun t c = parallel_right c.args.s.now c.args.path.now _ _ c.requires.1 _ (part 5 c.args.s.now) _ c.size_word-n.ensures.0 _ _ _ _ c.behind_size.ensures (sym c.first.ensures.0 ∙ c.if-first-eq-RIGHT_MOVES.true) c.requires.6 c.part_word.ensures c.begin.ensures.begun
+begin_right-returns-then-first-eq-RIGHT_MOVES-clause-begun t c = parallel_right c.args.s.now c.args.path.now _ _ c.requires.parallel.0 _ (part 5 c.args.s.now) _ c.size_word-n.ensures.0 _ _ _ _ c.behind_size.ensures (sym c.first.ensures.0 ∙ c.if-first-eq-RIGHT_MOVES.true) c.requires.room c.part_word.ensures c.begin.ensures.begun
 
 pub begin_right-returns-clause-begun : goal.begin_right-returns-clause-begun
-begin_right-returns-clause-begun t c = parallel_both c.args.s.now c.args.path.now _ _ c.requires.1 _ (part 5 c.args.s.now) _ c.size_word-n.ensures.0 c.requires.3 c.requires.4 _ _ _ c.behind_size-2.ensures (λ z. c.if-first-eq-RIGHT_MOVES.false (c.first.ensures.0 ∙ z)) c.requires.6 c.begin_both.ensures.begun
+begin_right-returns-clause-begun t c = parallel_both c.args.s.now c.args.path.now _ _ c.requires.parallel.0 _ (part 5 c.args.s.now) _ c.size_word-n.ensures.0 c.requires.right_moves.0 c.requires.right_moves.1 _ _ _ c.behind_size-2.ensures (λ z. c.if-first-eq-RIGHT_MOVES.false (c.first.ensures.0 ∙ z)) c.requires.room c.begin_both.ensures.begun
 
 pub begin_sequence-returns-then-first-eq-DONE-clause-begun : goal.begin_sequence-returns-then-first-eq-DONE-clause-begun
 begin_sequence-returns-then-first-eq-DONE-clause-begun t c = sequence_done c.args.s.now c.args.path.now c.behind-t.result.now c.behind-t.ensures _ _ _ _ _ c.requires.1 (sym c.first.ensures.0 ∙ c.if-first-eq-DONE.true) c.behind.ensures c.begin.ensures.begun
@@ -75,22 +75,21 @@ pub begin_both-begin-requires-2 : goal.begin_both-begin-requires-2
 begin_both-begin-requires-2 t c = let h = lent_length c.args.n c.args.e.now in let k = last_len _ _ _ c.last.ensures in (omega arith, (omega arith, omega arith))
 
 pub begin_both-returns-in_err-left-clause-begun : goal.begin_both-returns-in_err-left-clause-begun
-begin_both-returns-in_err-left-clause-begun t c = rw c.from_residual.ensures (both_lost _ _ _ _ _ _ c.in_err-left.ensures.begun (omega arith))
+begin_both-returns-in_err-left-clause-begun t c = rw c.from_residual.ensures (both_lost _ _ _ _ _ _ c.in_err-left.ensures.begun)
 
 pub begin_both-returns-in_err-right-clause-begun : goal.begin_both-returns-in_err-right-clause-begun
 begin_both-returns-in_err-right-clause-begun t c =
-    rw c.from_residual-in_err-right.ensures
-    (both_lost_second _ _ _ _ _ _ _ _ _ _ _ _ c.in_ok-left.ensures.begun (omega arith) (omega arith) c.in_ok-left.ensures.kept.few_left c.last.ensures c.in_err-right.ensures.begun refl)
+    rw c.from_residual-in_err-right.ensures (both_lost_second _ _ _ _ _ _ _ _ _ _ _ c.in_ok-left.ensures.begun c.last.ensures c.in_err-right.ensures.begun)
 
 pub begin_both-returns-clause-begun : goal.begin_both-returns-clause-begun
 begin_both-returns-clause-begun t c =
-    both_written _ _ _ _ _ _ _ _ _ _ _ _ c.in_ok-left.ensures.begun (omega arith) (omega arith) c.in_ok-left.ensures.kept.few_left c.last.ensures c.in_ok-right.ensures.begun _ _ _ refl (omega arith) c.in_ok-right.ensures.kept.few_left
+    both_written _ _ _ _ _ _ _ _ _ _ _ c.in_ok-left.ensures.begun c.last.ensures _ _ _ c.in_ok-right.ensures.begun
 
 pub begin_left-returns-in_err-left-clause-begun : goal.begin_left-returns-in_err-left-clause-begun
-begin_left-returns-in_err-left-clause-begun t c = rw c.from_residual.ensures (left_lost _ _ _ _ _ _ c.in_err-left.ensures.begun (omega arith) refl)
+begin_left-returns-in_err-left-clause-begun t c = rw c.from_residual.ensures (left_lost _ _ _ _ _ c.in_err-left.ensures.begun)
 
 pub begin_left-returns-then-self-at-clause-begun : goal.begin_left-returns-then-self-at-clause-begun
-begin_left-returns-then-self-at-clause-begun t c = left_without_room _ _ _ _ _ _ _ _ c.in_ok-left.ensures.begun (omega arith) (omega arith) c.if-self-at.true
+begin_left-returns-then-self-at-clause-begun t c = left_without_room _ _ _ _ _ _ _ _ c.in_ok-left.ensures.begun c.if-self-at.true
 
 pub begin_left-returns-clause-begun : goal.begin_left-returns-clause-begun
-begin_left-returns-clause-begun t c = left_written _ _ _ _ _ _ _ _ c.in_ok-left.ensures.begun (omega arith) (omega arith) _ _ _ c.if-self-at.false c.skip.ensures c.last.ensures c.part_word.ensures
+begin_left-returns-clause-begun t c = left_written _ _ _ _ _ _ _ _ c.in_ok-left.ensures.begun _ _ _ c.if-self-at.false c.skip.ensures c.last.ensures c.part_word.ensures

@@ -1,7 +1,6 @@
 -- Done is one word.
-use native.Mathlib.Omega.{arith}
 use Rattle.sharing.proofs.BeginningPuts.{end_put}
 use Rattle.sharing.proofs.writer.Writer.put_done.Goals as goal
 
 pub returns-clause-put : goal.returns-clause-put
-returns-clause-put c = end_put _ _ _ _ c.if-self-at.false (omega arith) c.requires.0 c.requires.1
+returns-clause-put c = end_put _ _ _ _ c.if-self-at.false
