@@ -21,6 +21,7 @@ use Rattle.sharing.specs.Laws.Shared.{shared_some}
 use Rattle.sharing.specs.Splicing.{Spliced}
 use Rattle.sharing.proofs.BeginningCodes.{began_at, began_action}
 use Rattle.sharing.specs.Changing.{RoomFor, ChangedRight, Joined, PartChanged}
+use Rattle.sharing.specs.declared.moved.Moved.{Moved}
 
 -- The first words of an array into which others were put.
 pub put_front : (ws entry exit : List ℕ) → exit ≡ put_at 0 ws entry → take (length ws) exit ≡ ws
@@ -46,37 +47,32 @@ module _ {d mid : List ℕ} {n i e k : ℕ} {d' mid' : List ℕ} {r : ℕ} (with
     pub splice_held : take (length all) d' ≡ all
     splice_held = ap (λ m. take m d') (sym splice_length) ∙ spliced.1 ∙ ap (λ m. take i d ++ (take m mid ++ slice e n d)) is ∙ ap (λ l. take i d ++ (l ++ slice e n d)) put
 
-    pub splice_low : r ≤ length d
-    splice_low = omega (arith, spliced.0, is)
-
 -- ── done ──
 
 done_put : (mid : List ℕ) → (length mid ≡ 0 → ⊥) → take 1 (set mid 0 30) ≡ 30 ∷ []
 done_put mid h = take-suc-set mid 0 30 (omega arith)
 
-module _ {d : List ℕ} {n i : ℕ} {mid d' mid' : List ℕ} {r : ℕ} (within : n ≤ length d) (short : length d ≤ 65535) where
-  pub join_put : (length mid ≡ 0 → ⊥) → Spliced d (set mid 0 30) n i (i + 3) 1 d' mid' (Some r) → Joined d n i mid d' mid' (r + 65536 * 0)
+module _ {d : List ℕ} {n i : ℕ} {mid d' mid' : List ℕ} {r : ℕ} (within : n ≤ length d) where
+  pub join_put : (length mid ≡ 0 → ⊥) → Spliced d (set mid 0 30) n i (i + 3) 1 d' mid' (Some r) → (m : Moved) → m.words ≡ r → m.action ≡ 0 → Joined d n i mid d' mid' (Some m)
   unfolding shared_words term_of action_code
-  join_put some s = record {
+  join_put some s m words action = record {
     same_length = s.same_length;
     mid_same_length = s.mid_same_length ∙ length-set mid 0 30;
     right = λ u P h room.
         let whole : i + (1 + (n - (i + 3))) ≤ length d = room.whole Ended refl in
         let moved : 1 + (n - (i + 3)) ≤ length (set mid 0 30) = omega (arith, room.moved Ended refl, length-set mid 0 30) in
         let front : i ≤ i + 3 = omega arith in
-        let low : r ≤ length d = splice_low within front h s Ended refl (done_put mid some) whole moved in
         record {
           shared = Ended;
           stands = tt;
           is_successor = refl;
           held = splice_held within front h s Ended refl (done_put mid some) whole moved;
-          answered = omega (arith, splice_length within front h s Ended refl (done_put mid some) whole moved);
-          low = omega (arith, low);
+          answered = (m, refl, words ∙ splice_length within front h s Ended refl (done_put mid some) whole moved, action);
         };
   }
 
 -- There is always room.
-pub join_unplaced : {d : List ℕ} {n i : ℕ} {mid d' mid' : List ℕ} {z : ℕ} → n ≤ length d → i + 3 ≤ n → (length mid ≡ 0 → ⊥) → Spliced d (set mid 0 30) n i (i + 3) 1 d' mid' None → Joined d n i mid d' mid' z
+pub join_unplaced : {d : List ℕ} {n i : ℕ} {mid d' mid' : List ℕ} {z : Option Moved} → n ≤ length d → i + 3 ≤ n → (length mid ≡ 0 → ⊥) → Spliced d (set mid 0 30) n i (i + 3) 1 d' mid' None → Joined d n i mid d' mid' z
 unfolding shared_words term_of
 join_unplaced {mid = mid} within enough some s = record {
   same_length = s.same_length;
@@ -85,10 +81,10 @@ join_unplaced {mid = mid} within enough some s = record {
 }
 
 -- The words end before the parallel's three words do, or the scratch array has no room.
-pub join_short : {d : List ℕ} {n i : ℕ} {mid : List ℕ} {r : ℕ} → n < i + 3 → Joined d n i mid d mid r
+pub join_short : {d : List ℕ} {n i : ℕ} {mid : List ℕ} {r : Option Moved} → n < i + 3 → Joined d n i mid d mid r
 join_short h = record { same_length = refl; mid_same_length = refl; right = λ u P g room. absurd (omega arith) }
 
-pub join_roomless : {d : List ℕ} {n i : ℕ} {mid : List ℕ} {r : ℕ} → length mid ≡ 0 → Joined d n i mid d mid r
+pub join_roomless : {d : List ℕ} {n i : ℕ} {mid : List ℕ} {r : Option Moved} → length mid ≡ 0 → Joined d n i mid d mid r
 unfolding shared_words term_of
 join_roomless h = record { same_length = refl; mid_same_length = refl; right = λ u P g room. absurd (omega (arith, room.moved Ended refl)) }
 
@@ -98,7 +94,7 @@ began_is : (at left a : ℕ) → began at left a ≡ at + 65536 * (left + 65536 
 unfolding began
 began_is at left a = refl
 
-module _ (d : List ℕ) {u : List ℕ} {n i e w : ℕ} {p mid mid1 s : List ℕ} {r : ℕ} (within : n ≤ length d) (ie : i ≤ e) (en : e ≤ n) (short_u : length u ≤ 65503) (short_d : length d ≤ 65535)
+module _ (d : List ℕ) {u : List ℕ} {n i e w : ℕ} {p mid mid1 s : List ℕ} {r : ℕ} (within : n ≤ length d) (ie : i ≤ e) (en : e ≤ n) (short_u : length u ≤ 65503)
     (short_p : length p ≤ 65535) (short_mid : length mid ≤ 65535) (is : s ≡ last_of (w - 32) u) (b : Beginning s p 0 mid mid1 r) where
   module _ (P : Scope) (l : ℕ) (E : Term) (ρ : Action) (T : Term) (g : w ≡ part_word l) (a : PartAt u P l E) (f : follow E p ≡ followed ρ T []) (m : marked P.edition.width E p ≡ true)
       (room : RoomFor P.edition.width T i (n - e) (length d) (length mid)) where
@@ -152,45 +148,39 @@ module _ (d : List ℕ) {u : List ℕ} {n i e w : ℕ} {p mid mid1 s : List ℕ}
     roomy : {d' mid2 : List ℕ} → Spliced d mid1 n i e (r % 65536) d' mid2 None → ⊥
     roomy c = c.made ie en within (omega (arith, written_count, room.whole X is_X)) (omega (arith, written_count, moved))
 
-    module _ {d' mid2 : List ℕ} {k : ℕ} (c : Spliced d mid1 n i e (r % 65536) d' mid2 (Some k)) where
-      pub answer_low : k ≤ length d
-      answer_low = splice_low within ie en c X written_count put (room.whole X is_X) moved
+    part_right : {d' mid2 : List ℕ} {k : ℕ} → Spliced d mid1 n i e (r % 65536) d' mid2 (Some k) → (o : Moved) → o.words ≡ k → o.action ≡ r / 4294967296 → ChangedRight u P ρ T (take i d) (slice e n d) d' (Some o)
+    part_right c o words action = record {
+      shared = X;
+      stands = begun.stands;
+      is_successor = is_X;
+      held = splice_held within ie en c X written_count put (room.whole X is_X) moved;
+      answered = (o, refl, words ∙ splice_length within ie en c X written_count put (room.whole X is_X) moved, action ∙ action_number);
+    }
 
-      pub part_right : ChangedRight u P ρ T (take i d) (slice e n d) d' (k + 65536 * (r / 4294967296))
-      part_right = record {
-        shared = X;
-        stands = begun.stands;
-        is_successor = is_X;
-        held = splice_held within ie en c X written_count put (room.whole X is_X) moved;
-        answered = omega (arith, splice_length within ie en c X written_count put (room.whole X is_X) moved, action_number);
-        low = omega (arith, answer_low, b.bounded);
-      }
-
-  part_roomless : {d' mid2 : List ℕ} {z : ℕ} → Spliced d mid1 n i e (r % 65536) d' mid2 None → PartChanged u d n i e w p mid d' mid2 z
+  part_roomless : {d' mid2 : List ℕ} {z : Option Moved} → Spliced d mid1 n i e (r % 65536) d' mid2 None → PartChanged u d n i e w p mid d' mid2 z
   part_roomless c = record {
     same_length = c.same_length;
     mid_same_length = c.mid_same_length ∙ b.same_length;
     right = λ P l E ρ T g a f m room. absurd (roomy P l E ρ T g a f m room c);
   }
 
-  module _ {d' mid2 : List ℕ} {k : ℕ} (c : Spliced d mid1 n i e (r % 65536) d' mid2 (Some k)) where
-    part_made : PartChanged u d n i e w p mid d' mid2 (k + 65536 * (r / 4294967296))
-    part_made = record { same_length = c.same_length; mid_same_length = c.mid_same_length ∙ b.same_length; right = λ P l E ρ T g a f m room. part_right P l E ρ T g a f m room c }
+  part_made : {d' mid2 : List ℕ} {k : ℕ} → Spliced d mid1 n i e (r % 65536) d' mid2 (Some k) → (o : Moved) → o.words ≡ k → o.action ≡ r / 4294967296 → PartChanged u d n i e w p mid d' mid2 (Some o)
+  part_made c o words action = record { same_length = c.same_length; mid_same_length = c.mid_same_length ∙ b.same_length; right = λ P l E ρ T g a f m room. part_right P l E ρ T g a f m room c o words action }
 
   -- No successor was written.
-  pub part_lost : {z : ℕ} {mid2 : List ℕ} → r ≡ 0 → mid2 ≡ mid1 → PartChanged u d n i e w p mid d mid2 z
+  pub part_lost : {z : Option Moved} {mid2 : List ℕ} → r ≡ 0 → mid2 ≡ mid1 → PartChanged u d n i e w p mid d mid2 z
   part_lost z same = record { same_length = refl; mid_same_length = ap length same ∙ b.same_length; right = λ P l E ρ T g a f m room. absurd (something P l E ρ T g a f m room z) }
 
 cut : (at left a : ℕ) {d mid1 : List ℕ} {n i e : ℕ} {d' mid2 : List ℕ} {o : Option ℕ} → at ≤ 65535 → Spliced d mid1 n i e at d' mid2 o → Spliced d mid1 n i e (began at left a % 65536) d' mid2 o
 cut at left a {d} {mid1} {n} {i} {e} {d'} {mid2} {o} place c = subst (λ j. Spliced d mid1 n i e j d' mid2 o) (sym (began_at (began at left a) at left a refl place)) c
 
 -- The same where the number of words, the words left of the path and the action's number are known one by one.
-module _ (at left a : ℕ) {u d : List ℕ} {n i e w : ℕ} {p mid mid1 s d' mid2 : List ℕ} (within : n ≤ length d) (ie : i ≤ e) (en : e ≤ n) (short_u : length u ≤ 65503) (short_d : length d ≤ 65535)
+module _ (at left a : ℕ) {u d : List ℕ} {n i e w : ℕ} {p mid mid1 s d' mid2 : List ℕ} (within : n ≤ length d) (ie : i ≤ e) (en : e ≤ n) (short_u : length u ≤ 65503)
     (short_p : length p ≤ 65535) (short_mid : length mid ≤ 65535) (is : s ≡ last_of (w - 32) u) (b : Beginning s p 0 mid mid1 (began at left a)) (place : at ≤ 65535) (few : left ≤ 65535) where
-  pub part_written : {k : ℕ} → Spliced d mid1 n i e at d' mid2 (Some k) → PartChanged u d n i e w p mid d' mid2 (k + 65536 * a)
-  part_written {k} c =
+  pub part_written : {k : ℕ} → Spliced d mid1 n i e at d' mid2 (Some k) → (o : Moved) → o.words ≡ k → o.action ≡ a → PartChanged u d n i e w p mid d' mid2 (Some o)
+  part_written c o words action =
       let q : began at left a / 4294967296 ≡ a = began_action (began at left a) at left a refl place few in
-      subst (λ j. PartChanged u d n i e w p mid d' mid2 (k + 65536 * j)) q (part_made d within ie en short_u short_d short_p short_mid is b (cut at left a place c))
+      part_made d within ie en short_u short_p short_mid is b (cut at left a place c) o words (action ∙ sym q)
 
-  pub part_unplaced : {z : ℕ} → Spliced d mid1 n i e at d' mid2 None → PartChanged u d n i e w p mid d' mid2 z
-  part_unplaced c = part_roomless d within ie en short_u short_d short_p short_mid is b (cut at left a place c)
+  pub part_unplaced : {z : Option Moved} → Spliced d mid1 n i e at d' mid2 None → PartChanged u d n i e w p mid d' mid2 z
+  part_unplaced c = part_roomless d within ie en short_u short_p short_mid is b (cut at left a place c)

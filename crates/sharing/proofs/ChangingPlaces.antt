@@ -9,7 +9,9 @@ use lib.Seq.{slice, length-slice, get_or-take, get_or-drop, drop-drop, drop-appe
 use Rattle.eb3.specs.Scopes.{Scope}
 use Rattle.eb3.specs.Terms.{Term, Done, Action, internal}
 use Rattle.paths.specs.Paths.{follow, followed, marked}
+use Rattle.std.specs.Prelude.{Option}
 use Rattle.sharing.specs.Shared.{Shared, part_word, shared_words, PartAt}
+use Rattle.sharing.specs.declared.moved.Moved.{Moved}
 use Rattle.sharing.specs.Changing.{Changes, part, resumed, joined, RoomFor, ChangedRight, Changed, Joined, PartChanged}
 
 module _ (d : List ℕ) (n i : ℕ) (within : n ≤ length d) (here : i < n) (ws after : List ℕ) (e : slice i n d ≡ ws ++ after) where
@@ -46,7 +48,7 @@ module _ (u d : List ℕ) (n i : ℕ) (p : List ℕ) (within : n ≤ length d) (
       absurd (omega (arith, f, word_here d n i within here (25 ∷ 30 ∷ 30 ∷ []) after s))
 
 -- The words end before the third word of a sequence's place, so there is no such place.
-pub then_short : {u d : List ℕ} {n i : ℕ} {p mid : List ℕ} {r : ℕ} → n ≤ length d → i < n → get_or d i 0 ≡ 22 → n < i + 3 → Changed u d n i p mid d mid r
+pub then_short : {u d : List ℕ} {n i : ℕ} {p mid : List ℕ} {r : Option Moved} → n ≤ length d → i < n → get_or d i 0 ≡ 22 → n < i + 3 → Changed u d n i p mid d mid r
 then_short {u} {d} {n} {i} {p} within here f g = record {
   same_length = refl;
   mid_same_length = refl;
@@ -55,7 +57,7 @@ then_short {u} {d} {n} {i} {p} within here f g = record {
       absurd (omega (arith, words_fill d n i within here (22 ∷ part_word t.0 ∷ 30 ∷ []) after t.2));
 }
 
-module _ {u d : List ℕ} {n i : ℕ} {p mid d' mid' : List ℕ} {r : ℕ} (within : n ≤ length d) (here : i < n) where
+module _ {u d : List ℕ} {n i : ℕ} {p mid d' mid' : List ℕ} {r : Option Moved} (within : n ≤ length d) (here : i < n) where
   -- A part's successor replaces the words ws.
   by_part : {e w : ℕ} → PartChanged u d n i e w p mid d' mid' r → (P : Scope) (l : ℕ) (E : Term) (ρ : Action) (T : Term) (ws after : List ℕ) → slice i n d ≡ ws ++ after → e ≡ i + length ws
       → w ≡ part_word l → PartAt u P l E → follow E p ≡ followed ρ T [] → marked P.edition.width E p ≡ true → RoomFor P.edition.width T i (length after) (length d) (length mid) → ChangedRight u P ρ T (take i d) after d' r

@@ -3,6 +3,7 @@ use mathlib.Core.Path.{◌≡◌, refl, sym, ap, ◌∙◌}
 use mathlib.Core.Bool.{true}
 use mathlib.Core.List.{List, [], ◌∷◌, ◌++◌, append-nil}
 use mathlib.Core.Option.{some, some-injective}
+use Rattle.std.specs.Prelude.{Option}
 use Prim.Native.Nat.{ℕ, zero, suc, ◌+◌, ◌≤◌, ◌<◌}
 use native.Mathlib.Omega.{arith}
 use lib.ListN.{length, take, get_elem?, length-append}
@@ -21,6 +22,7 @@ use Rattle.sharing.specs.Finding.{Moving, part, resumed, joined, Place}
 use Rattle.sharing.specs.Changing.{Changes, RoomFor, ChangedRight}
 use Rattle.sharing.specs.Changing as changing
 use Rattle.sharing.specs.Stepping.{StepTaken}
+use Rattle.sharing.specs.declared.moved.Moved.{Moved}
 
 entry_within : (l : List Move) (k : ℕ) → k < length l → (x : Move) × (get_elem? l k ≡ some x)
 entry_within [] k h = absurd (omega arith)
@@ -91,7 +93,7 @@ module _ {u : List ℕ} {P : Scope} {M p : List ℕ} {S : Shared} {k : ℕ} (a :
         whole = λ X h. omega (arith, around_short X h);
       }
 
-  pub place_taken : {d' : List ℕ} {r : ℕ} → ChangedRight u P made_here.made.action made_here.made.successor a.before a.after d' r → StepTaken u P x d' r
+  pub place_taken : {d' : List ℕ} {r : Option Moved} → ChangedRight u P made_here.made.action made_here.made.successor a.before a.after d' r → StepTaken u P x d' r
   place_taken {d'} {r} c =
       let X : Shared = c.shared in
       let w = a.words_around X in
@@ -100,6 +102,5 @@ module _ {u : List ℕ} {P : Scope} {M p : List ℕ} {S : Shared} {k : ℕ} (a :
         stands = a.stands_around X c.stands;
         is_successor = same_successor X c.is_successor;
         held = ap (λ l. take (length l) d') w ∙ c.held ∙ sym w;
-        answered = omega (arith, c.answered, ap length w, ap action_code (same_action X c.is_successor));
-        low = c.low;
+        answered = (c.answered.0, c.answered.1, c.answered.2 ∙ ap length (sym w), c.answered.3 ∙ ap action_code (same_action X c.is_successor));
       }

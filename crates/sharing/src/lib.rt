@@ -6,7 +6,7 @@
 
 ghost use Rattle.std.specs.Prelude.{◌≤◌, ◌<◌, length};
 ghost use Rattle.derivation.specs.Arrays.{SameArrays};
-ghost use Rattle.sharing.specs.Changing.{Changed, Joined, PartChanged, told};
+ghost use Rattle.sharing.specs.Changing.{Changed, Joined, PartChanged};
 ghost use Rattle.sharing.specs.Stepping.{Stepped};
 
 pub mod beginning;
@@ -43,7 +43,7 @@ fn change(
     mid: &mut [u16],
 ) -> Option<Moved>
     requires { (n ≤ length d.old) × (i < n) × (length u.now ≤ 65503) × (length d.old ≤ 65535) × (length path.now ≤ 65535) × (length mid.old ≤ 65535) }
-    ensures { Changed u.now d.old n i path.now mid.old d.new mid.new (told result) }
+    ensures { Changed u.now d.old n i path.now mid.old d.new mid.new result }
 {
     let w = d[i];
     match w as usize {
@@ -62,7 +62,7 @@ fn change(
 // Done in the place of a parallel of done and done.
 fn join(d: &mut [u16], n: usize, i: usize, mid: &mut [u16]) -> Option<Moved>
     requires { (n ≤ length d.old) × (i < n) × (length d.old ≤ 65535) × (length mid.old ≤ 65535) }
-    ensures { Joined d.old n i mid.old d.new mid.new (told result) }
+    ensures { Joined d.old n i mid.old d.new mid.new result }
 {
     if n < i + 3 || mid.is_empty() {
         return None;
@@ -84,7 +84,7 @@ fn change_part(
     mid: &mut [u16],
 ) -> Option<Moved>
     requires { (n ≤ length d.old) × (place.start ≤ place.end) × (place.end ≤ n) × (length u.now ≤ 65503) × (length d.old ≤ 65535) × (length path.now ≤ 65535) × (length mid.old ≤ 65535) }
-    ensures { PartChanged u.now d.old n place.start place.end w path.now mid.old d.new mid.new (told result) }
+    ensures { PartChanged u.now d.old n place.start place.end w path.now mid.old d.new mid.new result }
 {
     if w < 32 {
         return None;
@@ -113,7 +113,7 @@ pub fn step(
 ) -> Option<Moved>
     requires { (k < 65536) × (length u.now ≤ 65503) × (length d.old ≤ 65535) }
     ensures arrays { SameArrays scratch.old scratch.new }
-    ensures stepped { Stepped u.now d.old n m.now k (length scratch.old.path.now) (length scratch.old.acts.now) (length scratch.old.mid.now) d.new (told result) }
+    ensures stepped { Stepped u.now d.old n m.now k (length scratch.old.path.now) (length scratch.old.acts.now) (length scratch.old.mid.now) d.new result }
 {
     if d.len() < n {
         return None;

@@ -13,4 +13,4 @@ pub returns-in_err-moved-in-Over-clause-moved : goal.returns-in_err-moved-in-Ove
 returns-in_err-moved-in-Over-clause-moved c = rw c.in-Over.is (moved_over_none c.in-Over.u c.args.scratch.now c.in_err-moved-in-Over.ensures.stepped c.from_residual-in_err-moved-in-Over.ensures)
 
 pub returns-in_ok-moved-in-Over-clause-moved : goal.returns-in_ok-moved-in-Over-clause-moved
-returns-in_ok-moved-in-Over-clause-moved c = rw c.in-Over.is (moved_over c.in-Over.u c.args.scratch.now c.in_ok-moved-in-Over.moved c.in_ok-moved-in-Over.ensures.stepped c.requires.1)
+returns-in_ok-moved-in-Over-clause-moved c = rw c.in-Over.is (moved_over c.in-Over.u c.args.scratch.now c.in_ok-moved-in-Over.moved c.in_ok-moved-in-Over.ensures.stepped)
