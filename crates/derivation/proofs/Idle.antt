@@ -2,7 +2,7 @@
 use mathlib.Core.Path.{◌≡◌, refl, sym, ap, ◌∙◌, subst}
 use mathlib.Core.Bool.{Bool, true, false, cond}
 use mathlib.Core.List.{List, [], ◌∷◌, ◌++◌}
-use Prim.Native.Nat.{ℕ, ◌-◌, ◌/◌, ◌%◌, ◌+◌, ◌≤◌, ◌<◌}
+use Prim.Native.Nat.{ℕ, ◌-◌}
 use native.Mathlib.Omega.{arith}
 use lib.Bits.{bit_or}
 use lib.Dec.{eqb}
@@ -14,58 +14,55 @@ use Rattle.eb3.proofs.Laws.Sizes.{size_pos}
 use Rattle.eb3.specs.Spelling.{words}
 use Rattle.scan.specs.Checking.{last_of}
 use Rattle.scan.specs.Laws.Checking.{last_len}
-use Rattle.expressions.specs.Answering.{answer}
 use Rattle.listing.specs.Listing.{TermAt, holding}
 use Rattle.listing.specs.Positions.{TwoAt}
 use Rattle.listing.specs.Laws.Positions.{second_at}
 use Rattle.paths.specs.Paths.{path, idle}
-use Rattle.derivation.specs.Derived.{passed, full, DerivedShown}
+use Rattle.derivation.specs.declared.arrays.Derivation.{Derivation}
+use Rattle.derivation.specs.declared.arrays.Derivation.TheVariants.{At, Behind}
+use Rattle.derivation.specs.Derived.{DerivedShown}
 use Rattle.derivation.specs.Arms.{Decided, RightDerived, LeftDerived, listed_path, ListedDerived, masked_path, MaskedDerived}
 use Rattle.derivation.specs.Laws.Fits.{before_second}
-use Rattle.derivation.specs.Laws.Answers.{before_full, decided_room}
-use Rattle.derivation.proofs.Answers.{sound_more, sound_of, outcome_of, outcome_as, outcome_place, outcome_early, decided_sound, decided_outcome, derived_room}
-use Rattle.derivation.proofs.Arms.{behind_sound, behind_low, behind_outcome}
+use Rattle.derivation.specs.Laws.Answers.{before_room, decided_room}
+use Rattle.derivation.specs.Laws.Outcomes.{placed_more, outcome_as, outcome_place, outcome_early, decided_placed, decided_outcome}
+use Rattle.derivation.proofs.Answers.{outcome_of, derived_room}
+use Rattle.derivation.proofs.Arms.{Skipped, behind_placed, behind_roomed, behind_outcome}
 use Rattle.derivation.proofs.Counts.{both_right, both_left}
-
--- What skipping a term answers.
-abbrev pub Skipped : List ℕ → ℕ → Type 0
-Skipped t b = (b ≤ length t) × ((P : Scope) (E : Term) (rest : List ℕ) → TermAt t P E rest → b ≡ length rest)
 
 pub skipped_at : {t u : List ℕ} {P : Scope} {E F : Term} {rest : List ℕ} {b : ℕ} → Skipped t b → u ≡ last_of b t → TwoAt t P E F rest → TermAt u P F rest
 skipped_at {t} {u} {P} {E} {F} {rest} {b} h isu s = second_at b u s (h.1 P E (words P.edition.width F ++ rest) s.first) isu
 
 -- ── the right moves ──
 
-pub right_derived : (y : ℕ) (t u M : List ℕ) (k : ℕ) (entry mid exit : List ℕ) (n b r q : ℕ) → Skipped t b → u ≡ last_of b t → DerivedShown y u M k entry mid n r → length mid ≡ length entry
+pub right_derived : (y : ℕ) (t u M : List ℕ) (k : ℕ) (entry mid exit : List ℕ) (n b : ℕ) (r q : Derivation) → Skipped t b → u ≡ last_of b t → DerivedShown y u M k entry mid n r → length mid ≡ length entry
     → Decided (2 ∷ (length t - length u) ∷ []) r mid exit q → RightDerived y t M k entry exit n q
 right_derived y t u M k entry mid exit n b r q skipped isu walked same h = record {
-  sound = decided_sound h (length entry) (sound_more (length t) k (sound_of walked) (last_len b t u isu) (omega arith));
+  placed = decided_placed h (placed_more (length t) k walked.placed (last_len b t u isu) (omega arith));
   has_room = λ P E F rest s v w.
       let a = skipped_at skipped isu s in
       decided_room h (walked.has_room P F rest a (omega (arith, v)) (omega (arith, w))) (derived_room walked same P F rest a 2 (omega (arith, v, size_pos P.edition.width E)));
   right = λ P E F rest s z.
       let a = skipped_at skipped isu s in
-      outcome_as _ _ _ refl refl (λ j. ap (λ i. 2 ∷ i ∷ path P.edition.width y (holding M) F k) (before_second t u s a)) (decided_outcome h z (outcome_of walked P F rest a (before_full h z)));
+      outcome_as _ _ _ refl refl (λ j. ap (λ i. 2 ∷ i ∷ path P.edition.width y (holding M) F k) (before_second t u s a)) (decided_outcome h z (outcome_of walked P F rest a (before_room h z)));
 }
 
 -- ── the left moves ──
 
-module _ (y : ℕ) (t M : List ℕ) (k : ℕ) (entry mid : List ℕ) (n l : ℕ) (walked : DerivedShown y t M k entry mid n l) where
-  pub left_found : length mid ≡ length entry → l < passed → (exit : List ℕ) (q : ℕ) → Decided (1 ∷ []) l mid exit q → LeftDerived y t M k entry exit n q
-  left_found same f exit q h = record {
-    sound = decided_sound h (length entry) (sound_of walked);
-    has_room = λ P E F rest s v w. decided_room h (omega arith) (derived_room walked same P E (words P.edition.width F ++ rest) s.first 1 (omega (arith, v)));
+module _ (y : ℕ) (t M : List ℕ) (k : ℕ) (entry mid : List ℕ) (n : ℕ) where
+  pub left_found : (l : ℕ) → DerivedShown y t M k entry mid n (At l) → length mid ≡ length entry → (exit : List ℕ) (q : Derivation) → Decided (1 ∷ []) (At l) mid exit q → LeftDerived y t M k entry exit n q
+  left_found l walked same exit q h = record {
+    placed = decided_placed h walked.placed;
+    has_room = λ P E F rest s v w. decided_room h tt (derived_room walked same P E (words P.edition.width F ++ rest) s.first 1 (omega (arith, v)));
     right = λ P E F rest s z.
-        let o = outcome_of walked P E (words P.edition.width F ++ rest) s.first (omega arith) in
-        outcome_early _ (length rest) (outcome_place o f).0 (omega arith) (decided_outcome h z o);
+        let o = outcome_of walked P E (words P.edition.width F ++ rest) s.first tt in
+        outcome_early _ (length rest) (outcome_place o).0 (omega arith) (decided_outcome h z o);
   }
 
-  pub left_passed : (u : List ℕ) (b r : ℕ) → passed ≤ l → l < full → length t ≤ 65535 → k < 131072 → u ≡ last_of ((l - passed) % 65536) t → Skipped u b
-      → r ≡ passed + answer b ((l - passed) / 65536) → LeftDerived y t M k entry mid n r
-  left_passed u b r pl fl short small isu skipped e = record {
-    sound = behind_sound y t M k entry mid n l walked u b r pl fl short small isu skipped.0 skipped.1 e;
-    has_room = λ P E F rest s v w. behind_low y t M k entry mid n l walked u b r pl fl short small isu skipped.0 skipped.1 e;
-    right = λ P E F rest s z. behind_outcome y t M k entry mid n l walked u b r pl fl short small isu skipped.0 skipped.1 e P E F rest s (1 ∷ path P.edition.width y (holding M) E k);
+  pub left_passed : (j left : ℕ) → DerivedShown y t M k entry mid n (Behind j left) → (u : List ℕ) (b : ℕ) (r : Derivation) → u ≡ last_of left t → Skipped u b → r ≡ Behind j b → LeftDerived y t M k entry mid n r
+  left_passed j left walked u b r isu skipped e = record {
+    placed = behind_placed y t M k entry mid n j left walked u b r isu skipped e;
+    has_room = λ P E F rest s v w. behind_roomed y t M k entry mid n j left walked u b r isu skipped e;
+    right = λ P E F rest s z. behind_outcome y t M k entry mid n j left walked u b r isu skipped e P E F rest s (1 ∷ path P.edition.width y (holding M) E k);
   }
 
 -- ── which of them ──
@@ -74,7 +71,7 @@ module _ (y : ℕ) (t M : List ℕ) (k : ℕ) (entry mid : List ℕ) (n l : ℕ)
 abbrev pub Idle : List ℕ → Bool → Type 0
 Idle t b = (P : Scope) (E : Term) (rest : List ℕ) → TermAt t P E rest → b ≡ eqb (breadth E) 0
 
-module _ (x δ : ℕ) (t M : List ℕ) (k : ℕ) (entry exit : List ℕ) (n r : ℕ) (a : Bool) (left : Idle t a) where
+module _ (x δ : ℕ) (t M : List ℕ) (k : ℕ) (entry exit : List ℕ) (n : ℕ) (r : Derivation) (a : Bool) (left : Idle t a) where
   left_is : {P : Scope} {E F : Term} {rest : List ℕ} → TwoAt t P E F rest → idle E ≡ a
   left_is {P} {E} {F} {rest} s = sym (left P E (words P.edition.width F ++ rest) s.first)
 
@@ -82,7 +79,7 @@ module _ (x δ : ℕ) (t M : List ℕ) (k : ℕ) (entry exit : List ℕ) (n r : 
   masked_right e y joined g =
       let h = subst (λ w. RightDerived w t M k entry exit n r) joined g in
       record {
-        sound = h.sound;
+        placed = h.placed;
         has_room = λ P E F rest s v w. h.has_room P E F rest s (omega (arith, v)) w;
         right = λ P E F rest s z.
             let i : idle E ≡ true = left_is s ∙ e in
@@ -104,7 +101,7 @@ module _ (x δ : ℕ) (t M : List ℕ) (k : ℕ) (entry exit : List ℕ) (n r : 
     masked_left f y joined g =
         let h = subst (λ w. LeftDerived w t M k entry exit n r) joined g in
         record {
-          sound = h.sound;
+          placed = h.placed;
           has_room = λ P E F rest s v w. h.has_room P E F rest s (omega (arith, v)) w;
           right = λ P E F rest s z. outcome_as _ _ _ (both_left M x δ E F (right_is s ∙ f)) refl
               (λ j. sym (later s ∙ ap (λ i. cond i (1 ∷ path P.edition.width (bit_or x δ) (holding M) E k) (listed_path x δ M k P.edition.width E F)) f)) (h.right P E F rest s z);
@@ -112,7 +109,7 @@ module _ (x δ : ℕ) (t M : List ℕ) (k : ℕ) (entry exit : List ℕ) (n r : 
 
     pub masked_listed : b ≡ false → ListedDerived x δ t M k entry exit n r → MaskedDerived x δ t M k entry exit n r
     masked_listed f h = record {
-      sound = h.sound;
+      placed = h.placed;
       has_room = h.has_room;
       right = λ P E F rest s z. outcome_as _ _ _ refl refl
           (λ j. sym (later s ∙ ap (λ i. cond i (1 ∷ path P.edition.width (bit_or x δ) (holding M) E k) (listed_path x δ M k P.edition.width E F)) f)) (h.right P E F rest s z);

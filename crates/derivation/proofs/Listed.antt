@@ -1,7 +1,7 @@
 -- A parallel both of whose sides may move: both sides' lists, the sides of move k among them, and the answer of the walk into the sides.
 use mathlib.Core.Path.{◌≡◌, refl, sym, ap, ◌∙◌, subst}
 use mathlib.Core.List.{List, ◌++◌}
-use Prim.Native.Nat.{ℕ, ◌+◌, ◌-◌, ◌≤◌, ◌<◌}
+use Prim.Native.Nat.{ℕ, ◌+◌, ◌-◌, ◌≤◌}
 use native.Mathlib.Omega.{arith}
 use lib.ListN.{length, take, drop, length-append, length-drop}
 use lib.Seq.{take_at, drop_at, length-take-le}
@@ -12,22 +12,26 @@ use Rattle.eb3.specs.Terms.{Term}
 use Rattle.eb3.specs.Spelling.{words}
 use Rattle.scan.specs.Checking.{last_of}
 use Rattle.scan.specs.Laws.Checking.{part, back_rest, last_len}
-use Rattle.expressions.specs.Answering.{answer}
 use Rattle.listing.specs.Listing.{TermAt, holding, codes, Right, Listed}
 use Rattle.listing.specs.declared.lister.Moves.{Moves}
 use Rattle.listing.specs.Positions.{TwoAt}
 use Rattle.listing.specs.Laws.Positions.{second_at, behind_term}
 use Rattle.paths.specs.Paths.{Sides, alone, paired, locate}
-use Rattle.derivation.specs.Derived.{passed, full, shown_count}
-use Rattle.derivation.specs.Searching.{sides_of, Within, shown_combined, LocatedBy}
-use Rattle.derivation.specs.Arms.{SidesDerived, sides_path, combined_count, ListedDerived}
-use Rattle.listing.specs.Laws.Operands.{answer_is}
-use Rattle.derivation.specs.Laws.Answers.{never_full}
-use Rattle.derivation.proofs.Answers.{sound_lost, sound_passed}
+use Rattle.derivation.specs.declared.arrays.Derivation.{Derivation}
+use Rattle.derivation.specs.declared.arrays.Derivation.TheVariants.{At, Behind, NoRoom}
+use Rattle.derivation.specs.Derived.{Roomed, Placed, shown_count}
+use Rattle.derivation.specs.Searching.{Within, shown_combined, SidesAre}
+use Rattle.derivation.specs.Arms.{Made, SidesDerived, sides_path, combined_count, ListedDerived}
+use Rattle.derivation.specs.Laws.Outcomes.{placed_lost, placed_at, placed_passed}
 use Rattle.derivation.proofs.Counts.{count_all}
 
+made_placed : (n k l : ℕ) (r : Derivation) → Made l r → Placed n k l r
+made_placed n k l (At i) h = placed_at n k l i (At i) refl h
+made_placed n k l (Behind j left) h = absurd h
+made_placed n k l NoRoom h = placed_lost n k l
+
 -- l is what listing the left side's moves answered, q what listing the right side's answered, into the array after them
-module _ (t M acts mid : List ℕ) (l : Moves) (first : Listed t M acts mid (Some l)) (short : length t ≤ 65535) where
+module _ (t M acts mid : List ℕ) (l : Moves) (first : Listed t M acts mid (Some l)) where
   first_fits : l.count ≤ length mid
   first_fits = omega (arith, first.count_bounded, first.same_length)
 
@@ -57,13 +61,13 @@ module _ (t M acts mid : List ℕ) (l : Moves) (first : Listed t M acts mid (Som
     second_here : (P : Scope) (E F : Term) (rest : List ℕ) → TwoAt t P E F rest → TermAt u P F rest
     second_here P E F rest s = second_at l.left u s (first_right P E F rest s).left_over isu
 
-    pub listed_lost_second : (x δ k : ℕ) (entry : List ℕ) → q ≡ None → ListedDerived x δ t M k entry entry (length acts) full
+    pub listed_lost_second : (x δ k : ℕ) (entry : List ℕ) → q ≡ None → ListedDerived x δ t M k entry entry (length acts) NoRoom
     listed_lost_second x δ k entry f = record {
-      sound = sound_lost (length t) k (length entry);
+      placed = placed_lost (length t) k (length entry);
       has_room = λ P E F rest s a b.
           let h : IsSome q = behind.has_room P F rest (second_here P E F rest s) (omega (arith, b, (first_right P E F rest s).counted, length-drop l.count mid, first.same_length)) in
           absurd (false≢true (subst IsSome f h));
-      right = λ P E F rest s z. never_full z;
+      right = λ P E F rest s z. absurd z;
     }
 
     -- the scratch array in two: the left's numbers, and the right's with what was free after them
@@ -115,39 +119,30 @@ module _ (t M acts mid : List ℕ) (l : Moves) (first : Listed t M acts mid (Som
             subst (λ n. Within (shown_count 0 M E) n w) (ap length right_is ∙ sym (count_all M F))
             (subst (λ n. Within n (length ys) w) (ap length left_is ∙ sym (count_all M E)) h)
 
-      module _ (x δ k : ℕ) (entry : List ℕ) (w : ℕ) (loc : LocatedBy x δ xs ys k w) (small : k < 131072) where
-        pub listed_none : passed ≤ w → (v : List ℕ) (q : ℕ) → v ≡ last_of r.left u → q ≡ passed + answer (length v) (w - passed) → ListedDerived x δ t M k entry entry (length acts) q
-        listed_none pw v q isv isq =
-            let vl : length v ≤ length t = omega (arith, last_len _ u v isv, u_len) in
-            record {
-              sound = sound_passed (length t) k (length entry) (length v) (w - passed) q isq vl (omega (arith, loc.bounded)) short small;
-              has_room = λ P E F rest s a b. omega (arith, isq, answer_is (length v) (w - passed), loc.bounded, vl);
-              right = λ P E F rest s i.
-                  let e = count_is P E F rest s x δ in
-                  let n = loc.none_found pw in
-                  let f : w - passed ≡ k - combined_count x δ M E F = omega (arith, n.1, e) in
-                  record {
-                    found = λ y. absurd (omega (arith, n.0, e));
-                    none_found = λ y. isq ∙ (λ j. passed + answer (length (behind_right P E F rest s v isv j)) (f j));
-                  };
-            }
-
-        pub listed_sides : w < passed → length entry ≤ 65535 → (exit : List ℕ) (m q : ℕ) → m ≡ length acts → SidesDerived t u M w entry exit m q → ListedDerived x δ t M k entry exit (length acts) q
-        listed_sides pw le exit m q ism h = record {
-          sound = record { bounded = h.bounded; place_bounded = λ i. h.placed (omega arith); passed_bounded = λ y i. absurd (omega (arith, h.placed i)) };
-          has_room = λ P E F rest s a b. h.has_room P E F rest (left_at P E F rest s) (second_here P E F rest s) (within_is P E F rest s (sides_of w) (loc.found pw).1) a (omega (arith, b)) (omega (arith, b));
+      module _ (x δ k : ℕ) (entry : List ℕ) where
+        pub listed_none : (due : ℕ) → k ≡ length (shown_combined x δ xs ys) + due → (v : List ℕ) (q : Derivation) → v ≡ last_of r.left u → q ≡ Behind due (length v) → ListedDerived x δ t M k entry entry (length acts) q
+        listed_none due loc v q isv isq = record {
+          placed = placed_passed (length t) k (length entry) (length v) due q isq (omega (arith, last_len _ u v isv, u_len)) (omega arith);
+          has_room = λ P E F rest s a b. subst Roomed (sym isq) tt;
           right = λ P E F rest s i.
               let e = count_is P E F rest s x δ in
+              let f : due ≡ k - combined_count x δ M E F = omega (arith, loc, e) in
               record {
-                found = λ y. (
-                  omega (arith, h.placed i),
-                  h.found P E F rest (left_at P E F rest s) (second_here P E F rest s) (within_is P E F rest s (sides_of w) (loc.found pw).1) i
-                      ∙ ap (sides_path M P.edition.width E F) (sym (loc.found pw).2 ∙ locate_is P E F rest s x δ k),
-                );
-                none_found = λ y. absurd (omega (arith, (loc.found pw).0, e));
+                found = λ y. absurd (omega (arith, loc, e));
+                none_found = λ y. isq ∙ (λ j. Behind (f j) (length (behind_right P E F rest s v isv j)));
               };
         }
 
--- The same answer, with what is left of k written as `passed + k - passed`.
-pub told_left : (a l k : ℕ) → a ≡ passed + answer l k → a ≡ passed + answer l (passed + k - passed)
-told_left a l k e = e ∙ ap (λ n. passed + answer l n) (let f : k ≡ passed + k - passed = omega arith in f)
+        pub listed_sides : (w : Sides) → SidesAre x δ xs ys k w → (exit : List ℕ) (m : ℕ) (q : Derivation) → m ≡ length acts → SidesDerived t u M w entry exit m q → ListedDerived x δ t M k entry exit (length acts) q
+        listed_sides w loc exit m q ism h = record {
+          placed = made_placed (length t) k (length entry) q h.made;
+          has_room = λ P E F rest s a b. h.has_room P E F rest (left_at P E F rest s) (second_here P E F rest s) (within_is P E F rest s w loc.within) a (omega (arith, b)) (omega (arith, b));
+          right = λ P E F rest s i.
+              let e = count_is P E F rest s x δ in
+              record {
+                found = λ y.
+                    let f = h.found P E F rest (left_at P E F rest s) (second_here P E F rest s) (within_is P E F rest s w loc.within) i in
+                    (f.0, f.1, f.2 ∙ ap (sides_path M P.edition.width E F) (sym loc.located ∙ locate_is P E F rest s x δ k));
+                none_found = λ y. absurd (omega (arith, loc.shows, e));
+              };
+        }

@@ -1,42 +1,47 @@
 -- The sides of a parallel's move, from the answers of the three searches: left's that move alone, right's, pairs.
 use mathlib.Core.Path.{◌≡◌, refl, sym, ap, ◌∙◌, subst}
-use mathlib.Core.Bool.{Bool, not, cond}
+use mathlib.Core.Bool.{Bool, not}
 use mathlib.Core.List.{List, ◌++◌}
-use Prim.Native.Nat.{ℕ, ◌+◌, ◌-◌, ◌/◌, ◌%◌, ◌≤◌, ◌<◌}
+use Prim.Native.Nat.{ℕ, ◌+◌}
 use native.Mathlib.Omega.{arith}
 use lib.Bits.{bit_or}
-use lib.Dec.{ltb}
 use lib.ListN.{length, length-append}
-use borrow.Author.Tests.{lt-ltb, le-ltb}
+use Rattle.std.specs.Prelude.{Result, Ok, Err}
 use Rattle.eb3.specs.Generic.Lists.{filter}
 use Rattle.actions.specs.Sets.{in_set}
 use Rattle.listing.specs.Combining.{outside, pairs}
 use Rattle.paths.specs.Paths.{Sides, seek, left_alone, right_alone, together, alone, paired, or_right, or_left, seek_pair, locate}
-use Rattle.derivation.specs.Derived.{passed}
-use Rattle.derivation.specs.Searching.{nth_place, nth_pair, sides_of, Within, shown_combined, LocatedBy}
+use Rattle.derivation.specs.Searching.{nth_place, nth_pair, shown_combined, SidesAre}
 use Rattle.derivation.proofs.Lists.{length_outside}
 use Rattle.derivation.proofs.Places.{Placed, here, past, placed, PairPlaced, pair_here, pair_past, pair_placed}
 
--- ── sides in one number ──
+-- ── which answers are the same ──
 
-pub sides_left : (x : ℕ) → x < 131072 → sides_of x ≡ left_alone x
-unfolding sides_of
-sides_left x h = ap (λ b. cond b (left_alone x) (cond (ltb x 262144) (right_alone (x - 131072)) (together ((x - 262144) / 131072) ((x - 262144) % 131072)))) (lt-ltb x 131072 h)
+abbrev ok_or : {T E : Type 0} → T → Result T E → T
+ok_or d (Ok a) = a
+ok_or d (Err e) = d
 
-later : (x : ℕ) → 131072 ≤ x → sides_of x ≡ cond (ltb x 262144) (right_alone (x - 131072)) (together ((x - 262144) / 131072) ((x - 262144) % 131072))
-unfolding sides_of
-later x h = ap (λ b. cond b (left_alone x) (cond (ltb x 262144) (right_alone (x - 131072)) (together ((x - 262144) / 131072) ((x - 262144) % 131072)))) (le-ltb x 131072 h)
+abbrev is_ok : {T E : Type 0} → Result T E → Type 0
+is_ok (Ok a) = Unit
+is_ok (Err e) = ⊥
 
-pub sides_right : (x : ℕ) → 131072 ≤ x → x < 262144 → sides_of x ≡ right_alone (x - 131072)
-sides_right x h l = later x h ∙ ap (λ b. cond b (right_alone (x - 131072)) (together ((x - 262144) / 131072) ((x - 262144) % 131072))) (lt-ltb x 262144 l)
+abbrev err_or : {T : Type 0} → Result T ℕ → ℕ
+err_or (Ok a) = 0
+err_or (Err e) = e
 
-pub sides_both : (x : ℕ) → 262144 ≤ x → sides_of x ≡ together ((x - 262144) / 131072) ((x - 262144) % 131072)
-sides_both x h = later x (omega arith) ∙ ap (λ b. cond b (right_alone (x - 131072)) (together ((x - 262144) / 131072) ((x - 262144) % 131072))) (le-ltb x 262144 h)
+ok_is : {T E : Type 0} {a b : T} {r : Result T E} → r ≡ Ok a → r ≡ Ok b → a ≡ b
+ok_is {a = a} e f = ap (ok_or a) (sym e ∙ f)
+
+err_is : {T : Type 0} {a b : ℕ} {r : Result T ℕ} → r ≡ Err a → r ≡ Err b → a ≡ b
+err_is e f = ap err_or (sym e ∙ f)
+
+ok_err : {A T E : Type 0} {a : T} {b : E} {r : Result T E} → r ≡ Ok a → r ≡ Err b → A
+ok_err e f = absurd (subst is_ok (sym e ∙ f) tt)
 
 -- ── the sides ──
 
 -- y is the set of x and the mask's set δ joined
-module _ (x δ y : ℕ) (joined : y ≡ bit_or x δ) (xs ys : List ℕ) (k : ℕ) (fewx : length xs ≤ 131072) (fewy : length ys ≤ 131072) where
+module _ (x δ y : ℕ) (joined : y ≡ bit_or x δ) (xs ys : List ℕ) (k : ℕ) where
   abbrev free : ℕ → Bool
   free = alone x δ
 
@@ -76,84 +81,58 @@ module _ (x δ y : ℕ) (joined : y ≡ bit_or x δ) (xs ys : List ℕ) (k : ℕ
   locate_is = refl
 
   -- found among the left's
-  left_found : (i : ℕ) → Placed 0 (length xs) L k i (seek free xs k) → i < passed → LocatedBy x δ xs ys k i
+  left_found : {r : Result ℕ ℕ} (i : ℕ) → Placed 0 (length xs) L k r (seek free xs k) → r ≡ Ok i → SidesAre x δ xs ys k (left_alone i)
   left_found i (here j e l f g) h =
-      let q : i ≡ j = omega arith in
-      record {
-        bounded = omega arith;
-        low = λ z. omega arith;
-        found = λ z. (omega (arith, all_is), subst (Within (length xs) (length ys)) (sym (sides_left i (omega arith))) (omega arith), locate_is ∙ ap (or_left free (paired x δ) xs ys) f ∙ ap left_alone (sym q) ∙ sym (sides_left i (omega arith)));
-        none_found = λ z. absurd (omega arith);
-      }
-  left_found i (past j e f g) h = absurd (omega arith)
+      let q : i ≡ j = omega (arith, ok_is h e) in
+      record { shows = omega (arith, all_is); within = omega arith; located = locate_is ∙ ap (or_left free (paired x δ) xs ys) f ∙ ap left_alone (sym q) }
+  left_found i (past j e f g) h = ok_err h e
 
-  pub located_left : (i : ℕ) → i ≡ nth_place kept 0 xs k → i < passed → LocatedBy x δ xs ys k i
-  located_left i e h = left_found i (subst (λ n. Placed 0 (length xs) L k n (seek free xs k)) (sym (e ∙ sought xs k)) (placed free 0 xs k)) h
+  pub located_left : (i : ℕ) → Ok i ≡ nth_place kept 0 xs k → SidesAre x δ xs ys k (left_alone i)
+  located_left i e = left_found i (placed free 0 xs k) (sym (e ∙ sought xs k))
 
-  left_passed : (i : ℕ) → Placed 0 (length xs) L k i (seek free xs k) → passed ≤ i → (k ≡ L + (i - passed)) × (sides ≡ or_right (paired x δ) xs ys (seek free ys (i - passed)))
-  left_passed i (here j e l f g) h = absurd (omega arith)
+  left_passed : {r : Result ℕ ℕ} (i : ℕ) → Placed 0 (length xs) L k r (seek free xs k) → r ≡ Err i → (k ≡ L + i) × (sides ≡ or_right (paired x δ) xs ys (seek free ys i))
+  left_passed i (here j e l f g) h = ok_err e h
   left_passed i (past j e f g) h =
-      let q : j ≡ i - passed = omega arith in
+      let q : j ≡ i = err_is e h in
       (omega arith, locate_is ∙ ap (or_left free (paired x δ) xs ys) f ∙ ap (λ n. or_right (paired x δ) xs ys (seek free ys n)) q)
 
-  module _ (i : ℕ) (isi : i ≡ nth_place kept 0 xs k) (pi : passed ≤ i) where
-    past_left : (k ≡ L + (i - passed)) × (sides ≡ or_right (paired x δ) xs ys (seek free ys (i - passed)))
-    past_left = left_passed i (subst (λ n. Placed 0 (length xs) L k n (seek free xs k)) (sym (isi ∙ sought xs k)) (placed free 0 xs k)) pi
+  module _ (i : ℕ) (isi : Err i ≡ nth_place kept 0 xs k) where
+    past_left : (k ≡ L + i) × (sides ≡ or_right (paired x δ) xs ys (seek free ys i))
+    past_left = left_passed i (placed free 0 xs k) (sym (isi ∙ sought xs k))
 
-    right_found : (j : ℕ) → Placed 0 (length ys) R (i - passed) j (seek free ys (i - passed)) → j < passed → LocatedBy x δ xs ys k (131072 + j)
+    right_found : {r : Result ℕ ℕ} (j : ℕ) → Placed 0 (length ys) R i r (seek free ys i) → r ≡ Ok j → SidesAre x δ xs ys k (right_alone j)
     right_found j (here a e l f g) h =
-        let q : a ≡ 131072 + j - 131072 = omega arith in
-        let s : sides_of (131072 + j) ≡ right_alone (131072 + j - 131072) = sides_right (131072 + j) (omega arith) (omega arith) in
-        record {
-          bounded = omega arith;
-          low = λ z. omega arith;
-          found = λ z. (omega (arith, all_is, past_left.0), subst (Within (length xs) (length ys)) (sym s) (omega arith), past_left.1 ∙ ap (or_right (paired x δ) xs ys) f ∙ ap right_alone q ∙ sym s);
-          none_found = λ z. absurd (omega arith);
-        }
-    right_found j (past a e f g) h = absurd (omega arith)
+        let q : j ≡ a = omega (arith, ok_is h e) in
+        record { shows = omega (arith, all_is, past_left.0); within = omega arith; located = past_left.1 ∙ ap (or_right (paired x δ) xs ys) f ∙ ap right_alone (sym q) }
+    right_found j (past a e f g) h = ok_err h e
 
-    pub located_right : (j : ℕ) → j ≡ nth_place kept 0 ys (i - passed) → j < passed → LocatedBy x δ xs ys k (131072 + j)
-    located_right j e h = right_found j (subst (λ n. Placed 0 (length ys) R (i - passed) n (seek free ys (i - passed))) (sym (e ∙ sought ys (i - passed))) (placed free 0 ys (i - passed))) h
+    pub located_right : (j : ℕ) → Ok j ≡ nth_place kept 0 ys i → SidesAre x δ xs ys k (right_alone j)
+    located_right j e = right_found j (placed free 0 ys i) (sym (e ∙ sought ys i))
 
-    right_passed : (j : ℕ) → Placed 0 (length ys) R (i - passed) j (seek free ys (i - passed)) → passed ≤ j
-        → (i - passed ≡ R + (j - passed)) × (sides ≡ seek_pair (paired x δ) 0 xs ys (j - passed))
-    right_passed j (here a e l f g) h = absurd (omega arith)
+    right_passed : {r : Result ℕ ℕ} (j : ℕ) → Placed 0 (length ys) R i r (seek free ys i) → r ≡ Err j → (i ≡ R + j) × (sides ≡ seek_pair (paired x δ) 0 xs ys j)
+    right_passed j (here a e l f g) h = ok_err e h
     right_passed j (past a e f g) h =
-        let q : a ≡ j - passed = omega arith in
+        let q : a ≡ j = err_is e h in
         (omega arith, past_left.1 ∙ ap (or_right (paired x δ) xs ys) f ∙ ap (seek_pair (paired x δ) 0 xs ys) q)
 
-    module _ (j : ℕ) (isj : j ≡ nth_place kept 0 ys (i - passed)) (pj : passed ≤ j) where
-      past_right : (i - passed ≡ R + (j - passed)) × (sides ≡ seek_pair (paired x δ) 0 xs ys (j - passed))
-      past_right = right_passed j (subst (λ n. Placed 0 (length ys) R (i - passed) n (seek free ys (i - passed))) (sym (isj ∙ sought ys (i - passed))) (placed free 0 ys (i - passed))) pj
+    module _ (j : ℕ) (isj : Err j ≡ nth_place kept 0 ys i) where
+      past_right : (i ≡ R + j) × (sides ≡ seek_pair (paired x δ) 0 xs ys j)
+      past_right = right_passed j (placed free 0 ys i) (sym (isj ∙ sought ys i))
 
-      pair_found : (w : ℕ) → PairPlaced 0 (length xs) (length ys) B (j - passed) w (seek_pair (paired x δ) 0 xs ys (j - passed)) → w < passed → LocatedBy x δ xs ys k (262144 + w)
-      pair_found w (pair_here a b e l o f g) h =
-          let u : 0 + a ≡ (262144 + w - 262144) / 131072 = omega arith in
-          let v : b ≡ (262144 + w - 262144) % 131072 = omega arith in
-          let s : sides_of (262144 + w) ≡ together ((262144 + w - 262144) / 131072) ((262144 + w - 262144) % 131072) = sides_both (262144 + w) (omega arith) in
-          record {
-            bounded = omega arith;
-            low = λ z. omega arith;
-            found = λ z. (omega (arith, all_is, past_left.0, past_right.0), subst (Within (length xs) (length ys)) (sym s) (omega arith, omega arith), past_right.1 ∙ f ∙ (λ t. together (u t) (v t)) ∙ sym s);
-            none_found = λ z. absurd (omega arith);
-          }
-      pair_found w (pair_past a e g) h = absurd (omega arith)
+      pair_found : {r : Result (ℕ × ℕ) ℕ} (v w : ℕ) → PairPlaced 0 (length xs) (length ys) B j r (seek_pair (paired x δ) 0 xs ys j) → r ≡ Ok (v, w) → SidesAre x δ xs ys k (together v w)
+      pair_found v w (pair_here a b e l o f g) h =
+          let q : (v, w) ≡ (0 + a, b) = ok_is h e in
+          let m : v ≡ 0 + a = ap (λ z. z.0) q in
+          let n : w ≡ b = ap (λ z. z.1) q in
+          record { shows = omega (arith, all_is, past_left.0, past_right.0); within = (omega arith, omega arith); located = past_right.1 ∙ f ∙ (λ t. together (sym m t) (sym n t)) }
+      pair_found v w (pair_past a e g) h = ok_err h e
 
-      pair_passed : (w : ℕ) → PairPlaced 0 (length xs) (length ys) B (j - passed) w (seek_pair (paired x δ) 0 xs ys (j - passed)) → passed ≤ w → LocatedBy x δ xs ys k w
-      pair_passed w (pair_here a b e l o f g) h = absurd (omega arith)
-      pair_passed w (pair_past a e g) h = record {
-        bounded = omega (arith, past_left.0, past_right.0);
-        low = λ z. absurd (omega arith);
-        found = λ z. absurd (omega arith);
-        none_found = λ z. (omega (arith, all_is, past_left.0, past_right.0), omega (arith, all_is, past_left.0, past_right.0));
-      }
+      pair_passed : {r : Result (ℕ × ℕ) ℕ} (w : ℕ) → PairPlaced 0 (length xs) (length ys) B j r (seek_pair (paired x δ) 0 xs ys j) → r ≡ Err w → k ≡ All + w
+      pair_passed w (pair_here a b e l o f g) h = ok_err e h
+      pair_passed w (pair_past a e g) h = omega (arith, all_is, past_left.0, past_right.0, err_is e h)
 
-      module _ (w : ℕ) (isw : w ≡ nth_pair (paired x δ) 0 xs ys (j - passed)) where
-        pair_at : PairPlaced 0 (length xs) (length ys) B (j - passed) w (seek_pair (paired x δ) 0 xs ys (j - passed))
-        pair_at = subst (λ n. PairPlaced 0 (length xs) (length ys) B (j - passed) n (seek_pair (paired x δ) 0 xs ys (j - passed))) (sym isw) (pair_placed (paired x δ) ys fewy 0 xs (j - passed))
+      pub located_both : (v w : ℕ) → Ok (v, w) ≡ nth_pair (paired x δ) 0 xs ys j → SidesAre x δ xs ys k (together v w)
+      located_both v w e = pair_found v w (pair_placed (paired x δ) ys 0 xs j) (sym e)
 
-        pub located_both : w < passed → LocatedBy x δ xs ys k (262144 + w)
-        located_both h = pair_found w pair_at h
-
-        pub located_none : passed ≤ w → LocatedBy x δ xs ys k w
-        located_none h = pair_passed w pair_at h
+      pub located_none : (w : ℕ) → Err w ≡ nth_pair (paired x δ) 0 xs ys j → k ≡ length (shown_combined x δ xs ys) + w
+      located_none w e = pair_passed w (pair_placed (paired x δ) ys 0 xs j) (sym e)

@@ -2,7 +2,7 @@
 use mathlib.Core.Path.{◌≡◌, refl, sym, ap, ◌∙◌, subst}
 use mathlib.Core.Bool.{Bool, true, false, ◌&&◌}
 use mathlib.Core.List.{List, [], ◌∷◌}
-use Prim.Native.Nat.{ℕ, ◌+◌, ◌-◌, ◌*◌, ◌%◌, ◌≤◌, ◌<◌}
+use Prim.Native.Nat.{ℕ, ◌+◌, ◌-◌, ◌*◌, ◌%◌, ◌≤◌}
 use native.Mathlib.Omega.{arith}
 use lib.Bits.{bit_or}
 use lib.Dec.{eqb}
@@ -12,15 +12,17 @@ use borrow.Author.Tests.{eq-eqb, ne_eqb}
 use Rattle.eb3.specs.Scopes.{Scope}
 use Rattle.eb3.specs.Terms.{Term, done?}
 use Rattle.eb3.specs.Sizes.{size}
-use Rattle.expressions.specs.Answering.{answer}
 use Rattle.actions.specs.Sets.{mask_word, mask_set, has_all}
 use Rattle.listing.specs.Positions.{TwoAt, MaskedAt}
 use Rattle.listing.specs.Laws.CasesByCode.{parallel_cases}
-use Rattle.derivation.specs.Derived.{passed, DerivedShown}
+use Rattle.derivation.specs.declared.arrays.Derivation.{Derivation}
+use Rattle.derivation.specs.declared.arrays.Derivation.TheVariants.{At, Behind}
+use Rattle.derivation.specs.Derived.{DerivedShown}
 use Rattle.derivation.specs.Arms.{Decided, TwoDerived, MaskedDerived}
-use Rattle.listing.specs.Laws.Operands.{answer_is, BothDone, behind_both, mask_len}
-use Rattle.derivation.specs.Laws.Answers.{by_order, decided_room}
-use Rattle.derivation.proofs.Answers.{sound_more, derived_of, outcome_as, outcome_single, sound_single, decided_sound, decided_outcome}
+use Rattle.listing.specs.Laws.Operands.{BothDone, behind_both, mask_len}
+use Rattle.derivation.specs.Laws.Answers.{by_order, same_place, no_rest, decided_room}
+use Rattle.derivation.specs.Laws.Outcomes.{placed_more, placed_single, single_roomed, outcome_as, outcome_single, decided_placed, decided_outcome}
+use Rattle.derivation.proofs.Answers.{derived_of}
 use Rattle.derivation.proofs.Arms.{Told}
 use Rattle.derivation.proofs.Counts.{count_both_done, count_masked, count_covered, room_sides, path_both_done, path_masked, path_covered}
 
@@ -34,24 +36,21 @@ mask_front d =
     let e = get_or-take 4 d 3 0 (omega arith) in
     λ i. ((e i % 65536 * 65536 + c i % 65536) * 65536 + b i % 65536) * 65536 + a i % 65536
 
-module _ (x : ℕ) (d t M : List ℕ) (k : ℕ) (entry exit : List ℕ) (n : ℕ) (ist : t ≡ drop 4 d) (b : Bool) (tested : BothDone t b) (r : ℕ) where
+module _ (x : ℕ) (d t M : List ℕ) (k : ℕ) (entry exit : List ℕ) (n : ℕ) (ist : t ≡ drop 4 d) (b : Bool) (tested : BothDone t b) (r : Derivation) where
   sides : {P : Scope} {Δ : List ℕ} {E F : Term} {rest : List ℕ} → MaskedAt d P Δ E F rest → TwoAt t P E F rest
   sides {P} {Δ} {E} {F} {rest} h = subst (λ x. TwoAt x P E F rest) (sym ist) h.sides
 
   pub done_short : (v : List ℕ) → v ≡ drop 1 (drop 1 t) → length v ≤ length d
   done_short v e = omega (arith, ap length e, length-drop 1 (drop 1 t), length-drop 1 t, mask_len d t ist)
 
-  pub parallel_done : (v : List ℕ) (q : ℕ) → b ≡ true → v ≡ drop 1 (drop 1 t) → (k ≡ 0 → q ≡ length entry) → (1 ≤ k → q ≡ passed + answer (length v) (k - 1))
-      → length d ≤ 65535 → length entry ≤ 65535 → k < 131072 → Decided (0 ∷ []) q entry exit r → DerivedShown x (25 ∷ d) M k entry exit n r
+  pub parallel_done : (v : List ℕ) (q : Derivation) → b ≡ true → v ≡ drop 1 (drop 1 t) → (k ≡ 0 → q ≡ At (length entry)) → (1 ≤ k → q ≡ Behind (k - 1) (length v))
+      → Decided (0 ∷ []) q entry exit r → DerivedShown x (25 ∷ d) M k entry exit n r
   unfolding size
-  parallel_done v q e f a c short few small h =
-      let sd = sound_single (length d) k (length v) q (length entry) a c few (done_short v f) short small in
-      derived_of (sound_more (length (25 ∷ d)) k (decided_sound h (length entry) sd) (omega arith) (omega arith)) (parallel_cases d (Told x M k entry exit n r) (λ P Δ E F rest s.
+  parallel_done v q e f a c h =
+      derived_of (decided_placed h (placed_single (length (25 ∷ d)) k (length v) (length entry) q a c (omega (arith, done_short v f)))) (parallel_cases d (Told x M k entry exit n r) (λ P Δ E F rest s.
       let o : (done? E && done? F) ≡ true = sym (tested P E F rest (sides s)) ∙ e in (
-        λ w y. by_order k 1
-            (λ z. let o : q ≡ length entry = a (omega arith) in decided_room h (omega arith) (λ i. omega (arith, w, o)))
-            (λ z. decided_room h (omega (arith, c z, answer_is (length v) (k - 1), done_short v f)) (λ i. absurd (omega (arith, c z, i)))),
-        λ z. outcome_as _ _ _ (count_both_done M x Δ E F o) (ap length (sym (f ∙ behind_both (sides s) o))) (λ y. path_both_done M x Δ E F P.edition.width k o) (decided_outcome h z (outcome_single k (length v) q entry a c few)),
+        λ w y. decided_room h (single_roomed k (length v) (length entry) q a c) (λ i z. by_order k 1 (λ j. omega (arith, w, same_place (sym (a (omega arith)) ∙ z))) (λ j. no_rest (sym z ∙ c j))),
+        λ z. outcome_as _ _ _ (count_both_done M x Δ E F o) (ap length (sym (f ∙ behind_both (sides s) o))) (λ y. path_both_done M x Δ E F P.edition.width k o) (decided_outcome h z (outcome_single k (length v) q entry a c)),
       )))
 
   module _ (e : b ≡ false) (δ : ℕ) (isδ : δ ≡ mask_set d) (y : ℕ) (joined : y ≡ bit_or x δ) where
@@ -66,7 +65,7 @@ module _ (x : ℕ) (d t M : List ℕ) (k : ℕ) (entry exit : List ℕ) (n : ℕ
 
     pub parallel_covered : y ≡ x → TwoDerived x 1 t M k entry exit n r → DerivedShown x (25 ∷ d) M k entry exit n r
     unfolding size
-    parallel_covered f h = derived_of (sound_more (length (25 ∷ d)) k h.sound (omega (arith, mask_len d t ist)) (omega arith)) (parallel_cases d (Told x M k entry exit n r) (λ P Δ E F rest s.
+    parallel_covered f h = derived_of (placed_more (length (25 ∷ d)) k h.placed (omega (arith, mask_len d t ist)) (omega arith)) (parallel_cases d (Told x M k entry exit n r) (λ P Δ E F rest s.
         let a : has_all x (mask_set Δ) ≡ true = all_is s ∙ eq-eqb y x f in
         let w = sides s in (
           λ v m. h.has_room P E F rest w (omega (arith, v)) (omega (arith, m, room_sides M x Δ E F (other s))),
@@ -75,7 +74,7 @@ module _ (x : ℕ) (d t M : List ℕ) (k : ℕ) (entry exit : List ℕ) (n : ℕ
 
     pub parallel_masked : (y ≡ x → ⊥) → MaskedDerived x δ t M k entry exit n r → DerivedShown x (25 ∷ d) M k entry exit n r
     unfolding size
-    parallel_masked f h = derived_of (sound_more (length (25 ∷ d)) k h.sound (omega (arith, mask_len d t ist)) (omega arith)) (parallel_cases d (Told x M k entry exit n r) (λ P Δ E F rest s.
+    parallel_masked f h = derived_of (placed_more (length (25 ∷ d)) k h.placed (omega (arith, mask_len d t ist)) (omega arith)) (parallel_cases d (Told x M k entry exit n r) (λ P Δ E F rest s.
         let a : has_all x (mask_set Δ) ≡ false = all_is s ∙ ne_eqb y x f in
         let w = sides s in
         let g : MaskedDerived x (mask_set Δ) t M k entry exit n r = subst (λ v. MaskedDerived x v t M k entry exit n r) (mask_is s) h in (

@@ -2,39 +2,41 @@
 use mathlib.Core.Path.{◌≡◌, refl, sym, ap, ◌∙◌, subst}
 use mathlib.Core.Bool.{Bool, true, false, cond}
 use mathlib.Core.List.{List, [], ◌∷◌, ◌++◌}
-use Prim.Native.Nat.{ℕ, suc, ◌+◌, ◌-◌, ◌*◌, ◌≤◌, ◌<◌}
+use Prim.Native.Nat.{ℕ, suc, ◌+◌, ◌-◌, ◌<◌}
 use native.Mathlib.Omega.{arith}
-use lib.Dec.{eqb, ltb}
+use lib.Dec.{eqb}
 use lib.ListN.{length, length-append}
-use borrow.Author.Tests.{eqb-true, eqb-false, lt-ltb, le-ltb}
+use borrow.Author.Tests.{eqb-true, eqb-false}
+use Rattle.std.specs.Prelude.{Result, Ok, Err}
 use Rattle.eb3.specs.Generic.Lists.{filter}
 use Rattle.eb3.specs.Reading.{pick}
 use Rattle.listing.specs.Combining.{equal_to, pairs}
 use Rattle.listing.specs.Laws.Codes.{turned}
 use Rattle.paths.specs.Paths.{Sought, at, beyond, one_on, seek, Sides, together, pair_from, seek_pair}
-use Rattle.derivation.specs.Derived.{passed}
 use Rattle.derivation.specs.Searching.{nth_place, pair_or, nth_pair}
 
 -- ── one list ──
 
--- r is, as a number, the answer s of a search in a list of `size` numbers, the first at place i, of which `count` pass: `at j` is the place i + j, and
--- `beyond j` is `passed + j`.
-pub data Placed (i size count k r : ℕ) (s : Sought) : Type 0 where
-  here : (j : ℕ) → r ≡ i + j → j < size → s ≡ at j → k < count → Placed i size count k r s
-  past : (j : ℕ) → r ≡ passed + j → s ≡ beyond j → k ≡ count + j → Placed i size count k r s
+-- r is the answer s of a search in a list of `size` numbers, the first at place i, of which `count` pass: `at j` is the place i + j.
+pub data Placed (i size count k : ℕ) (r : Result ℕ ℕ) (s : Sought) : Type 0 where
+  here : (j : ℕ) → r ≡ Ok (i + j) → j < size → s ≡ at j → k < count → Placed i size count k r s
+  past : (j : ℕ) → r ≡ Err j → s ≡ beyond j → k ≡ count + j → Placed i size count k r s
 
-one_skipped : {i size count k r : ℕ} {s : Sought} → Placed (i + 1) size count k r s → Placed i (suc size) count k r (one_on s)
-one_skipped (here j e l f g) = here (suc j) (omega arith) (omega arith) (ap one_on f) g
+on_right : (i j : ℕ) {r : Result ℕ ℕ} → r ≡ Ok (i + 1 + j) → r ≡ Ok (i + suc j)
+on_right i j e = let q : i + 1 + j ≡ i + suc j = omega arith in e ∙ ap Ok q
+
+one_skipped : {i size count k : ℕ} {r : Result ℕ ℕ} {s : Sought} → Placed (i + 1) size count k r s → Placed i (suc size) count k r (one_on s)
+one_skipped {i} (here j e l f g) = here (suc j) (on_right i j e) (omega arith) (ap one_on f) g
 one_skipped (past j e f g) = past j e (ap one_on f) g
 
-one_passed : {i size count k r : ℕ} {s : Sought} → (k ≡ 0 → ⊥) → Placed (i + 1) size count (k - 1) r s → Placed i (suc size) (suc count) k r (one_on s)
-one_passed z (here j e l f g) = here (suc j) (omega arith) (omega arith) (ap one_on f) (omega arith)
+one_passed : {i size count k : ℕ} {r : Result ℕ ℕ} {s : Sought} → (k ≡ 0 → ⊥) → Placed (i + 1) size count (k - 1) r s → Placed i (suc size) (suc count) k r (one_on s)
+one_passed {i} z (here j e l f g) = here (suc j) (on_right i j e) (omega arith) (ap one_on f) (omega arith)
 one_passed z (past j e f g) = past j e (ap one_on f) (omega arith)
 
 module _ (q : ℕ → Bool) where
-  placed_step : (b z : Bool) (x i k r t : ℕ) (xs : List ℕ) (u v : Sought) → eqb k 0 ≡ z → Placed (i + 1) (length xs) (length (filter q xs)) (k - 1) r u → Placed (i + 1) (length xs) (length (filter q xs)) k t v
-      → Placed i (suc (length xs)) (length (cond b (x ∷ filter q xs) (filter q xs))) k (cond b (cond z i r) t) (pick b (pick z (at 0) (one_on u)) (one_on v))
-  placed_step true true x i k r t xs u v e f g = here 0 (omega arith) (omega arith) refl (omega (arith, eqb-true k 0 e))
+  placed_step : (b z : Bool) (x i k : ℕ) (r t : Result ℕ ℕ) (xs : List ℕ) (u v : Sought) → eqb k 0 ≡ z → Placed (i + 1) (length xs) (length (filter q xs)) (k - 1) r u → Placed (i + 1) (length xs) (length (filter q xs)) k t v
+      → Placed i (suc (length xs)) (length (cond b (x ∷ filter q xs) (filter q xs))) k (cond b (cond z (Ok i) r) t) (pick b (pick z (at 0) (one_on u)) (one_on v))
+  placed_step true true x i k r t xs u v e f g = let q : i ≡ i + 0 = omega arith in here 0 (ap Ok q) (omega arith) refl (omega (arith, eqb-true k 0 e))
   placed_step true false x i k r t xs u v e f g = one_passed (eqb-false k 0 e) f
   placed_step false z x i k r t xs u v e f g = one_skipped g
 
@@ -56,34 +58,31 @@ length_equal a [] = refl
 length_equal a (y ∷ ys) =
     ap (λ b. length (cond b (a ∷ equal_to a ys) (equal_to a ys))) (turned y a) ∙ length_either (eqb a y) a y (equal_to a ys) (filter (eqb a) ys) (length_equal a ys)
 
--- r is, as a number, the answer s of a search in two lists, the left's first at place i, with `count` pairs.
-pub data PairPlaced (i m n count k r : ℕ) (s : Sides) : Type 0 where
-  pair_here : (a j : ℕ) → r ≡ (i + a) * 131072 + j → a < m → j < n → s ≡ together (i + a) j → k < count → PairPlaced i m n count k r s
-  pair_past : (j : ℕ) → r ≡ passed + j → k ≡ count + j → PairPlaced i m n count k r s
+-- r is the answer s of a search in two lists, the left's first at place i, with `count` pairs.
+pub data PairPlaced (i m n count k : ℕ) (r : Result (ℕ × ℕ) ℕ) (s : Sides) : Type 0 where
+  pair_here : (a j : ℕ) → r ≡ Ok (i + a, j) → a < m → j < n → s ≡ together (i + a) j → k < count → PairPlaced i m n count k r s
+  pair_past : (j : ℕ) → r ≡ Err j → k ≡ count + j → PairPlaced i m n count k r s
 
-pair_later : {i m n count k r : ℕ} {s : Sides} (f j : ℕ) → k ≡ f + j → PairPlaced (i + 1) m n count j r s → PairPlaced i (suc m) n (f + count) k r s
+pair_later : {i m n count k : ℕ} {r : Result (ℕ × ℕ) ℕ} {s : Sides} (f j : ℕ) → k ≡ f + j → PairPlaced (i + 1) m n count j r s → PairPlaced i (suc m) n (f + count) k r s
 pair_later {i} {m} {n} {count} {k} {r} {s} f j h (pair_here a b e l o g z) =
     let q : i + 1 + a ≡ i + suc a = omega arith in
-    pair_here (suc a) b (e ∙ ap (λ x. x * 131072 + b) q) (omega arith) o (g ∙ ap (λ x. together x b) q) (omega arith)
+    pair_here (suc a) b (e ∙ ap (λ x. Ok (x, b)) q) (omega arith) o (g ∙ ap (λ x. together x b) q) (omega arith)
 pair_later f j h (pair_past b e g) = pair_past b e (omega arith)
 
-module _ (p : ℕ → Bool) (ys : List ℕ) (few : length ys ≤ 131072) where
-  pair_row : {i m count k r : ℕ} {s : Sought} (f : ℕ) (go : ℕ → ℕ) (go' : ℕ → Sides) → Placed 0 (length ys) f k r s
+module _ (p : ℕ → Bool) (ys : List ℕ) where
+  pair_row : {i m count k : ℕ} {r : Result ℕ ℕ} {s : Sought} (f : ℕ) (go : ℕ → Result (ℕ × ℕ) ℕ) (go' : ℕ → Sides) → Placed 0 (length ys) f k r s
       → ((j : ℕ) → PairPlaced (i + 1) m (length ys) count j (go j) (go' j)) → PairPlaced i (suc m) (length ys) (f + count) k (pair_or i r go) (pair_from i s go')
   pair_row {i} {m} {count} {k} {r} {s} f go go' (here j e l g z) ih =
-      let a : cond (ltb r passed) (i * 131072 + r) (go (r - passed)) ≡ i * 131072 + r = ap (λ b. cond b (i * 131072 + r) (go (r - passed))) (lt-ltb r passed (omega arith)) in
-      pair_here 0 j (omega (arith, a)) (omega arith) l (ap (λ t. pair_from i t go') g ∙ ap (λ x. together x j) (plain i)) (omega arith)
-    where
-      plain : (n : ℕ) → n ≡ n + 0
-      plain n = omega arith
+      let q : i ≡ i + 0 = omega arith in
+      let d : 0 + j ≡ j = omega arith in
+      pair_here 0 j (ap (λ t. pair_or i t go) (e ∙ ap Ok d) ∙ ap (λ x. Ok (x, j)) q) (omega arith) l (ap (λ t. pair_from i t go') g ∙ ap (λ x. together x j) q) (omega arith)
   pair_row {i} {m} {count} {k} {r} {s} f go go' (past j e g z) ih =
-      let w : r - passed ≡ j = omega arith in
-      let a : pair_or i r go ≡ go j = ap (λ b. cond b (i * 131072 + r) (go (r - passed))) (le-ltb r passed (omega arith)) ∙ ap go w in
+      let a : pair_or i r go ≡ go j = ap (λ t. pair_or i t go) e in
       let b : pair_from i s go' ≡ go' j = ap (λ t. pair_from i t go') g in
       subst (λ x. PairPlaced i (suc m) (length ys) (f + count) k x (pair_from i s go')) (sym a)
       (subst (λ x. PairPlaced i (suc m) (length ys) (f + count) k (go j) x) (sym b) (pair_later f j z (ih j)))
 
-  pair_step : {i m count k : ℕ} (b : Bool) (x : ℕ) (go : ℕ → ℕ) (go' : ℕ → Sides) (o : List ℕ) → length o ≡ count
+  pair_step : {i m count k : ℕ} (b : Bool) (x : ℕ) (go : ℕ → Result (ℕ × ℕ) ℕ) (go' : ℕ → Sides) (o : List ℕ) → length o ≡ count
       → ((j : ℕ) → PairPlaced (i + 1) m (length ys) count j (go j) (go' j))
       → PairPlaced i (suc m) (length ys) (length (cond b (equal_to x ys) [] ++ o)) k (cond b (pair_or i (nth_place (eqb x) 0 ys k) go) (go k)) (pick b (pair_from i (seek (eqb x) ys k) go') (go' k))
   pair_step {i} {m} {count} {k} true x go go' o e ih =

@@ -1,8 +1,6 @@
 -- What a walk over a term is lent on its way to move k (document 01, "Moves, in order"): it leaves the arrays in their places, as long as they were, and
 -- the store as it was; and what it answers.
-use Rattle.std.specs.Prelude.{◌≡◌, ⊤, List, ℕ, ◌+◌, ◌≤◌, ◌<◌, length}
-use Rattle.expressions.specs.Answering.{answer}
-use Rattle.derivation.specs.Derived.{passed, full}
+use Rattle.std.specs.Prelude.{◌≡◌, List, ℕ, length}
 use Rattle.derivation.specs.declared.arrays.Arrays.{Arrays}
 use Rattle.derivation.specs.declared.arrays.Derivation.{Derivation}
 use Rattle.derivation.specs.declared.arrays.Derivation.TheVariants.{At, Behind, NoRoom}
@@ -16,25 +14,12 @@ pub record Kept (b e : Arrays) : Type 0 where
   pub path_length : length e.path.now ≡ length b.path.now
   pub acts_length : length e.acts.now ≡ length b.acts.now
 
--- The answer of a walk that left the arrays so, in one number: where the path begins; or the words left after the term and what is left of k; or that there
--- was no room.
-abbrev pub answered : Arrays → Walked → ℕ
-answered e Found = e.at
-answered e Passed = passed + answer e.left e.k
-answered e Full = full
-
--- The same of an answer with its numbers.
-abbrev pub told : Derivation → ℕ
-told (At i) = i
-told (Behind k left) = passed + answer left k
-told NoRoom = full
-
--- A place is one in an array of n words.
-abbrev pub Placed : ℕ → Derivation → Type 0
-Placed n (At i) = i ≤ n
-Placed n (Behind k left) = (k < 131072) × (left ≤ 65535)
-Placed n NoRoom = ⊤
+-- The answer of a walk that left the arrays so, with its numbers.
+abbrev pub answered : Arrays → Walked → Derivation
+answered e Found = At e.at
+answered e Passed = Behind e.k e.left
+answered e Full = NoRoom
 
 -- D of the arrays that were b and are e: of the store, of number k, of the path array before and after, of the scratch array's length, and of the answer r.
-abbrev pub Over : (List ℕ → ℕ → List ℕ → List ℕ → ℕ → ℕ → Type 0) → ℕ → Arrays → Arrays → ℕ → Type 0
-Over D k b e r = D b.store.now k b.path.now e.path.now (length b.acts.now) r
+abbrev pub Over : {A : Type 0} → (List ℕ → ℕ → List ℕ → List ℕ → ℕ → A → Type 0) → ℕ → Arrays → Arrays → A → Type 0
+Over {A} D k b e r = D b.store.now k b.path.now e.path.now (length b.acts.now) r

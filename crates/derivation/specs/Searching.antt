@@ -1,32 +1,26 @@
--- Searching both sides' numbers for the sides that make move k of a parallel (document 01, "Moves, in order"), as loops do it: an answer below `passed` is
--- a place, from `passed` on it says how much of k is left.
-use Rattle.std.specs.Prelude.{◌≡◌, Bool, cond, List, [], ◌∷◌, ◌++◌, ℕ, ◌+◌, ◌-◌, ◌*◌, ◌/◌, ◌%◌, ◌≤◌, ◌<◌, eqb, ltb, length}
+-- Searching both sides' numbers for the sides that make move k of a parallel (document 01, "Moves, in order"), as loops do it: the answer is a place, or how
+-- much of k is left.
+use Rattle.std.specs.Prelude.{◌≡◌, Bool, cond, List, [], ◌∷◌, ◌++◌, ℕ, ◌+◌, ◌-◌, ◌≤◌, ◌<◌, eqb, length, Result, Ok, Err}
 use Rattle.std.specs.Int.Bits.{bit_or}
 use Rattle.actions.specs.Sets.{in_set}
 use Rattle.listing.specs.Combining.{outside, pairs}
 use Rattle.paths.specs.Paths.{Sides, left_alone, right_alone, together, nowhere, alone, paired, locate}
-use Rattle.derivation.specs.Derived.{passed}
+use Rattle.derivation.specs.declared.located.Located.{Located}
+use Rattle.derivation.specs.declared.located.Located.TheVariants.{Left, Right, Both, Passed}
 
 -- The k-th that passes a test; i is the place of the first.
-unfoldable pub nth_place : (ℕ → Bool) → ℕ → List ℕ → ℕ → ℕ
-nth_place q i [] k = passed + k
-nth_place q i (x ∷ xs) k = cond (q x) (cond (eqb k 0) i (nth_place q (i + 1) xs (k - 1))) (nth_place q (i + 1) xs k)
+unfoldable pub nth_place : (ℕ → Bool) → ℕ → List ℕ → ℕ → Result ℕ ℕ
+nth_place q i [] k = Err k
+nth_place q i (x ∷ xs) k = cond (q x) (cond (eqb k 0) (Ok i) (nth_place q (i + 1) xs (k - 1))) (nth_place q (i + 1) xs k)
 
-abbrev pub pair_or : ℕ → ℕ → (ℕ → ℕ) → ℕ
-pair_or i s go = cond (ltb s passed) (i * 131072 + s) (go (s - passed))
+abbrev pub pair_or : ℕ → Result ℕ ℕ → (ℕ → Result (ℕ × ℕ) ℕ) → Result (ℕ × ℕ) ℕ
+pair_or i (Ok j) go = Ok (i, j)
+pair_or i (Err k) go = go k
 
 -- The k-th pair of equal numbers that pass a test, ordered by left, then right; i is the place of the first left one.
-unfoldable pub nth_pair : (ℕ → Bool) → ℕ → List ℕ → List ℕ → ℕ → ℕ
-nth_pair p i [] ys k = passed + k
+unfoldable pub nth_pair : (ℕ → Bool) → ℕ → List ℕ → List ℕ → ℕ → Result (ℕ × ℕ) ℕ
+nth_pair p i [] ys k = Err k
 nth_pair p i (x ∷ xs) ys k = cond (p x) (pair_or i (nth_place (eqb x) 0 ys k) (nth_pair p (i + 1) xs ys)) (nth_pair p (i + 1) xs ys k)
-
--- Sides in one number: a place on the left, a place on the right from 131,072 on, a pair of places from 262,144 on.
-unfoldable pub sides_of : ℕ → Sides
-sides_of z = cond (ltb z 131072) (left_alone z) (cond (ltb z 262144) (right_alone (z - 131072)) (together ((z - 262144) / 131072) ((z - 262144) % 131072)))
-
--- Above the number of every pair of places in two arrays of 131,072 words: 262,144 + 131,072 × 131,072.
-abbrev pub sides_end : ℕ
-sides_end = 17180131328
 
 -- The sides are among m moves on the left, n on the right.
 abbrev pub Within : ℕ → ℕ → Sides → Type 0
@@ -39,9 +33,34 @@ Within m n nowhere = ⊥
 unfoldable pub shown_combined : ℕ → ℕ → List ℕ → List ℕ → List ℕ
 shown_combined x δ xs ys = outside (in_set (bit_or x δ)) xs ++ (outside (in_set (bit_or x δ)) ys ++ pairs (paired x δ) xs ys)
 
--- z says the sides of move k, or from `passed` on how much of k is left once the moves that show are counted off.
-pub record LocatedBy (x δ : ℕ) (xs ys : List ℕ) (k z : ℕ) : Type 0 where
-  pub bounded : z ≤ passed + k
-  pub low : z < passed → z < sides_end
-  pub found : z < passed → (k < length (shown_combined x δ xs ys)) × Within (length xs) (length ys) (sides_of z) × (locate (alone x δ) (paired x δ) xs ys k ≡ sides_of z)
-  pub none_found : passed ≤ z → (length (shown_combined x δ xs ys) ≤ k) × (z ≡ passed + (k - length (shown_combined x δ xs ys)))
+-- w are the sides of move k, which shows.
+pub record SidesAre (x δ : ℕ) (xs ys : List ℕ) (k : ℕ) (w : Sides) : Type 0 where
+  pub shows : k < length (shown_combined x δ xs ys)
+  pub within : Within (length xs) (length ys) w
+  pub located : locate (alone x δ) (paired x δ) xs ys k ≡ w
+
+-- The sides of move k, or how much of k is left once the moves that show are counted off.
+abbrev pub LocatedBy : ℕ → ℕ → List ℕ → List ℕ → ℕ → Located → Type 0
+LocatedBy x δ xs ys k (Left i) = SidesAre x δ xs ys k (left_alone i)
+LocatedBy x δ xs ys k (Right j) = SidesAre x δ xs ys k (right_alone j)
+LocatedBy x δ xs ys k (Both i j) = SidesAre x δ xs ys k (together i j)
+LocatedBy x δ xs ys k (Passed due) = k ≡ length (shown_combined x δ xs ys) + due
+
+-- ── the bounds of these answers ──
+
+-- A place is one in a list of n numbers; no more than k is left of k.
+abbrev pub InList : ℕ → ℕ → Result ℕ ℕ → Type 0
+InList n k (Ok i) = i < n
+InList n k (Err r) = r ≤ k
+
+-- The places are in lists of m and of n numbers.
+abbrev pub InLists : ℕ → ℕ → ℕ → Result (ℕ × ℕ) ℕ → Type 0
+InLists m n k (Ok p) = (p.0 < m) × (p.1 < n)
+InLists m n k (Err r) = r ≤ k
+
+-- Each place is one in a list of at most 131,072 numbers, and so is a number's rest.
+abbrev pub InSides : Located → Type 0
+InSides (Left i) = i < 131072
+InSides (Right j) = j < 131072
+InSides (Both i j) = (i < 131072) × (j < 131072)
+InSides (Passed k) = k < 131072

@@ -1,7 +1,6 @@
 // What a walk to move k answers, made of the numbers in the arrays that are lent to it (document 01, "Moves, in order").
 ghost use Rattle.std.specs.Prelude.{◌≡◌, ◌+◌, ◌-◌, ◌≤◌, ◌<◌, [], ◌∷◌, length};
-ghost use Rattle.expressions.specs.Answering.{answer};
-ghost use Rattle.derivation.specs.Derived.{passed, full};
+ghost use Rattle.derivation.specs.declared.arrays.Derivation.TheVariants.{At, Behind};
 ghost use Rattle.derivation.specs.Lending.{Kept, answered};
 ghost use Rattle.derivation.specs.Arms.{Decided};
 
@@ -15,7 +14,7 @@ impl Arrays<'_> {
         requires { left ≤ 65535 }
         ensures kept { Kept self.old self.new }
         ensures path { self.new.path.now ≡ self.old.path.now }
-        ensures passed { (answered self.new result ≡ passed + answer left self.old.k) × (answered self.new result < full) }
+        ensures passed { answered self.new result ≡ Behind self.old.k left }
     {
         self.left = left;
         Walked::Passed
@@ -26,7 +25,7 @@ impl Arrays<'_> {
         requires { left ≤ 65535 }
         ensures kept { Kept self.old self.new }
         ensures path { self.new.path.now ≡ self.old.path.now }
-        ensures one { (self.old.k ≡ 0 → answered self.new result ≡ length self.old.path.now) × (1 ≤ self.old.k → answered self.new result ≡ passed + answer left (self.old.k - 1)) }
+        ensures one { (self.old.k ≡ 0 → answered self.new result ≡ At (length self.old.path.now)) × (1 ≤ self.old.k → answered self.new result ≡ Behind (self.old.k - 1) left) }
     {
         if self.k == 0 {
             self.at = self.path.len();

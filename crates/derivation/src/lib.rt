@@ -4,8 +4,9 @@
 
 ghost use Rattle.std.specs.Prelude.{◌≡◌, List, ℕ, ◌+◌, ◌-◌, ◌≤◌, ◌<◌, ◌∷◌, length};
 ghost use Rattle.derivation.specs.Derived.{Derived, DerivedShown};
-ghost use Rattle.derivation.specs.Lending.{Kept, Over, Placed, answered, told};
-ghost use Rattle.derivation.specs.Arms.{ActionDerived, TwoDerived, RightDerived, LeftDerived, ListedDerived, MaskedDerived, SidesDerived, BothDerived};
+ghost use Rattle.derivation.specs.Lending.{Kept, Over, answered};
+ghost use Rattle.derivation.specs.Arms.{ActionDerived, TwoDerived, RightDerived, LeftDerived, ListedDerived, MaskedDerived, SidesDerived};
+ghost use Rattle.paths.specs.Paths.{left_alone, right_alone, together};
 
 use actions::{behind_action, code_at, in_set, join, mask_set};
 use code_numbers::{ACTION, CHOICE, DONE, GUARD, INTERNAL, PARALLEL, SEQUENCE, STAR};
@@ -41,8 +42,7 @@ pub fn size_before(t: &[u16], u: &[u16]) -> u16
 pub fn derive(s: &[u16], m: &[u16], k: usize, path: &mut [u16], acts: &mut [u32]) -> Derivation
     requires { (length s.now ≤ 65535) × (k < 65536) × (length path.old ≤ 65535) × (length acts.old ≤ 131072) }
     ensures kept { length path.new ≡ length path.old }
-    ensures derived { Derived s.now m.now k path.old path.new (length acts.old) (told result) }
-    ensures placed { Placed (length path.old) result }
+    ensures derived { Derived s.now m.now k path.old path.new (length acts.old) result }
 {
     derive_lent(s, m, k, path, acts)
 }
@@ -54,8 +54,7 @@ pub fn derive(s: &[u16], m: &[u16], k: usize, path: &mut [u16], acts: &mut [u32]
 #[inline(always)]
 fn derive_lent(s: &[u16], store: &[u16], k: usize, path: &mut [u16], acts: &mut [u32]) -> Derivation
     requires { (length s.now ≤ 65535) × (k < 131072) × (length path.old ≤ 65535) × (length acts.old ≤ 131072) }
-    ensures derived { DerivedShown 0 s.now store.now k path.old path.new (length acts.old) (told result) }
-    ensures placed { Placed (length path.old) result }
+    ensures { DerivedShown 0 s.now store.now k path.old path.new (length acts.old) result }
 {
     let mut arrays = Arrays {
         store,
@@ -271,7 +270,7 @@ impl Arrays<'_> {
     fn derive_left_alone(&mut self, t: &[u16], i: usize) -> Walked
         requires { (length t.now ≤ 65535) × (i < 131072) }
         ensures kept { Kept self.old self.new }
-        ensures derived { (u : List ℕ) → Over (SidesDerived t.now u) i self.old self.new (answered self.new result) }
+        ensures derived { (u : List ℕ) → Over (λ M k. SidesDerived t.now u M (left_alone k)) i self.old self.new (answered self.new result) }
     {
         self.k = i;
         let l = self.walk(t, 0);
@@ -286,7 +285,7 @@ impl Arrays<'_> {
     fn derive_right_alone(&mut self, t: &[u16], u: &[u16], j: usize) -> Walked
         requires { (length t.now ≤ 65535) × (length u.now ≤ length t.now) × (j < 131072) }
         ensures kept { Kept self.old self.new }
-        ensures derived { Over (SidesDerived t.now u.now) (131072 + j) self.old self.new (answered self.new result) }
+        ensures derived { Over (λ M k. SidesDerived t.now u.now M (right_alone k)) j self.old self.new (answered self.new result) }
     {
         self.k = j;
         let r = self.walk(u, 0);
@@ -301,7 +300,7 @@ impl Arrays<'_> {
     fn derive_both(&mut self, t: &[u16], u: &[u16], i: usize, j: usize) -> Walked
         requires { (length t.now ≤ 65535) × (length u.now ≤ length t.now) × (i < 131072) × (j < 131072) }
         ensures kept { Kept self.old self.new }
-        ensures derived { Over (λ M. BothDerived t.now u.now M i) j self.old self.new (answered self.new result) }
+        ensures derived { Over (λ M k. SidesDerived t.now u.now M (together i k)) j self.old self.new (answered self.new result) }
     {
         self.k = j;
         match self.walk(u, 0) {

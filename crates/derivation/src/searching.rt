@@ -1,8 +1,7 @@
 // Searching the numbers of both sides' moves for the sides that make move k of a parallel (document 01, "Moves, in order").
 ghost use Rattle.std.specs.Prelude.{◌≡◌, Bool, ℕ, ◌≤◌, ◌<◌, length};
 ghost use Rattle.paths.specs.Paths.{paired};
-ghost use Rattle.derivation.specs.Searching.{nth_place, nth_pair, LocatedBy};
-ghost use Rattle.derivation.specs.Told.{place_told, InList, pair_told, InLists, sides_told, InSides};
+ghost use Rattle.derivation.specs.Searching.{nth_place, nth_pair, LocatedBy, InList, InLists, InSides};
 
 use crate::located::Located;
 use actions::{in_set, join};
@@ -15,7 +14,7 @@ use actions::{in_set, join};
 fn seek<F: Fn(u32) -> bool>(acts: &[u32], k: usize, test: F) -> Result<usize, usize>
     requires few { (length acts.now ≤ 131072) × (k < 131072) }
     requires callable { F.IsAlwaysCallable test }
-    ensures told { (q : ℕ → Bool) → ((a : ℕ) (b : Bool) → a < 4294967296 → F.post test a b → b ≡ q a) → place_told result ≡ nth_place q 0 acts.now k }
+    ensures told { (q : ℕ → Bool) → ((a : ℕ) (b : Bool) → a < 4294967296 → F.post test a b → b ≡ q a) → result ≡ nth_place q 0 acts.now k }
     ensures within { InList (length acts.now) k result }
 {
     let mut due = k;
@@ -49,7 +48,7 @@ fn seek_pair(
     k: usize,
 ) -> Result<(usize, usize), usize>
     requires { (length left.now ≤ 131072) × (length right.now ≤ 131072) × (k < 131072) }
-    ensures told { pair_told result ≡ nth_pair (paired x mask) 0 left.now right.now k }
+    ensures told { result ≡ nth_pair (paired x mask) 0 left.now right.now k }
     ensures within { InLists (length left.now) (length right.now) k result }
 {
     let mut due = k;
@@ -68,7 +67,7 @@ fn seek_pair(
 // side; or what is left of k.
 pub fn locate(x: u64, mask: u64, left: &[u32], right: &[u32], k: usize) -> Located
     requires { (length left.now ≤ 131072) × (length right.now ≤ 131072) × (k < 131072) }
-    ensures located { LocatedBy x mask left.now right.now k (sides_told result) }
+    ensures located { LocatedBy x mask left.now right.now k result }
     ensures within { InSides result }
 {
     let y = join(x, mask);

@@ -10,6 +10,7 @@ use lib.Seq.{slice, length-slice, get_or-take, get_or-drop, drop-drop, drop-appe
 use Rattle.eb3.specs.Scopes.{Scope}
 use Rattle.eb3.specs.Terms.{Term, Done, Action, internal}
 use Rattle.paths.specs.Paths.{follow, followed, marked}
+use Rattle.std.specs.Prelude.{Option}
 use Rattle.sharing.specs.Shared.{Shared, part_word, shared_words, PartAt}
 use Rattle.sharing.specs.declared.moved.Moved.{Moved}
 use Rattle.sharing.specs.Changing.{Changes, part, resumed, joined, RoomFor, ChangedRight, Changed, Joined, PartChanged}

@@ -10,10 +10,10 @@ use Rattle.eb3.specs.Scopes.{Scope}
 use Rattle.eb3.specs.Terms.{Term, done?}
 use Rattle.eb3.specs.Moves.{Move, move, moves}
 use Rattle.eb3.specs.Sizes.{size}
-use Rattle.expressions.specs.Answering.{answer}
 use Rattle.listing.specs.Listing.{holding}
-use Rattle.derivation.specs.Derived.{passed, move_count}
+use Rattle.derivation.specs.Derived.{move_count}
 use Rattle.sharing.specs.Shared.{Shared, Then, Beside, term_of, part_word, shared_words, PartAt, Stands}
+use Rattle.sharing.specs.Walking.{Spot, spot_at}
 use Rattle.sharing.specs.Finding.{Moving, Place, FoundRight}
 use Rattle.sharing.proofs.FindingMoves.{entry_sequence, entry_left, entry_right}
 
@@ -94,25 +94,24 @@ module _ {u : List ℕ} {P : Scope} {M p : List ℕ} {T : Shared} {i : ℕ} (a :
 
 -- ── what was answered ──
 
-module _ {u : List ℕ} {P : Scope} {M : List ℕ} {S : Shared} {rest : List ℕ} {k : ℕ} {exit : List ℕ} {r : ℕ} where
-  pub right_self : (q : ℕ) → r < passed → Moving u P M (drop q exit) S k → r ≡ answer (length (shared_words S ++ rest)) q → FoundRight u P M S rest k exit r
+module _ {u : List ℕ} {P : Scope} {M : List ℕ} {S : Shared} {rest : List ℕ} {k : ℕ} {exit : List ℕ} {r : Spot} where
+  pub right_self : (q : ℕ) → Moving u P M (drop q exit) S k → r ≡ spot_at (length (shared_words S ++ rest)) q → FoundRight u P M S rest k exit r
   unfolding place_self
-  right_self q z m e = record { low = z; q = q; place = place_self m; answered = e }
+  right_self q m e = record { q = q; place = place_self m; answered = e }
 
   pub right_then : (l : ℕ) (F : Term) → done? (term_of S) ≡ false → PartAt u P l F → FoundRight u P M S rest k exit r → FoundRight u P M (Then S l F) rest k exit r
   unfolding place_then
-  right_then l F d h f = record { low = f.low; q = f.q; place = place_then f.place l F d h; answered = f.answered }
+  right_then l F d h f = record { q = f.q; place = place_then f.place l F d h; answered = f.answered }
 
-module _ {u : List ℕ} {P : Scope} {M : List ℕ} {S T : Shared} {rest exit : List ℕ} {r : ℕ} (d : (done? (term_of S) && done? (term_of T)) ≡ false) where
+module _ {u : List ℕ} {P : Scope} {M : List ℕ} {S T : Shared} {rest exit : List ℕ} {r : Spot} (d : (done? (term_of S) && done? (term_of T)) ≡ false) where
   pub right_left : {k : ℕ} → Stands u P T → k < move_count M (term_of S) → FoundRight u P M S (shared_words T ++ rest) k exit r → FoundRight u P M (Beside S T) rest k exit r
   unfolding place_left
   right_left h l f = record {
-    low = f.low;
     q = f.q;
     place = place_left f.place T d h l;
-    answered = f.answered ∙ ap (λ t. answer (length (shared_words f.place.here ++ t)) f.q) (sym (append_assoc f.place.after (shared_words T) rest));
+    answered = f.answered ∙ ap (λ t. spot_at (length (shared_words f.place.here ++ t)) f.q) (sym (append_assoc f.place.after (shared_words T) rest));
   }
 
   pub right_right : {i : ℕ} (k : ℕ) → Stands u P S → move_count M (term_of S) ≤ k → i ≡ k - move_count M (term_of S) → FoundRight u P M T rest i exit r → FoundRight u P M (Beside S T) rest k exit r
   unfolding place_right
-  right_right k h l e f = record { low = f.low; q = f.q; place = place_right f.place S k d h l e; answered = f.answered }
+  right_right k h l e f = record { q = f.q; place = place_right f.place S k d h l e; answered = f.answered }

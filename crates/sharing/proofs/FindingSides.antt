@@ -2,26 +2,26 @@
 use mathlib.Core.Path.{◌≡◌, refl, sym, ap, ◌∙◌, subst}
 use mathlib.Core.Bool.{Bool, true, false, ◌&&◌}
 use mathlib.Core.List.{List, ◌∷◌, ◌++◌, append_assoc}
-use Prim.Native.Nat.{ℕ, ◌+◌, ◌-◌, ◌/◌, ◌%◌, ◌≤◌, ◌<◌}
+use Prim.Native.Nat.{ℕ, ◌+◌, ◌-◌, ◌≤◌, ◌<◌}
 use native.Mathlib.Omega.{arith}
 use lib.Dec.{eqb}
 use borrow.Author.Tests.{eqb-true, eqb-false}
-use lib.ListN.{length, drop, get_or, length-drop, length-append}
+use lib.ListN.{length, drop, get_or, length-drop}
 use Rattle.eb3.specs.Scopes.{Scope}
 use Rattle.eb3.specs.Terms.{done?}
 use Rattle.scan.specs.Checking.{last_of}
 use Rattle.scan.specs.Laws.Checking.{last_behind, last_len}
-use Rattle.expressions.specs.Answering.{answer}
 use Rattle.listing.specs.Listing.{holding}
-use Rattle.listing.specs.Laws.Operands.{answer_is, answered_left, answered_count}
-use Rattle.derivation.specs.Derived.{passed, full, move_count}
+use Rattle.derivation.specs.Derived.{move_count}
 use Rattle.derivation.specs.Laws.Answers.{by_order}
 use Rattle.sharing.specs.Shared.{Shared, Ended, Beside, term_of, shared_words, Stands}
+use Rattle.sharing.specs.Walking.{Spot, spot_at, spot_behind, no_spot}
 use Rattle.sharing.specs.Finding.{joined, Found}
+use Rattle.sharing.proofs.Spots.{same_behind, rest_no_place, lost_no_place, lost_no_rest, spotted_lost, spotted_at, spotted_passed, spotted_more}
 use Rattle.sharing.proofs.FindingMoves.{moves_joined, count_sides}
 use Rattle.sharing.proofs.FindingForms.{front_word, shared_front, when_ended, not_ended, beside_cases}
 use Rattle.sharing.proofs.FindingPlaces.{right_self, right_left, right_right}
-use Rattle.sharing.proofs.FindingCases.{Told, found_of, sound_of, sound_passed}
+use Rattle.sharing.proofs.FindingCases.{Told, found_of}
 
 -- ── both sides are done ──
 
@@ -45,25 +45,23 @@ module _ (u t v M : List ℕ) (k : ℕ) (entry : List ℕ) (n : ℕ) (isv : v �
     unfolding term_of done?
     one_move = ap length (moves_joined (holding M) (term_of S) (term_of T) (λ j. done? (term_of (is_left j)) && done? (term_of (is_right j))))
 
-  pub beside_joined : (r : ℕ) → k ≡ 0 → length t < 65535 → r ≡ length t + 1 → Found u (25 ∷ t) M k entry entry n r
+  pub beside_joined : (r : Spot) → k ≡ 0 → r ≡ spot_at (length t + 1) 0 → Found u (25 ∷ t) M k entry entry n r
   unfolding shared_words
-  beside_joined r z short e =
-      let a : r ≡ answer (length t + 1) 0 = omega (arith, answer_is (length t + 1) 0) in
-      found_of refl
-      (record { bounded = omega arith; place_bounded = λ y. omega (arith, answer_is (length (25 ∷ t)) (length entry)); passed_bounded = λ y x. absurd (omega arith) })
+  beside_joined r z e =
+      found_of refl (spotted_at (length (25 ∷ t)) (length (25 ∷ t)) k (length entry) (length t + 1) 0 r e (omega arith) (omega arith))
       (λ P. beside_cases t (Told u M k entry entry n r P) (λ S T rest i st x y.
       let w : length t + 1 ≡ length (shared_words (Beside S T) ++ rest) = omega (arith, ap length (i ∙ sym (append_assoc (shared_words S) (shared_words T) rest))) in (
-        λ c. right_self 0 (omega arith) (joined (λ j. Beside (is_left S T rest i j) (is_right S T rest i j)) z) (a ∙ ap (λ m. answer m 0) w),
+        λ c. right_self 0 (joined (λ j. Beside (is_left S T rest i j) (is_right S T rest i j)) z) (e ∙ ap (λ m. spot_at m 0) w),
         λ c. absurd (omega (arith, one_move S T rest i)),
       )))
 
-  pub beside_past : (left r : ℕ) → (k ≡ 0 → ⊥) → length t < 65535 → k < 131072 → left ≡ length (drop 1 v) → r ≡ passed + answer left (k - 1) → Found u (25 ∷ t) M k entry entry n r
-  beside_past left r z short small il e =
+  pub beside_past : (left : ℕ) (r : Spot) → (k ≡ 0 → ⊥) → left ≡ length (drop 1 v) → r ≡ spot_behind (k - 1) left → Found u (25 ∷ t) M k entry entry n r
+  beside_past left r z il e =
       let few : left ≤ length t = omega (arith, ap length isv, length-drop 1 t, length-drop 1 v) in
-      found_of refl (sound_passed (length (25 ∷ t)) k (length entry) left (k - 1) r e (omega arith) (omega arith) (omega arith) small)
+      found_of refl (spotted_passed (length (25 ∷ t)) (length (25 ∷ t)) k (length entry) (k - 1) left r e (omega arith) (omega arith))
       (λ P. beside_cases t (Told u M k entry entry n r P) (λ S T rest i st x y. (
         λ c. absurd (omega (arith, one_move S T rest i)),
-        λ c. e ∙ (λ j. passed + answer ((il ∙ ap length (behind_right S T rest i)) j) (k - sym (one_move S T rest i) j)),
+        λ c. e ∙ (λ j. spot_behind (k - sym (one_move S T rest i) j) ((il ∙ ap length (behind_right S T rest i)) j)),
       )))
 
 -- ── one side moves ──
@@ -89,8 +87,7 @@ apart_first t w a h e f = h (a ∙ e)
 pub apart_second : (t v : List ℕ) (w : ℕ) → v ≡ drop 1 t → w ≡ get_or v 0 0 → (w ≡ 30 → ⊥) → Apart t
 apart_second t v w b a h e f = h (a ∙ ap (λ z. get_or z 0 0) b ∙ f)
 
-module _ (u t M : List ℕ) (k : ℕ) (entry mid : List ℕ) (n l : ℕ) (apart : Apart t) (short : length t < 65535) (small : k < 131072)
-    (first : Found u t M k entry mid n l) where
+module _ (u t M : List ℕ) (k : ℕ) (entry mid : List ℕ) (n : ℕ) (apart : Apart t) where
   module _ (P : Scope) (S T : Shared) (rest : List ℕ) (i : t ≡ shared_words S ++ (shared_words T ++ rest)) (st : Stands u P (Beside S T)) where
     not_both : (done? (term_of S) && done? (term_of T)) ≡ false
     unfolding shared_words
@@ -105,57 +102,46 @@ module _ (u t M : List ℕ) (k : ℕ) (entry mid : List ℕ) (n l : ℕ) (apart 
     unfolding term_of
     counted = count_sides (holding M) (term_of S) (term_of T) not_both
 
-    module _ (x : length u ≤ length entry) (y : length u ≤ n) where
-      -- the left side's moves are passed
-      pub past : passed ≤ l → (move_count M (term_of S) ≤ k) × (l ≡ passed + answer (length (shared_words T ++ rest)) (k - move_count M (term_of S)))
-      past z = by_order k (move_count M (term_of S)) (λ c. absurd (omega (arith, (first.found P S (shared_words T ++ rest) i st.0 x y c).low))) (λ c. (c, first.none_found P S (shared_words T ++ rest) i st.0 x y c))
-
-      within : l < passed → k < move_count M (term_of S)
-      within z = by_order k (move_count M (term_of S)) (λ c. c) (λ c. absurd (omega (arith, first.none_found P S (shared_words T ++ rest) i st.0 x y c)))
-
-      behind_short : length (shared_words T ++ rest) ≤ 65535
-      behind_short = omega (arith, ap length i, length-append (shared_words S) (shared_words T ++ rest))
-
-  pub beside_left : l < passed → Found u (25 ∷ t) M k entry mid n l
-  beside_left z = found_of first.same_length (sound_of (length (25 ∷ t)) (omega arith) first) (λ P. beside_cases t (Told u M k entry mid n l P) (λ S T rest i st x y.
-      let w = within P S T rest i st x y z in (
+  pub beside_left : (a q : ℕ) → Found u t M k entry mid n (spot_at a q) → Found u (25 ∷ t) M k entry mid n (spot_at a q)
+  beside_left a q first =
+      found_of first.same_length (spotted_more (length (25 ∷ t)) (length (25 ∷ t)) k (length entry) first.spotted (omega arith) (omega arith) (omega arith) (omega arith))
+      (λ P. beside_cases t (Told u M k entry mid n (spot_at a q) P) (λ S T rest i st x y.
+      let w : k < move_count M (term_of S) = by_order k (move_count M (term_of S)) (λ c. c) (λ c. rest_no_place (sym (first.none_found P S (shared_words T ++ rest) i st.0 x y c))) in (
         λ c. right_left (not_both P S T rest i st) st.1 w (first.found P S (shared_words T ++ rest) i st.0 x y w),
         λ c. absurd (omega (arith, w, counted P S T rest i st)),
       )))
 
-  pub beside_lost : full ≤ l → Found u (25 ∷ t) M k entry mid n full
-  beside_lost z = found_of first.same_length
-      (record { bounded = omega arith; place_bounded = λ y. absurd (omega (arith, y)); passed_bounded = λ y x. absurd (omega (arith, x)) })
-      (λ P. beside_cases t (Told u M k entry mid n full P) (λ S T rest i st x y.
-      let c = past P S T rest i st x y (omega arith) in
-      let no : ⊥ = omega (arith, c.1, answer_is (length (shared_words T ++ rest)) (k - move_count M (term_of S)), behind_short P S T rest i st x y) in
+  pub beside_lost : Found u t M k entry mid n no_spot → Found u (25 ∷ t) M k entry mid n no_spot
+  beside_lost first = found_of first.same_length (spotted_lost (length (25 ∷ t)) (length (25 ∷ t)) k (length entry))
+      (λ P. beside_cases t (Told u M k entry mid n no_spot P) (λ S T rest i st x y.
+      let no : ⊥ =
+      by_order k (move_count M (term_of S)) (λ c. lost_no_place (first.found P S (shared_words T ++ rest) i st.0 x y c).answered) (λ c. lost_no_rest (first.none_found P S (shared_words T ++ rest) i st.0 x y c)) in
       (λ b. absurd no, λ b. absurd no)))
 
-  module _ (pl : passed ≤ l) (fl : l < full) where
-    pub rest_count : (l - passed) / 65536 ≤ k
-    rest_count = omega (arith, first.passed_bounded pl fl, answer_is (length t) k)
+  module _ (j left : ℕ) (first : Found u t M k entry mid n (spot_behind j left)) where
+    -- the left side's moves are passed
+    past : (P : Scope) (S T : Shared) (rest : List ℕ) → t ≡ shared_words S ++ (shared_words T ++ rest) → Stands u P (Beside S T) → length u ≤ length entry → length u ≤ n
+        → (move_count M (term_of S) ≤ k) × (j ≡ k - move_count M (term_of S)) × (left ≡ length (shared_words T ++ rest))
+    past P S T rest i st x y = by_order k (move_count M (term_of S)) (λ c. rest_no_place (first.found P S (shared_words T ++ rest) i st.0 x y c).answered)
+        (λ c. let w = same_behind (first.none_found P S (shared_words T ++ rest) i st.0 x y c) in (c, w.0, w.1))
 
-    pub beside_right : (v exit : List ℕ) (m r : ℕ) → v ≡ last_of ((l - passed) % 65536) t → m ≡ n → Found u v M ((l - passed) / 65536) mid exit m r → Found u (25 ∷ t) M k entry exit n r
-    beside_right v exit m r isv ism h = found_of (h.same_length ∙ first.same_length) (record {
-      bounded = h.bounded;
-      place_bounded = λ y. omega (arith, h.place_bounded y, answer_is (length v) (length mid), answer_is (length (25 ∷ t)) (length entry), last_len _ t v isv, first.same_length);
-      passed_bounded = λ y z. omega (arith, h.passed_bounded y z, answer_is (length v) ((l - passed) / 65536), answer_is (length (25 ∷ t)) k, last_len _ t v isv, rest_count);
-    }) (λ P. beside_cases t (Told u M k entry exit n r P) (λ S T rest i st x y.
-        let c = past P S T rest i st x y pl in
-        let b = behind_short P S T rest i st x y in
-        let a : l - passed ≡ answer (length (shared_words T ++ rest)) (k - move_count M (term_of S)) = omega (arith, c.1) in
-        let le = answered_left (l - passed) (length (shared_words T ++ rest)) (k - move_count M (term_of S)) a b in
-        let co = answered_count (l - passed) (length (shared_words T ++ rest)) (k - move_count M (term_of S)) a b in
-        let e : v ≡ shared_words T ++ rest = isv ∙ (λ j. last_of (le j) (i j)) ∙ last_behind (shared_words S) (shared_words T ++ rest) in
+    pub beside_right : (v exit : List ℕ) (m : ℕ) (r : Spot) → v ≡ last_of left t → m ≡ n → Found u v M j mid exit m r → Found u (25 ∷ t) M k entry exit n r
+    beside_right v exit m r isv ism h =
+        let few = last_len _ t v isv in
+        found_of (h.same_length ∙ first.same_length)
+        (spotted_more (length (25 ∷ t)) (length (25 ∷ t)) k (length entry) h.spotted (omega (arith, few)) (omega (arith, few)) (first.spotted.rest j left refl).0 (omega (arith, first.same_length)))
+        (λ P. beside_cases t (Told u M k entry exit n r P) (λ S T rest i st x y.
+        let c = past P S T rest i st x y in
+        let e : v ≡ shared_words T ++ rest = isv ∙ (λ j. last_of (c.2 j) (i j)) ∙ last_behind (shared_words S) (shared_words T ++ rest) in
         let p : length u ≤ length mid = omega (arith, first.same_length) in
         let q : length u ≤ m = omega arith in
         let both = counted P S T rest i st in (
-          λ z. right_right (not_both P S T rest i st) k st.0 c.0 co (h.found P T rest e st.1 p q (omega (arith, co, c.0, both))),
+          λ z. right_right (not_both P S T rest i st) k st.0 c.0 c.1 (h.found P T rest e st.1 p q (omega (arith, c.1, c.0, both))),
           λ z.
-              let w : (l - passed) / 65536 - move_count M (term_of T) ≡ k - move_count M (term_of (Beside S T)) = omega (arith, co, both) in
-              h.none_found P T rest e st.1 p q (omega (arith, co, c.0, both)) ∙ ap (λ j. passed + answer (length rest) j) w,
+              let w : j - move_count M (term_of T) ≡ k - move_count M (term_of (Beside S T)) = omega (arith, c.1, both) in
+              h.none_found P T rest e st.1 p q (omega (arith, c.1, c.0, both)) ∙ ap (λ a. spot_behind a (length rest)) w,
         )))
 
 -- Of a store that is the same.
-pub at_store : {u s M N : List ℕ} {k : ℕ} {entry exit : List ℕ} {n r : ℕ} → N ≡ M → Found u s N k entry exit n r → Found u s M k entry exit n r
+pub at_store : {u s M N : List ℕ} {k : ℕ} {entry exit : List ℕ} {n : ℕ} {r : Spot} → N ≡ M → Found u s N k entry exit n r → Found u s M k entry exit n r
 at_store {u} {s} {M} {N} {k} {entry} {exit} {n} {r} e h = subst (λ m. Found u s m k entry exit n r) e h

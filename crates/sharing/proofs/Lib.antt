@@ -1,4 +1,5 @@
 -- The laws that the proofs of finding, building, splicing and spelling out share (document 01, "Moves, in order"; "Operations": Run).
+mod Spots
 mod WalkingCases
 mod SeekingAnswers
 mod SeekingCounts

@@ -1,18 +1,16 @@
--- Where move k of a shared term takes place: in a part, in a part after done, or at a parallel of done and done (document 01, "Moves, in order"). One number is
--- the answer. Below `passed`: the words left where that place begins, and 65,536 times where the part's path begins. From `passed` on: the words left after the
--- term, and 65,536 times what is left of k.
-use Rattle.std.specs.Prelude.{◌≡◌, List, ◌++◌, ℕ, ◌+◌, ◌-◌, ◌≤◌, ◌<◌, length, drop}
+-- Where move k of a shared term takes place: in a part, in a part after done, or at a parallel of done and done (document 01, "Moves, in order").
+use Rattle.std.specs.Prelude.{◌≡◌, List, ◌++◌, ℕ, ◌-◌, ◌≤◌, ◌<◌, length, drop}
 use Rattle.std.proofs.Math.Option.{some}
 use Rattle.std.proofs.Math.ListN.{get_elem?}
 use Rattle.eb3.specs.Scopes.{Scope}
 use Rattle.eb3.specs.Terms.{Term}
 use Rattle.eb3.specs.Moves.{Move, move, moves}
 use Rattle.eb3.specs.Sizes.{size}
-use Rattle.expressions.specs.Answering.{answer}
 use Rattle.listing.specs.Listing.{holding}
 use Rattle.paths.specs.Paths.{path}
-use Rattle.derivation.specs.Derived.{passed, full, move_count}
+use Rattle.derivation.specs.Derived.{move_count}
 use Rattle.sharing.specs.Shared.{Shared, Ended, Part, Then, Beside, term_of, part_word, shared_words, PartAt, Stands}
+use Rattle.sharing.specs.Walking.{Spot, spot_at, spot_behind}
 
 -- What moves: move j, whose path is p, of a part of the unfolding that is alone at the place or after done; or a parallel of done and done.
 pub data Moving (u : List ℕ) (P : Scope) (M : List ℕ) (p : List ℕ) (here : Shared) (j : ℕ) : Type 0 where
@@ -36,29 +34,29 @@ pub record Place (u : List ℕ) (P : Scope) (M : List ℕ) (p : List ℕ) (S : S
       → get_elem? (moves (holding M) (term_of S)) k ≡ some (move x.action (term_of (around X)))
 
 -- For a shared term S with the words rest after it, r was answered; the path array is `exit` then.
-pub record FoundRight (u : List ℕ) (P : Scope) (M : List ℕ) (S : Shared) (rest : List ℕ) (k : ℕ) (exit : List ℕ) (r : ℕ) : Type 0 where
-  pub low : r < passed
+pub record FoundRight (u : List ℕ) (P : Scope) (M : List ℕ) (S : Shared) (rest : List ℕ) (k : ℕ) (exit : List ℕ) (r : Spot) : Type 0 where
   pub q : ℕ
   pub place : Place u P M (drop q exit) S k
-  pub answered : r ≡ answer (length (shared_words place.here ++ (place.after ++ rest))) q
+  pub answered : r ≡ spot_at (length (shared_words place.here ++ (place.after ++ rest))) q
 
-pub record Found (u s M : List ℕ) (k : ℕ) (entry exit : List ℕ) (n r : ℕ) : Type 0 where
+-- What is known of an answer whatever the words are: no more than `here` words are left where a place begins, no more than `left` after the term.
+pub record Spotted (here left k l : ℕ) (r : Spot) : Type 0 where
+  pub place : (a i : ℕ) → r ≡ spot_at a i → (a ≤ here) × (i ≤ l)
+  pub rest : (j a : ℕ) → r ≡ spot_behind j a → (j ≤ k) × (a ≤ left)
+
+pub record Found (u s M : List ℕ) (k : ℕ) (entry exit : List ℕ) (n : ℕ) (r : Spot) : Type 0 where
   pub same_length : length exit ≡ length entry
-  pub bounded : r ≤ full
-  pub place_bounded : r < passed → r ≤ answer (length s) (length entry)
-  pub passed_bounded : passed ≤ r → r < full → r ≤ passed + answer (length s) k
+  pub spotted : Spotted (length s) (length s) k (length entry) r
   pub found : (P : Scope) (S : Shared) (rest : List ℕ) → s ≡ shared_words S ++ rest → Stands u P S → length u ≤ length entry → length u ≤ n → k < move_count M (term_of S)
       → FoundRight u P M S rest k exit r
   pub none_found : (P : Scope) (S : Shared) (rest : List ℕ) → s ≡ shared_words S ++ rest → Stands u P S → length u ≤ length entry → length u ≤ n → move_count M (term_of S) ≤ k
-      → r ≡ passed + answer (length rest) (k - move_count M (term_of S))
+      → r ≡ spot_behind (k - move_count M (term_of S)) (length rest)
 
 -- The same in a part with the word w, whose place begins where `here` words are left and ends where `left` words are left.
-pub record PartFound (u : List ℕ) (w here left : ℕ) (M : List ℕ) (k : ℕ) (entry exit : List ℕ) (n r : ℕ) : Type 0 where
+pub record PartFound (u : List ℕ) (w here left : ℕ) (M : List ℕ) (k : ℕ) (entry exit : List ℕ) (n : ℕ) (r : Spot) : Type 0 where
   pub same_length : length exit ≡ length entry
-  pub bounded : r ≤ full
-  pub place_bounded : r < passed → r ≤ answer here (length entry)
-  pub passed_bounded : passed ≤ r → r < full → r ≤ passed + answer left k
+  pub spotted : Spotted here left k (length entry) r
   pub found : (P : Scope) (l : ℕ) (E : Term) → w ≡ part_word l → PartAt u P l E → length u ≤ length entry → length u ≤ n → k < move_count M E
-      → (q : ℕ) × (r ≡ answer here q) × (r < passed) × (drop q exit ≡ path P.edition.width 0 (holding M) E k)
+      → (q : ℕ) × (r ≡ spot_at here q) × (drop q exit ≡ path P.edition.width 0 (holding M) E k)
   pub none_found : (P : Scope) (l : ℕ) (E : Term) → w ≡ part_word l → PartAt u P l E → length u ≤ length entry → length u ≤ n → move_count M E ≤ k
-      → r ≡ passed + answer left (k - move_count M E)
+      → r ≡ spot_behind (k - move_count M E) left

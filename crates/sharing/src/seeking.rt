@@ -2,10 +2,9 @@
 // or a term under a guard that does not hold, is not passed over; only a left operand's end is looked for, by the walk of `derivation`.
 // Stays: that words are at most 65,535 is a clause of each function here, for the reason in successors (docs/DESIGN-PASS.md, "A struct for words").
 ghost use Rattle.std.specs.Prelude.{◌≡◌, ◌+◌, ◌-◌, ◌≤◌, ◌<◌, [], ◌∷◌, length};
-ghost use Rattle.derivation.specs.Derived.{passed};
-ghost use Rattle.derivation.specs.Lending.{Kept, Over};
+ghost use Rattle.derivation.specs.declared.arrays.Derivation.TheVariants.{At, Behind};
+ghost use Rattle.derivation.specs.Lending.{Kept, Over, answered};
 ghost use Rattle.sharing.specs.Seeking.{Sought, TwoSought};
-ghost use Rattle.sharing.specs.Walking.{sought_in};
 
 use code_numbers::{ACTION, CHOICE, DONE, GUARD, INTERNAL, PARALLEL, SEQUENCE, STAR};
 use derivation::{Arrays, Walked, size_before};
@@ -20,12 +19,11 @@ use scan::{behind, first, last};
 // one of the same cycle at another instance, which the check does not cover.
 
 // One move, whose path is empty: it begins at the end.
-// Stays beside derivation's `single`, whose contract says what is left of k and the words left as one number: each call here would need a lemma that takes
-// them apart.
+// Stays beside derivation's `single`, which writes too how many words are left after the term: here that is not known, and nothing reads it.
 fn only(arrays: &mut Arrays) -> Walked
     ensures kept { Kept arrays.old arrays.new }
     ensures path { arrays.new.path.now ≡ arrays.old.path.now }
-    ensures one { (arrays.old.k ≡ 0 → sought_in arrays.new result ≡ length arrays.old.path.now) × (1 ≤ arrays.old.k → sought_in arrays.new result ≡ passed + (arrays.old.k - 1)) }
+    ensures one { (arrays.old.k ≡ 0 → answered arrays.new result ≡ At (length arrays.old.path.now)) × (1 ≤ arrays.old.k → answered arrays.new result ≡ Behind (arrays.old.k - 1) arrays.old.left) }
 {
     if arrays.k == 0 {
         arrays.at = arrays.path.len();
@@ -42,7 +40,7 @@ fn only(arrays: &mut Arrays) -> Walked
 pub fn seek(s: &[u16], arrays: &mut Arrays) -> Walked
     requires { length s.now ≤ 65535 }
     ensures kept { Kept arrays.old arrays.new }
-    ensures sought { Over (Sought s.now) arrays.old.k arrays.old arrays.new (sought_in arrays.new result) }
+    ensures sought { Over (Sought s.now) arrays.old.k arrays.old arrays.new (answered arrays.new result) }
 {
     let w = first(s);
     let t = behind(s);
@@ -63,7 +61,7 @@ pub fn seek(s: &[u16], arrays: &mut Arrays) -> Walked
 fn seek_sequence(t: &[u16], arrays: &mut Arrays) -> Walked
     requires { length t.now ≤ 65535 }
     ensures kept { Kept arrays.old arrays.new }
-    ensures sought { Over (Sought (22 ∷ t.now)) arrays.old.k arrays.old arrays.new (sought_in arrays.new result) }
+    ensures sought { Over (Sought (22 ∷ t.now)) arrays.old.k arrays.old arrays.new (answered arrays.new result) }
 {
     if first(t) == DONE {
         return seek(behind(t), arrays);
@@ -79,7 +77,7 @@ fn seek_sequence(t: &[u16], arrays: &mut Arrays) -> Walked
 fn seek_two(t: &[u16], c: u16, arrays: &mut Arrays) -> Walked
     requires { (length t.now ≤ 65535) × (c ≤ 1) }
     ensures kept { Kept arrays.old arrays.new }
-    ensures sought { Over (TwoSought c t.now) arrays.old.k arrays.old arrays.new (sought_in arrays.new result) }
+    ensures sought { Over (TwoSought c t.now) arrays.old.k arrays.old arrays.new (answered arrays.new result) }
 {
     let l = arrays.walk_all(t);
     match l {
@@ -98,7 +96,7 @@ fn seek_two(t: &[u16], c: u16, arrays: &mut Arrays) -> Walked
 fn seek_star(t: &[u16], arrays: &mut Arrays) -> Walked
     requires { length t.now ≤ 65535 }
     ensures kept { Kept arrays.old arrays.new }
-    ensures sought { Over (Sought (24 ∷ t.now)) arrays.old.k arrays.old arrays.new (sought_in arrays.new result) }
+    ensures sought { Over (Sought (24 ∷ t.now)) arrays.old.k arrays.old arrays.new (answered arrays.new result) }
 {
     if arrays.k == 0 {
         arrays.at = arrays.path.len();
@@ -114,7 +112,7 @@ fn seek_star(t: &[u16], arrays: &mut Arrays) -> Walked
 fn seek_parallel(d: &[u16], arrays: &mut Arrays) -> Walked
     requires { length d.now ≤ 65535 }
     ensures kept { Kept arrays.old arrays.new }
-    ensures sought { Over (Sought (25 ∷ d.now)) arrays.old.k arrays.old arrays.new (sought_in arrays.new result) }
+    ensures sought { Over (Sought (25 ∷ d.now)) arrays.old.k arrays.old arrays.new (answered arrays.new result) }
 {
     let t = behind_mask(d);
     if both_done(t) {
@@ -129,7 +127,7 @@ fn seek_parallel(d: &[u16], arrays: &mut Arrays) -> Walked
 fn seek_guard(t: &[u16], arrays: &mut Arrays) -> Walked
     requires { length t.now ≤ 65535 }
     ensures kept { Kept arrays.old arrays.new }
-    ensures sought { Over (Sought (26 ∷ t.now)) arrays.old.k arrays.old arrays.new (sought_in arrays.new result) }
+    ensures sought { Over (Sought (26 ∷ t.now)) arrays.old.k arrays.old arrays.new (answered arrays.new result) }
 {
     let c = eval_cond(t, arrays.store);
     if truth_of(c) == 0 {

@@ -3,7 +3,7 @@ use mathlib.Core.Path.{◌≡◌, refl, sym, ap, ◌∙◌, subst}
 use mathlib.Core.Bool.{true}
 use mathlib.Core.List.{List, [], ◌++◌, append-nil}
 use mathlib.Core.Option.{Option as Maybe, none, some}
-use Rattle.std.specs.Prelude.{Option, None, Some, MatchOption}
+use Rattle.std.specs.Prelude.{Option, None, Some}
 use Prim.Native.Nat.{ℕ, ◌*◌, ◌/◌, ◌≤◌, ◌<◌}
 use Rattle.std.proofs.lemmas.Option.{none-some, same_Some}
 use native.Mathlib.Omega.{arith}
@@ -24,77 +24,69 @@ use Rattle.listing.specs.Laws.Rooms.{room_below_breadth}
 use Rattle.paths.specs.Paths.{path, Followed, follow, followed, marked}
 use Rattle.paths.proofs.SeekLaws.{some_within}
 use Rattle.paths.proofs.PathLaws.{follow_path}
-use Rattle.listing.specs.Laws.Operands.{answer_is}
 use Rattle.derivation.specs.declared.arrays.Derivation.{Derivation}
 use Rattle.derivation.specs.declared.arrays.Derivation.TheVariants.{At, Behind, NoRoom}
-use Rattle.derivation.specs.Derived.{passed, full, move_count, Derived}
-use Rattle.derivation.specs.Lending.{Placed as Within, told}
+use Rattle.derivation.specs.Derived.{Roomed, move_count, Derived}
+use Rattle.derivation.specs.Laws.Answers.{same_place, no_rest}
 use Rattle.successors.specs.declared.Built.{Built}
 use Rattle.successors.specs.Building.{built_words, Building, BuiltRight}
 use Rattle.steps.specs.Counting.{Whole}
 use Rattle.derivation.specs.Laws.Fits.{small_actions}
-use Rattle.steps.specs.Taking.{PathSought, PathFound, taken_as, built_over, SuccessorFits, Took}
+use Rattle.steps.specs.Taking.{place_in, PathFound, taken_as, built_over, SuccessorFits, Took}
 use Rattle.steps.specs.declared.moving.Taken.{Taken}
 
--- The place in an answer of a derivation.
-abbrev pub Placed : Option ℕ → ℕ → Type 0
-Placed o r = MatchOption o (passed ≤ r) (λ at. (at ≡ r) × (r < passed))
+-- ── an answer of a derivation ──
 
--- ── an answer with its numbers ──
+pub place_here : (i : ℕ) (d : Derivation) → d ≡ At i → Some i ≡ place_in d
+place_here i d h = sym (ap place_in h)
 
-pub told_place : (i : ℕ) (d : Derivation) → d ≡ At i → Within 65535 d → (i ≡ told d) × (told d < passed)
-told_place i d h p =
-    let q : i ≤ 65535 = subst (Within 65535) h p in
-    (sym (ap told h), subst (λ x. told x < passed) (sym h) (omega (arith, q)))
+pub place_none : (d : Derivation) → ((i : ℕ) → d ≡ At i → ⊥) → None ≡ place_in d
+place_none (At i) h = absurd (h i refl)
+place_none (Behind j left) h = refl
+place_none NoRoom h = refl
 
-pub told_other : (d : Derivation) → ((i : ℕ) → d ≡ At i → ⊥) → passed ≤ told d
-told_other (At i) h = absurd (h i refl)
-told_other (Behind k left) h = omega arith
-told_other NoRoom h = omega arith
-
-pub told_few : (d : Derivation) → (d ≡ NoRoom → ⊥) → Within 65535 d → told d < full
-told_few (At i) h p = omega (arith, p)
-told_few (Behind k left) h p = omega (arith, answer_is left k, p.0, p.1)
-told_few NoRoom h p = absurd (h refl)
-
-pub within_more : (n : ℕ) (d : Derivation) → n ≤ 65535 → Within n d → Within 65535 d
-within_more n (At i) l p = omega (arith, p)
-within_more n (Behind k left) l p = p
-within_more n NoRoom l p = p
+roomed : (d : Derivation) → (d ≡ NoRoom → ⊥) → Roomed d
+roomed (At i) h = tt
+roomed (Behind j left) h = tt
+roomed NoRoom h = h refl
 
 module _ {s M : List ℕ} {k : ℕ} where
   -- ── the path ──
 
-  -- Found by one walk, in room for n numbers.
-  pub walked : {entry exit : List ℕ} {n r : ℕ} → length exit ≡ length entry → Derived s M k entry exit n r → PathSought s M k entry exit n r
-  walked e d = record { same_length = e; place_bounded = d.place_bounded; has_room = d.has_room; found = d.found; none_found = λ P E rest t h l. omega (arith, d.none_found P E rest t h l) }
-
-  pub walked_in : {entry exit : List ℕ} {n r : ℕ} → length exit ≡ length entry → Derived s M k entry exit (length (replicate {A = ℕ} n 0)) r → PathSought s M k entry exit n r
-  walked_in {entry} {exit} {n} {r} e d = subst (λ i. PathSought s M k entry exit i r) (length-replicate {A = ℕ} n 0) (walked e d)
+  -- Sought in room for n numbers.
+  pub derived_in : {entry exit : List ℕ} {n : ℕ} {r : Derivation} → Derived s M k entry exit (length (replicate {A = ℕ} n 0)) r → Derived s M k entry exit n r
+  derived_in {entry} {exit} {n} {r} d = subst (λ i. Derived s M k entry exit i r) (length-replicate {A = ℕ} n 0) d
 
   -- The place in an answer is that of the path, where there was room if the term is within the limits; trying before changes nothing but the array's words.
-  placed_path : {entry mid exit : List ℕ} {n r : ℕ} {o : Option ℕ} → length mid ≡ length entry → PathSought s M k mid exit n r
-      → ((P : Scope) (E : Term) → Whole s P E → size P.edition.width E ≤ length entry → r < full) → Placed o r → PathFound s M k entry exit o
-  placed_path {o = None} e p enough q = record {
-    same_length = p.same_length ∙ e;
+  placed_path : {entry mid exit : List ℕ} {n : ℕ} (r : Derivation) → length mid ≡ length entry → length exit ≡ length mid → Derived s M k mid exit n r
+      → ((P : Scope) (E : Term) → Whole s P E → size P.edition.width E ≤ length entry → Roomed r) → PathFound s M k entry exit (place_in r)
+  placed_path (At i) e f p enough = record {
+    same_length = f ∙ e;
+    place_bounded = λ at z. omega (arith, e, same_Some i at z, p.placed.place i refl);
+    found = λ P E w b l. let q = p.found P E [] w.there tt l in (q.0, ap Some (same_place q.1), q.2);
+    none_found = λ P E w b l. no_rest (p.none_found P E [] w.there tt l);
+  }
+  placed_path (Behind j left) e f p enough = record {
+    same_length = f ∙ e;
     place_bounded = λ at z. absurd (none-some at z);
-    found = λ P E w b l. absurd (let z : ⊥ = omega (arith, q, (p.found P E [] w.there (enough P E w b) l).0) in z);
+    found = λ P E w b l. no_rest (sym (p.found P E [] w.there tt l).1);
     none_found = λ P E w b l. refl;
   }
-  placed_path {exit = exit} {o = Some at} e p enough q = record {
-    same_length = p.same_length ∙ e;
-    place_bounded = λ i z. omega (arith, e, q.0, q.1, same_Some _ _ z, p.place_bounded (q.1));
-    found = λ P E w b l. (at, refl, ap (λ i. drop i exit) q.0 ∙ (p.found P E [] w.there (enough P E w b) l).1);
-    none_found = λ P E w b l. absurd (let z : ⊥ = omega (arith, q.1, p.none_found P E [] w.there (enough P E w b) l) in z);
+  placed_path NoRoom e f p enough = record {
+    same_length = f ∙ e;
+    place_bounded = λ at z. absurd (none-some at z);
+    found = λ P E w b l. absurd (enough P E w b);
+    none_found = λ P E w b l. refl;
   }
 
-  -- An answer that says that there was room is right.
-  pub answered_path : {entry mid exit : List ℕ} {n r : ℕ} {o : Option ℕ} → length mid ≡ length entry → PathSought s M k mid exit n r → r < full → Placed o r → PathFound s M k entry exit o
-  answered_path e p h q = placed_path e p (λ P E w b. h) q
+  module _ {entry mid exit : List ℕ} {r : Derivation} {o : Option ℕ} (e : length mid ≡ length entry) (f : length exit ≡ length mid) (q : o ≡ place_in r) where
+    -- An answer that says that there was room is right.
+    pub answered_path : {n : ℕ} → Derived s M k mid exit n r → (r ≡ NoRoom → ⊥) → PathFound s M k entry exit o
+    answered_path p h = subst (PathFound s M k entry exit) (sym q) (placed_path r e f p (λ P E w b. roomed r h))
 
-  -- A term within the limit takes no more room than there is at most.
-  pub most_path : {entry mid exit : List ℕ} {r : ℕ} {o : Option ℕ} → length mid ≡ length entry → PathSought s M k mid exit 131072 r → Placed o r → PathFound s M k entry exit o
-  most_path e p q = placed_path e p (λ P E w b. p.has_room P E [] w.there (omega arith) (omega (arith, w.narrow, room_below_breadth (holding M) E))) q
+    -- A term within the limit takes no more room than there is at most.
+    pub most_path : Derived s M k mid exit 131072 r → PathFound s M k entry exit o
+    most_path p = subst (PathFound s M k entry exit) (sym q) (placed_path r e f p (λ P E w b. p.has_room P E [] w.there (omega arith) (omega (arith, w.narrow, room_below_breadth (holding M) E))))
 
 -- ── the move ──
 

@@ -10,21 +10,21 @@ use Rattle.eb3.specs.Sizes.{size}
 use Rattle.eb3.specs.Spelling.{words}
 use Rattle.eb3.specs.Bytes.{word_count, written}
 use Rattle.actions.specs.Codes.{action_code}
-use Rattle.listing.specs.Listing.{TermAt, holding, room}
+use Rattle.listing.specs.Listing.{holding}
 use Rattle.paths.specs.Paths.{path}
-use Rattle.derivation.specs.Derived.{passed, full, move_count}
+use Rattle.derivation.specs.declared.arrays.Derivation.{Derivation}
+use Rattle.derivation.specs.declared.arrays.Derivation.TheVariants.{At, Behind, NoRoom}
+use Rattle.derivation.specs.Derived.{move_count}
 use Rattle.steps.specs.Counting.{Whole}
 use Rattle.steps.specs.declared.moving.Taken.{Taken}
 
 -- ── its path ──
 
--- Move k's path, sought with room for n numbers.
-pub record PathSought (s M : List ℕ) (k : ℕ) (entry exit : List ℕ) (n r : ℕ) : Type 0 where
-  pub same_length : length exit ≡ length entry
-  pub place_bounded : r < passed → r ≤ length entry
-  pub has_room : (P : Scope) (E : Term) (rest : List ℕ) → TermAt s P E rest → size P.edition.width E ≤ length entry → room (holding M) E ≤ n → r < full
-  pub found : (P : Scope) (E : Term) (rest : List ℕ) → TermAt s P E rest → r < full → k < move_count M E → (r < passed) × (drop r exit ≡ path P.edition.width 0 (holding M) E k)
-  pub none_found : (P : Scope) (E : Term) (rest : List ℕ) → TermAt s P E rest → r < full → move_count M E ≤ k → passed ≤ r
+-- The place in an answer of a derivation, if there is one.
+abbrev pub place_in : Derivation → Option ℕ
+place_in (At i) = Some i
+place_in (Behind j left) = None
+place_in NoRoom = None
 
 -- Sought in as much room as it takes: there is always an answer.
 pub record PathFound (s M : List ℕ) (k : ℕ) (entry exit : List ℕ) (r : Option ℕ) : Type 0 where

@@ -2,11 +2,10 @@
 // order"; "Operations"). The path has at most as many words as the term; the numbers that finding it takes are tried as
 // in counting.
 // Stays: that words are at most 65,535 is a clause of each function here, for the reason in successors (docs/DESIGN-PASS.md, "A struct for words").
-ghost use Rattle.std.specs.Prelude.{◌≡◌, ℕ, ◌≤◌, ◌<◌, length, MatchOption};
+ghost use Rattle.std.specs.Prelude.{◌≡◌, ℕ, ◌≤◌, ◌<◌, length};
 ghost use Rattle.derivation.specs.Arrays.{SameArrays};
-ghost use Rattle.derivation.specs.Derived.{passed};
-ghost use Rattle.derivation.specs.Lending.{Placed, told};
-ghost use Rattle.steps.specs.Taking.{PathSought, PathFound, MoveTaken};
+ghost use Rattle.derivation.specs.Derived.{Derived};
+ghost use Rattle.steps.specs.Taking.{place_in, PathFound, MoveTaken};
 
 use derivation::{Derivation, Scratch, derive};
 use successors::build;
@@ -29,8 +28,8 @@ pub struct Taken {
 #[inline(never)]
 fn path_in<const N: usize>(s: &[u16], m: &[u16], k: usize, path: &mut [u16]) -> Derivation
     requires { (length s.now ≤ 65535) × (k < 65536) × (length path.old ≤ 65535) × (N ≤ 131072) }
-    ensures sought { PathSought s.now m.now k path.old path.new N (told result) }
-    ensures placed { Placed (length path.old) result }
+    ensures kept { length path.new ≡ length path.old }
+    ensures derived { Derived s.now m.now k path.old path.new N result }
 {
     let mut acts = [0u32; N];
     let r = derive(s, m, k, path, &mut acts);
@@ -39,7 +38,7 @@ fn path_in<const N: usize>(s: &[u16], m: &[u16], k: usize, path: &mut [u16]) -> 
 
 // The place in an answer of a derivation, if there is one.
 fn place(r: Derivation) -> Option<usize>
-    ensures { Placed 65535 r → MatchOption result (passed ≤ told r) (λ at. (at ≡ told r) × (told r < passed)) }
+    ensures { result ≡ place_in r }
 {
     match r {
         Derivation::At(at) => Some(at),

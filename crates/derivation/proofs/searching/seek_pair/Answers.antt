@@ -9,14 +9,14 @@ pub returns-in-Ok-clause-told : goal.returns-in-Ok-clause-told
 returns-in-Ok-clause-told c =
     let a = c.args in
     sym (c.loop-i.invariant.1 ∙ pairs_here c.loop-i.i a.left.now c.loop-i-test.true (paired a.x a.mask) a.right.now c.loop-i.due c.if-together.ensures _
-    (c.in-Ok.ensures.told (eqb (get_or a.left.now c.loop-i.i 0)) (λ a b h p. search rules)) (omega (arith, c.in-Ok.ensures.within)))
+    (c.in-Ok.ensures.told (eqb (get_or a.left.now c.loop-i.i 0)) (λ a b h p. search rules)))
 
 pub loop-i-preserved : goal.loop-i-preserved
 loop-i-preserved c = elim c.if-together.branch [
   | then-together+in-Err w ↦
       let a = c.args in (
         omega (arith, w.in-Err.ensures.within, w.due-is),
-        c.loop-i.invariant.1 ∙ pairs_pass c.loop-i.i a.left.now c.loop-i-test.true (paired a.x a.mask) a.right.now c.loop-i.due w.if-together.ensures _ (w.in-Err.ensures.told (eqb (get_or a.left.now c.loop-i.i 0)) (λ a b h p. search rules)) (omega arith)
+        c.loop-i.invariant.1 ∙ pairs_pass c.loop-i.i a.left.now c.loop-i-test.true (paired a.x a.mask) a.right.now c.loop-i.due w.if-together.ensures _ (w.in-Err.ensures.told (eqb (get_or a.left.now c.loop-i.i 0)) (λ a b h p. search rules))
             ∙ ap (nth_pair (paired a.x a.mask) (c.loop-i.i + 1) (drop (c.loop-i.i + 1) a.left.now) a.right.now) (omega (arith, w.due-is)),
       )
   | else-together w ↦

@@ -1,14 +1,13 @@
 use Rattle.std.proofs.Common.{rules}
 use mathlib.Core.Path.{refl, sym, ap, ◌∙◌}
 use lib.Dec.{lit<}
-use Rattle.scan.specs.Laws.Checking.{behind_len, last_len}
-use Rattle.listing.specs.Laws.Operands.{answer_is, front_len}
+use Rattle.scan.specs.Laws.Checking.{last_len}
 use Rattle.sharing.specs.Walking.{found_in}
-use Rattle.sharing.proofs.WalkingCases.{find_low, find_full, packed_high, packed_low, last_is, find_on, passing_found, found_path}
+use Rattle.sharing.proofs.WalkingCases.{found_as, passing_found, found_path}
 use Rattle.sharing.proofs.FindingCases.{done_found, part_found, then_resumed, then_found, at_front}
 use Rattle.sharing.proofs.FindingSides.{Apart, at_store, beside_joined, beside_past, apart_first, apart_second, beside_left, beside_lost, beside_right}
 use native.Mathlib.Omega.{arith}
-use Prim.Native.Nat.{ℕ, ◌+◌}
+use Prim.Native.Nat.{ℕ}
 use lib.ListN.{length, drop}
 use Rattle.sharing.proofs.finding.+finding.Goals as goal
 use Rattle.sharing.proofs.finding.+finding.Goals.{find_beside-Joined-else-first-eq-DONE, find_beside-else-first-eq-DONE-via-then-first-eq-DONE+else-first-eq-DONE-2, find_beside-else-first-eq-DONE-via-else-first-eq-DONE}
@@ -21,31 +20,31 @@ apart t c = elim c.else-first-eq-DONE.branch [
 ]
 
 pub find-returns-in-30-clause-found : goal.find-returns-in-30-clause-found
-find-returns-in-30-clause-found t c = at_front _ _ _ _ _ _ _ _ _ 30 _ c.first-w.ensures.0 c.behind-t.ensures c.in-30.is (lit< tt) (found_path c.passing.ensures.path (done_found _ _ _ _ _ _ _ (omega (arith, behind_len c.args.s.now _ c.behind-t.ensures, front_len c.args.s.now _ c.first-w.ensures.0 c.first-w.ensures.1, c.in-30.is)) c.args.arrays.now.due (passing_found c.passing.new.self _ _ c.passing.ensures.passed.0)))
+find-returns-in-30-clause-found t c = at_front _ _ _ _ _ _ _ _ _ 30 _ c.first-w.ensures.0 c.behind-t.ensures c.in-30.is (lit< tt) (found_path c.passing.ensures.path (done_found _ _ _ _ _ _ _ (passing_found c.passing.new.self _ c.passing.ensures.passed)))
 
 pub find-returns-in_default-clause-found : goal.find-returns-in_default-clause-found
 find-returns-in_default-clause-found t c = part_found _ _ _ _ _ _ _ _ _ _ _ _ c.first-w.ensures.0 c.behind-t.ensures (search rules) (search rules) (search rules) refl refl c.find_part.ensures.found
 
 pub find_beside-returns-then-arrays-eq0-clause-found : goal.find_beside-returns-then-arrays-eq0-clause-found
-find_beside-returns-then-arrays-eq0-clause-found t c = beside_joined _ _ _ _ _ _ _ c.behind.ensures (sym c.first.ensures.0 ∙ c.if-first-eq-DONE.true) (sym c.first-then-first-eq-DONE.ensures.0 ∙ c.if-first-eq-DONE-2.true) _ c.if-arrays-eq0.true c.requires.1 (omega (arith, answer_is (length c.args.t.now + 1) 0))
+find_beside-returns-then-arrays-eq0-clause-found t c = beside_joined _ _ _ _ _ _ _ c.behind.ensures (sym c.first.ensures.0 ∙ c.if-first-eq-DONE.true) (sym c.first-then-first-eq-DONE.ensures.0 ∙ c.if-first-eq-DONE-2.true) _ c.if-arrays-eq0.true refl
 
 pub find_beside-returns-then-first-eq-DONE-2-clause-found : goal.find_beside-returns-then-first-eq-DONE-2-clause-found
-find_beside-returns-then-first-eq-DONE-2-clause-found t c = found_path c.passing.ensures.path (beside_past _ _ _ _ _ _ _ c.behind.ensures (sym c.first.ensures.0 ∙ c.if-first-eq-DONE.true) (sym c.first-then-first-eq-DONE.ensures.0 ∙ c.if-first-eq-DONE-2.true) _ _ c.if-arrays-eq0.false c.requires.1 c.args.arrays.now.due (ap length (c.behind-then-first-eq-DONE-2-2.ensures ∙ ap (drop 1) (c.behind-then-first-eq-DONE-2.ensures ∙ sym c.behind.ensures))) (passing_found c.passing.new.self _ _ c.passing.ensures.passed.0))
+find_beside-returns-then-first-eq-DONE-2-clause-found t c = found_path c.passing.ensures.path (beside_past _ _ _ _ _ _ _ c.behind.ensures (sym c.first.ensures.0 ∙ c.if-first-eq-DONE.true) (sym c.first-then-first-eq-DONE.ensures.0 ∙ c.if-first-eq-DONE-2.true) _ _ c.if-arrays-eq0.false (ap length (c.behind-then-first-eq-DONE-2-2.ensures ∙ ap (drop 1) (c.behind-then-first-eq-DONE-2.ensures ∙ sym c.behind.ensures))) (passing_found c.passing.new.self _ c.passing.ensures.passed))
 
 pub find_beside-returns-in-Found-clause-found : goal.find_beside-returns-in-Found-clause-found
-find_beside-returns-in-Found-clause-found t c = beside_left _ _ _ _ _ _ _ _ (apart t ((goal.at.find_beside-returns-in-Found-clause-found t c).Joined-else-first-eq-DONE)) c.requires.1 c.args.arrays.now.due c.find-l.ensures.found (find_low c.find-l.new.arrays _ c.in-Found.is)
+find_beside-returns-in-Found-clause-found t c =
+    let e = c.find-l.new.arrays in
+    let p = ap (found_in e) c.in-Found.is in
+    found_as (sym p) (beside_left _ _ _ _ _ _ _ (apart t ((goal.at.find_beside-returns-in-Found-clause-found t c).Joined-else-first-eq-DONE)) _ _ (found_as p c.find-l.ensures.found))
 
 pub find_beside-returns-in-Full-clause-found : goal.find_beside-returns-in-Full-clause-found
-find_beside-returns-in-Full-clause-found t c = beside_lost _ _ _ _ _ _ _ _ (apart t ((goal.at.find_beside-returns-in-Full-clause-found t c).Joined-else-first-eq-DONE)) c.requires.1 c.args.arrays.now.due c.find-l.ensures.found (find_full c.find-l.new.arrays _ c.in-Full.is)
+find_beside-returns-in-Full-clause-found t c = beside_lost _ _ _ _ _ _ _ (apart t ((goal.at.find_beside-returns-in-Full-clause-found t c).Joined-else-first-eq-DONE)) (found_as (ap (found_in c.find-l.new.arrays) c.in-Full.is) c.find-l.ensures.found)
 
 pub find_beside-find-requires : goal.find_beside-find-requires
 find_beside-find-requires t c = (omega (arith, last_len _ _ _ c.last.ensures), (omega arith, omega (arith, last_len _ _ _ c.last.ensures)))
 
 pub find_beside-returns-in-Passed-clause-found : goal.find_beside-returns-in-Passed-clause-found
-find_beside-returns-in-Passed-clause-found t c =
-    let e = c.find-l.new.arrays in
-    let p = ap (found_in e) c.in-Passed.is in
-    beside_right _ _ _ _ _ _ _ _ (apart t ((goal.at.find_beside-returns-in-Passed-clause-found t c).Joined-else-first-eq-DONE)) c.requires.1 c.args.arrays.now.due c.find-l.ensures.found (packed_high e _ p) (packed_low e _ p) _ _ _ _ (last_is e _ p _ c.last.ensures) c.find-l.ensures.kept.acts_length (find_on e _ p (at_store c.find-l.ensures.kept.store c.find.ensures.found))
+find_beside-returns-in-Passed-clause-found t c = beside_right _ _ _ _ _ _ _ (apart t ((goal.at.find_beside-returns-in-Passed-clause-found t c).Joined-else-first-eq-DONE)) _ _ (found_as (ap (found_in c.find-l.new.arrays) c.in-Passed.is) c.find-l.ensures.found) _ _ _ _ c.last.ensures c.find-l.ensures.kept.acts_length (at_store c.find-l.ensures.kept.store c.find.ensures.found)
 
 pub find_then-returns-then-first-eq-DONE-clause-found : goal.find_then-returns-then-first-eq-DONE-clause-found
 find_then-returns-then-first-eq-DONE-clause-found t c = then_resumed _ _ _ c.behind-q.ensures _ _ _ _ _ _ _ _ _ (sym c.first.ensures.0 ∙ c.if-first-eq-DONE.true) c.first-then-first-eq-DONE.ensures.0 refl (ap length c.behind.ensures) c.find_part.ensures.found

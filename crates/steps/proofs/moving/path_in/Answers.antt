@@ -1,6 +1,6 @@
--- One walk, with room for a fixed count of numbers (`walked_in`).
-use Rattle.steps.proofs.TakeCases.{walked_in}
+-- One walk, with room for a fixed count of numbers (`derived_in`).
+use Rattle.steps.proofs.TakeCases.{derived_in}
 use Rattle.steps.proofs.moving.path_in.Goals as goal
 
 pub returns : goal.returns
-returns g c = record { sought = walked_in c.derive-r.ensures.kept c.derive-r.ensures.derived; placed = c.derive-r.ensures.placed }
+returns g c = record { kept = c.derive-r.ensures.kept; derived = derived_in c.derive-r.ensures.derived }
