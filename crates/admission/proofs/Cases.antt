@@ -16,7 +16,7 @@ use Rattle.eb3.specs.Judging.{judged}
 use Rattle.measures.specs.Weighing.{measure, reported}
 use Rattle.measures.specs.declared.Weight.{Weight}
 use Rattle.measures.specs.declared.Limits.{Limits}
-use Rattle.scan.specs.Checking.{last_of}
+use Rattle.words.specs.Checking.{last_of}
 use Rattle.eb3.proofs.Laws.Editions.{edition_1_defined}
 use Rattle.rules.specs.declared.Rules.{Rules}
 use Rattle.rules.specs.Sections.{rules_weighed, found_rules}

@@ -17,9 +17,9 @@ use blocks::{CONTENT_WORDS, WORDS_OF_8, WORDS_OF_64, join, open};
 use measures::{Limits, Weight};
 use refusals::Refusal;
 use rules::read;
-use scan::last;
 use tables::layout::TABLES;
 use tables::zeros;
+use words::last;
 
 // Refusal 7, then 8; else the sizes.
 fn judge(cells: u32, w: Weight) -> Result<Limits, Refusal>

@@ -10,7 +10,7 @@ ghost use Rattle.blocks.specs.declared.opened.Blocks.{Blocks};
 
 use opened::Blocks;
 use refusals::Refusal;
-use scan::word_at;
+use words::word_at;
 
 pub mod opened;
 

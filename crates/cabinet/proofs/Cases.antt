@@ -19,7 +19,7 @@ use Rattle.cabinet.specs.declared.Started.{Started as CStarted}
 use Rattle.engine.specs.Counting.{counted_as}
 use Rattle.cabinet.specs.declared.Counted.{Counted as CCounted}
 use Rattle.engine.specs.declared.stepping.Step.{Step}
-use Rattle.engine.specs.Stepping.{told, moved_as, Done}
+use Rattle.engine.specs.Stepping.{step_as, moved_as, Done}
 use Rattle.cabinet.specs.declared.Moved.{Moved as CMoved}
 use Rattle.runs.specs.declared.main_process.Totals.{Totals}
 use Rattle.engine.specs.Running.{ran_as, RunDone}
@@ -140,11 +140,11 @@ module _ (rules term memory : List ℕ) (p : Result ℕ Why) (e : p ≡ counted_
 -- ── Move, Present ──
 
 same_step : (a : Answer Moved) → Numbered a → exported_step (moved_as a) ≡ moved a
-unfolding moved_as exported_step moved moved_by told
+unfolding moved_as exported_step moved moved_by step_as
 same_step (refused k) n = ap (λ j. record { refusal = j; size = 0; visible = 0; label = 0; arguments = 0; first = 0; second = 0 }) (number_refusal k (n k refl))
 same_step (answered m) n = go m.action
   where
-    go : (ρ : Action) → exported_step (Ok (told ρ m.size)) ≡ moved_by ρ m.size
+    go : (ρ : Action) → exported_step (Ok (step_as ρ m.size)) ≡ moved_by ρ m.size
     go internal = refl
     go (visible a) = refl
 

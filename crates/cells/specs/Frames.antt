@@ -4,7 +4,7 @@
 use Rattle.std.specs.Prelude.{◌≡◌, Bool, true, List, ◌↔◌, ℕ, suc, ◌+◌, ◌≤◌, ◌<◌, length}
 use Rattle.eb3.specs.Expressions.{Data, Variable, If, Now, Before, Nil, Cons, Equal}
 use Rattle.eb3.specs.Scopes.{Scope}
-use Rattle.scan.specs.Checking.{last_of}
+use Rattle.words.specs.Checking.{last_of}
 use Rattle.expressions.specs.Stores.{stored, row_place, now_place, begin_place}
 use Rattle.expressions.specs.Answering.{DataAt}
 use Rattle.cells.specs.Turns.{FunctionFilled}

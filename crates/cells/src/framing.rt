@@ -9,7 +9,7 @@ ghost use Rattle.cells.specs.Turns.{FunctionFilled};
 
 use super::copy_cells;
 use expressions::{eval_data, store, word};
-use scan::last;
+use words::last;
 
 // The codes as words of the stream.
 // Stays beside those of code_numbers: they are matched in slices of words below, and a pattern has no cast.
@@ -61,7 +61,7 @@ fn fill_each(s: &[u16], m: &mut [u16], at: usize, k: usize)
 }
 
 // The one element named by what it is compared with, if the others keep their values.
-#[tactic(auto, using(scan::specs::Laws::Checking::last_len))]
+#[tactic(auto, using(words::specs::Laws::Checking::last_len))]
 fn fill_named(s: &[u16], m: &mut [u16], f: usize, from: usize, at: usize, k: usize)
     requires expression { (8 ≤ length s.now) × (length s.now ≤ 65535) × Tells true s.now AsksOne }
     requires cells { (now_place ≤ at) × (at + k ≤ length m.old) × (from + k ≤ length m.old) × (k < 65536) }
@@ -85,7 +85,7 @@ fn fill_named(s: &[u16], m: &mut [u16], f: usize, from: usize, at: usize, k: usi
 // The cells of function f, by the expression where `left` words of the stream are left.
 // Stays with the stream and a number: the directory says by such a number where an expression begins. It asks of both what `Functions` says of them, since it
 // is public, and asks for no more.
-#[tactic(auto, using(scan::specs::Laws::Checking::last_len))]
+#[tactic(auto, using(words::specs::Laws::Checking::last_len))]
 pub fn fill_function(t: &[u16], m: &mut [u16], f: usize, left: usize)
     requires { (length t.now ≤ 65535) × (f < 16) }
     ensures { (length m.new ≡ length m.old) × FunctionFilled t.now f left m.old m.new }

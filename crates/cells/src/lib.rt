@@ -12,9 +12,9 @@ ghost use Rattle.cells.specs.Preparing.{Prepared, ready_word, Loaded, Saved, Loa
 
 use expressions::store;
 use framing::fill_function;
-use scan::word_at;
 use tables::layout::AT_LABELS;
 use tables::{entry, functions, labels};
+use words::word_at;
 use writing::put_words;
 
 mod framing;

@@ -1,5 +1,5 @@
 // The codes of a rule stream, of guards and of given terms, by their names (document 01, "Codes stand before their operands").
-// Stays in numbers, and usize: words that are read are matched as `scan::first` gives them, which is public and keeps its type; a word that is written is
+// Stays in numbers, and usize: words that are read are matched as `words::first` gives them, which is public and keeps its type; a word that is written is
 // cast in place. No enum: std has no derived TryFrom, so that 25 arms by hand would make one of a word, and then a second match would read it.
 #![tactic(auto)]
 

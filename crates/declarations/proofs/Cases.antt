@@ -9,10 +9,10 @@ use mathlib.Core.List.{List, [], ◌∷◌}
 use lib.ListN.{length, get_or, set, take}
 use lib.Seq.{paste, paste-suc, length-paste, length-take-le}
 use Rattle.eb3.specs.Reading.{Read, refused, taken, Reader, giving, then, both, number_of, repeat, counted}
-use Rattle.scan.specs.Checking.{checked, last_of, Checked}
-use Rattle.scan.specs.Ends.{Ends, Tail}
-use Rattle.scan.specs.Laws.Checking.{number_ends, last_all, last_length, last_tail, tail_at, tail_on, tail_short}
-use Rattle.scan.specs.Laws.Rows.{counted_ends, passed, repeat_out, repeat_in}
+use Rattle.words.specs.Checking.{checked, last_of, Checked}
+use Rattle.words.specs.Ends.{Ends, Tail}
+use Rattle.words.specs.Laws.Checking.{number_ends, last_all, last_length, last_tail, tail_at, tail_on, tail_short}
+use Rattle.words.specs.Laws.Rows.{counted_ends, passed, repeat_out, repeat_in}
 use Rattle.tables.specs.Layout.{label_words}
 use Rattle.tables.specs.Tables.{row}
 use Rattle.declarations.specs.Entering.{put_row, put_rows, Entered}

@@ -15,10 +15,10 @@ use Rattle.eb3.specs.RuleReading.{read_rule_term, read_process}
 use Rattle.eb3.proofs.Laws.Reading.{Sound, Sounds, number_sound, counted_sound}
 use Rattle.eb3.proofs.Laws.RuleTermReading.{rule_term_sound}
 use Rattle.eb3.proofs.Laws.ExpressionReading.{data_sound}
-use Rattle.scan.specs.Checking.{checked, last_of, Checked}
-use Rattle.scan.specs.Ends.{Tail, Fine, Ends}
-use Rattle.scan.specs.Laws.Checking.{tail_at, tail_on, tail_short, number_ends}
-use Rattle.scan.specs.Laws.Rows.{counted_ends}
+use Rattle.words.specs.Checking.{checked, last_of, Checked}
+use Rattle.words.specs.Ends.{Tail, Fine, Ends}
+use Rattle.words.specs.Laws.Checking.{tail_at, tail_on, tail_short, number_ends}
+use Rattle.words.specs.Laws.Rows.{counted_ends}
 use Rattle.tables.specs.Layout.{processes_place, process_place, body_in, body_at}
 use Rattle.declarations.specs.Directory.{Stands, Standing, FunctionRow, ProcessRows, row_width, first_cell_in, at_start_in}
 

@@ -12,9 +12,9 @@ use Rattle.eb3.specs.RuleSets.{Function, domain_size}
 use Rattle.eb3.specs.Reading.{Read, refused, taken, Reader, giving, then, both, number_of, repeat, series}
 use Rattle.eb3.specs.ExpressionReading.{read_data}
 use Rattle.eb3.specs.RuleReading.{function_from, read_function}
-use Rattle.scan.specs.Checking.{checked, last_of, Checked}
-use Rattle.scan.specs.Ends.{Fine}
-use Rattle.scan.specs.Laws.Checking.{tail_at, both_in, both_out, number_word}
+use Rattle.words.specs.Checking.{checked, last_of, Checked}
+use Rattle.words.specs.Ends.{Fine}
+use Rattle.words.specs.Laws.Checking.{tail_at, both_in, both_out, number_word}
 use Rattle.expression_check.specs.Laws.Reading.{data_ends}
 use Rattle.tables.specs.Layout.{domain_count, label_count}
 use Rattle.tables.specs.Tables.{edition_in, declared}
@@ -25,8 +25,8 @@ use Rattle.declarations.specs.Laws.Functions.{function_ends}
 use Rattle.declarations.specs.Noting.{start_of, label_expressions, function_of}
 use Rattle.std.specs.Prelude.{Ok, Err, Result}
 use Rattle.refusals.specs.declared.Refusal.{Refusal}
-use Rattle.scan.specs.Readings.{RefusedAs}
-use Rattle.scan.specs.Laws.Reading.{checked_refused}
+use Rattle.words.specs.Readings.{RefusedAs}
+use Rattle.words.specs.Laws.Reading.{checked_refused}
 use Rattle.refusals.specs.Numbers.{refusal}
 
 -- ── both kinds ──

@@ -12,12 +12,12 @@ use Rattle.eb3.specs.Expressions.{Data}
 use Rattle.eb3.specs.Spelling.{data_words}
 use Rattle.eb3.specs.Reading.{Read, refused, taken, Reader, giving, then, both, for_each}
 use Rattle.eb3.specs.ExpressionReading.{read_data}
-use Rattle.scan.specs.Checking.{checked, last_of, Checked}
-use Rattle.scan.specs.Ends.{Tail}
-use Rattle.scan.specs.Laws.Checking.{tail_on, last_all, tail_at, tail_short, got, last_tail, last_length}
-use Rattle.scan.specs.Readings.{RefusedAs}
-use Rattle.scan.specs.Laws.Reading.{checked_refused, not_taken, same_refused, refused_checked}
-use Rattle.scan.specs.Laws.Rows.{passed}
+use Rattle.words.specs.Checking.{checked, last_of, Checked}
+use Rattle.words.specs.Ends.{Tail}
+use Rattle.words.specs.Laws.Checking.{tail_on, last_all, tail_at, tail_short, got, last_tail, last_length}
+use Rattle.words.specs.Readings.{RefusedAs}
+use Rattle.words.specs.Laws.Reading.{checked_refused, not_taken, same_refused, refused_checked}
+use Rattle.words.specs.Laws.Rows.{passed}
 use Rattle.expression_check.specs.Laws.Reading.{data_ends}
 use Rattle.tables.specs.Layout.{label_place}
 use Rattle.tables.specs.Tables.{edition_in, from, row}

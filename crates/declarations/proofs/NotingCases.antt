@@ -14,10 +14,10 @@ use Rattle.eb3.specs.RuleSets.{Function, domain_size}
 use Rattle.eb3.specs.Reading.{Read, refused, taken, number_of, series}
 use Rattle.eb3.specs.ExpressionReading.{read_data}
 use Rattle.eb3.specs.RuleReading.{function_from, read_function}
-use Rattle.scan.specs.Checking.{checked, last_of, Checked}
-use Rattle.scan.specs.Ends.{Tail, Fine}
-use Rattle.scan.specs.Laws.Checking.{tail_at, tail_on, tail_short, last_tail, last_all, last_last, last_length}
-use Rattle.scan.specs.Laws.Reading.{checked_refused, not_taken}
+use Rattle.words.specs.Checking.{checked, last_of, Checked}
+use Rattle.words.specs.Ends.{Tail, Fine}
+use Rattle.words.specs.Laws.Checking.{tail_at, tail_on, tail_short, last_tail, last_all, last_last, last_length}
+use Rattle.words.specs.Laws.Reading.{checked_refused, not_taken}
 use Rattle.expression_check.specs.Laws.Reading.{data_ends}
 use Rattle.tables.specs.Layout.{domain_count, label_count}
 use Rattle.tables.specs.Tables.{edition_in, declared}

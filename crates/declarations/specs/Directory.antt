@@ -9,7 +9,7 @@ use Rattle.eb3.specs.Expressions.{Data}
 use Rattle.eb3.specs.RuleSets.{Function, Process, RuleSet}
 use Rattle.eb3.specs.Spelling.{data_words}
 use Rattle.eb3.specs.RuleSpelling.{rule_words}
-use Rattle.scan.specs.Checking.{last_of}
+use Rattle.words.specs.Checking.{last_of}
 use Rattle.tables.specs.Layout.{body_at}
 use Rattle.declarations.specs.Declaring.{Declares}
 use Rattle.declarations.specs.Entering.{cells_of}

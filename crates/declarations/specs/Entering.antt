@@ -6,7 +6,7 @@ use Rattle.eb3.specs.Refusal
 use Rattle.eb3.specs.Cells.{cell_count}
 use Rattle.eb3.specs.RuleSets.{Function}
 use Rattle.eb3.specs.Reading.{Read, refused, taken, number_of, repeat, counted}
-use Rattle.scan.specs.Checking.{checked, Checked}
+use Rattle.words.specs.Checking.{checked, Checked}
 use Rattle.tables.specs.Layout.{label_place, label_words}
 use Rattle.tables.specs.Tables.{from, row}
 use Rattle.declarations.specs.declared.Counted.{Counted}

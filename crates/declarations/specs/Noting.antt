@@ -6,8 +6,8 @@ use Rattle.eb3.specs.RuleSets.{Function}
 use Rattle.eb3.specs.Reading.{Read, taken, Reader, both, for_each, series}
 use Rattle.eb3.specs.ExpressionReading.{read_data}
 use Rattle.eb3.specs.RuleReading.{at_start_scope, at_label_scope, read_function}
-use Rattle.scan.specs.Checking.{checked, Checked}
-use Rattle.scan.specs.Ends.{Tail}
+use Rattle.words.specs.Checking.{checked, Checked}
+use Rattle.words.specs.Ends.{Tail}
 use Rattle.tables.specs.Layout.{domain_count, label_count}
 use Rattle.tables.specs.Tables.{edition_in, declared}
 use Rattle.declarations.specs.declared.Counted.{Counted}

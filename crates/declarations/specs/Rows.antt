@@ -4,7 +4,7 @@
 use Rattle.std.specs.Prelude.{ℕ, ◌+◌, ◌≤◌, ◌≡◌, List, [], ◌∷◌, ◌⊎◌, length, get_or}
 use Rattle.std.proofs.Math.Seq.{paste}
 use Rattle.eb3.specs.Reading.{Read, refused, taken, Reader}
-use Rattle.scan.specs.Checking.{last_of}
+use Rattle.words.specs.Checking.{last_of}
 use Rattle.tables.specs.Tables.{row}
 use Rattle.declarations.specs.Entering.{put_row}
 

@@ -8,8 +8,8 @@ ghost use Rattle.std.proofs.Math.Seq.{paste};
 ghost use Rattle.std.specs.Fn.{FnReturnsAt};
 ghost use Rattle.eb3.specs.Reading.{Reader, number_of, counted};
 ghost use Rattle.eb3.specs.RuleReading.{read_domains};
-ghost use Rattle.scan.specs.Checking.{Checked, checked};
-ghost use Rattle.scan.specs.Ends.{Ends};
+ghost use Rattle.words.specs.Checking.{Checked, checked};
+ghost use Rattle.words.specs.Ends.{Ends};
 ghost use Rattle.tables.specs.Layout.{label_count, label_words};
 ghost use Rattle.declarations.specs.Entering.{Entered, CellsBound};
 ghost use Rattle.declarations.specs.Directory.{row_width};
@@ -17,9 +17,9 @@ ghost use Rattle.declarations.specs.Noting.{LabelsNoted, ExpressionsNoted, Funct
 
 use expression_check::{Scope, check_data};
 use refusals::Refusal;
-use scan::{count, first, last, number};
 use tables::layout::{AT_LABELS, AT_START, FIRST_CELL, MOST_LABELS, label_place_from};
 use tables::{domains, label_row, labels, size_of};
+use words::{count, first, last, number};
 
 // The most functions of a rule set.
 const MOST_FUNCTIONS: usize = 16;
@@ -37,7 +37,7 @@ pub struct Counted {
 
 // Words, from the place at on.
 // Stays with a place, and not with a part of the table lent: what its callers ensure is of the whole table, which they would first have to join of its parts.
-#[tactic(auto, using(crate::proofs::Cases::copy_more, scan::specs::Laws::Checking::copy_len))]
+#[tactic(auto, using(crate::proofs::Cases::copy_more, words::specs::Laws::Checking::copy_len))]
 pub fn copy(tb: &mut [u32], at: usize, s: &[u16])
     requires { at + length s.now ≤ length tb.old }
     ensures { tb.new ≡ paste tb.old at s.now (length s.now) }

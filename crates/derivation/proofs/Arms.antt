@@ -11,8 +11,8 @@ use Rattle.eb3.specs.Terms.{Term, Perform, Sequence, VisibleAction, visible}
 use Rattle.eb3.specs.Sizes.{size}
 use Rattle.eb3.proofs.Laws.Sizes.{size_pos}
 use Rattle.eb3.specs.Spelling.{words}
-use Rattle.scan.specs.Checking.{last_of}
-use Rattle.scan.specs.Laws.Checking.{last_len}
+use Rattle.words.specs.Checking.{last_of}
+use Rattle.words.specs.Laws.Checking.{last_len}
 use Rattle.expressions.specs.Answering.{Judged}
 use Rattle.actions.specs.Codes.{action_code, ActionAt}
 use Rattle.actions.specs.Sets.{in_set}

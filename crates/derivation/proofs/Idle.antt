@@ -12,8 +12,8 @@ use Rattle.eb3.specs.Terms.{Term}
 use Rattle.eb3.specs.Sizes.{size, breadth}
 use Rattle.eb3.proofs.Laws.Sizes.{size_pos}
 use Rattle.eb3.specs.Spelling.{words}
-use Rattle.scan.specs.Checking.{last_of}
-use Rattle.scan.specs.Laws.Checking.{last_len}
+use Rattle.words.specs.Checking.{last_of}
+use Rattle.words.specs.Laws.Checking.{last_len}
 use Rattle.listing.specs.Listing.{TermAt, holding}
 use Rattle.listing.specs.Positions.{TwoAt}
 use Rattle.listing.specs.Laws.Positions.{second_at}

@@ -10,8 +10,8 @@ use Rattle.std.proofs.lemmas.Bool.{false≢true}
 use Rattle.eb3.specs.Scopes.{Scope}
 use Rattle.eb3.specs.Terms.{Term}
 use Rattle.eb3.specs.Spelling.{words}
-use Rattle.scan.specs.Checking.{last_of}
-use Rattle.scan.specs.Laws.Checking.{part, back_rest, last_len}
+use Rattle.words.specs.Checking.{last_of}
+use Rattle.words.specs.Laws.Checking.{part, back_rest, last_len}
 use Rattle.listing.specs.Listing.{TermAt, holding, codes, Right, Listed}
 use Rattle.listing.specs.declared.lister.Moves.{Moves}
 use Rattle.listing.specs.Positions.{TwoAt}

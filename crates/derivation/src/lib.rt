@@ -14,8 +14,8 @@ use expressions::{eval_cond, truth_of, words_left};
 use listing::{behind_mask, both_done, idle, list, skip};
 use located::Located;
 use paths::{BOTH_DONE, BOTH_MOVE, CHOOSE_LEFT, END, LEFT_MOVES, RIGHT_MOVES, ROUND};
-use scan::{behind, first, last};
 use searching::locate;
+use words::{behind, first, last};
 
 mod answering;
 mod arrays;

@@ -43,7 +43,7 @@ use Rattle.engine.specs.Laws.Describing.{described_by_ruled}
 use Rattle.given.specs.declared.asking.Wanted.{Wanted}
 use Rattle.given.specs.declared.asking.Wanted.TheVariants.{Action as Action_of}
 use Rattle.given.specs.Asking.{Chooses}
-use Rattle.engine.specs.Stepping.{move_at, told, moved_as, Done, SteppedFrom, SteppedAt}
+use Rattle.engine.specs.Stepping.{move_at, step_as, moved_as, Done, SteppedFrom, SteppedAt}
 use Rattle.std.specs.Prelude.{Ok, Err, Result, Some, None, Option}
 use Rattle.refusals.specs.declared.Refusal.{Refusal}
 use Rattle.refusals.specs.declared.Refusal.TheVariants.{NotOffered}
@@ -52,8 +52,8 @@ use Rattle.refusals.specs.Numbers.{refusal}
 -- ── the answer ──
 
 pub told_internal : (code y n : ℕ) → code ≡ 0 → y ≡ n → (ρ : Action) → Small ρ → code ≡ action_code ρ
-    → ◌≡◌ {A = Step} (record { size = y; action = None }) (told ρ n)
-unfolding told
+    → ◌≡◌ {A = Step} (record { size = y; action = None }) (step_as ρ n)
+unfolding step_as
 told_internal code y n z e internal h f = λ i. record { size = e i; action = None }
 told_internal code y n z e (visible a) h f = absurd (visible_positive a (sym f ∙ z))
 
@@ -64,8 +64,8 @@ pub told_visible : (code y n l k x₀ x₁ : ℕ) → (code ≡ 0 → ⊥) → y
     → ((a : VisibleAction) → Small (visible a) → code ≡ action_code (visible a) → x₀ ≡ get_or a.arguments 0 0)
     → ((a : VisibleAction) → Small (visible a) → code ≡ action_code (visible a) → x₁ ≡ get_or a.arguments 1 0)
     → (ρ : Action) → Small ρ → code ≡ action_code ρ
-    → ◌≡◌ {A = Step} (record { size = y; action = Some (record { label = l; arguments = k; first = x₀; second = x₁ }) }) (told ρ n)
-unfolding told action_code
+    → ◌≡◌ {A = Step} (record { size = y; action = Some (record { label = l; arguments = k; first = x₀; second = x₁ }) }) (step_as ρ n)
+unfolding step_as action_code
 told_visible code y n l k x₀ x₁ z e el ek e₀ e₁ internal h f = absurd (z f)
 told_visible code y n l k x₀ x₁ z e el ek e₀ e₁ (visible a) h f =
     λ i. record { size = e i; action = Some (record { label = el a h f i; arguments = ek a h f i; first = e₀ a h f i; second = e₁ a h f i }) }
@@ -145,7 +145,7 @@ module _ (R : RuleSet) (E : Term) (cells : List Value) (t T D s M : List ℕ) (d
 
   -- the successor written, and the renewed cells saved
   made_so : (M' C' : List ℕ) (w n c a z : ℕ) (y : Step) → Ruled R t T D w n c → c ≤ cell_room C → r ≡ made a z → length M' ≡ length M → StoreRenewed t D M M' w n c a → Saved M' C C' c
-      → ((ρ : Action) → Small ρ → a ≡ action_code ρ → y ≡ told ρ (z % 4294967296))
+      → ((ρ : Action) → Small ρ → a ≡ action_code ρ → y ≡ step_as ρ (z % 4294967296))
       → (o : Maybe Move) → get_elem? (moves (holding M) E) k ≡ o → Took R.edition.width o B B' r → Done (writing B C (or_refused Refusal.not_offered o) (moved_from R cells B C)) (Ok y) B' C'
   unfolding taken_as built_over moved_as
   made_so M' C' w n c a z y ruled fits er l renewed saved tells none e took = let f : made a z ≡ taken_as R.edition.width none = sym er ∙ took.answer in absurd (let q : ◌≡◌ {A = ℕ} 0 1 = cc in omega arith)
@@ -159,8 +159,8 @@ module _ (R : RuleSet) (E : Term) (cells : List Value) (t T D s M : List ℕ) (d
       let st : Stored R after M' = renewed R T ruled x.action good ea cells stored in
       let ec : c ≡ cells_needed R = ruled.cells_are in
       let room : now_place + c ≤ length M' = omega (arith, l, ec, stored.room) in
-      let ey : y ≡ told x.action (size R.edition.width x.successor) =
-      tells x.action (action_small R d.form x.action good) ea ∙ ap (told x.action) (ap (λ u. u % 4294967296) ez ∙ size_low R E cells t T D s M d stored k x e) in
+      let ey : y ≡ step_as x.action (size R.edition.width x.successor) =
+      tells x.action (action_small R d.form x.action good) ea ∙ ap (step_as x.action) (ap (λ u. u % 4294967296) ez ∙ size_low R E cells t T D s M d stored k x e) in
       record {
         answer = ap Ok ey;
         term_after = took.buffer;
@@ -175,7 +175,7 @@ step_refused rules s M k B B' C r taken e R E cells by stored h g =
 
 pub step_made : (rules : Admitted) (s M M' : List ℕ) (k : ℕ) (B B' C C' : List ℕ) (r : Option Taken) (a z : ℕ) (y : Step) → MoveTaken s M k 8192 B B' r → r ≡ made a z
     → length M' ≡ length M → StoreRenewed rules.functions.words.now rules.functions.directory.now M M' rules.functions.width rules.functions.count rules.functions.cells a → Saved M' C C' rules.functions.cells
-    → ((ρ : Action) → Small ρ → a ≡ action_code ρ → y ≡ told ρ (z % 4294967296)) → SteppedFrom rules s M k B C (Ok y) B' C'
+    → ((ρ : Action) → Small ρ → a ≡ action_code ρ → y ≡ step_as ρ (z % 4294967296)) → SteppedFrom rules s M k B C (Ok y) B' C'
 step_made rules s M M' k B B' C C' r a z y taken e l renewed saved tells R E cells by stored h g =
     let d = by.described in
     by_store R E cells _ _ _ s M d stored k B B' C r (Ok y) C'

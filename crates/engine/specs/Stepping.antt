@@ -33,13 +33,13 @@ use Rattle.refusals.specs.Numbers.{refusal}
 abbrev pub shown : VisibleAction → Visible
 shown a = record { label = a.label; arguments = length a.arguments; first = get_or a.arguments 0 0; second = get_or a.arguments 1 0 }
 
-unfoldable pub told : Action → ℕ → Step
-told internal n = record { size = n; action = None }
-told (visible a) n = record { size = n; action = Some (shown a) }
+unfoldable pub step_as : Action → ℕ → Step
+step_as internal n = record { size = n; action = None }
+step_as (visible a) n = record { size = n; action = Some (shown a) }
 
 unfoldable pub moved_as : Answer Answer_moved → Result Step Refusal
 moved_as (refused k) = Err (refusal k)
-moved_as (answered m) = Ok (told m.action m.size)
+moved_as (answered m) = Ok (step_as m.action m.size)
 
 -- The two lent buffers of a step, afterwards: they are the same buffers, whatever they hold.
 pub record SameBuffers (b e : Next) : Type 0 where

@@ -14,8 +14,8 @@ use given::giving::given_in;
 use measures::Limits;
 use refusals::Refusal;
 use runs::admitted::Admitted;
-use scan::front;
 use tables::layout::TABLES;
+use words::front;
 
 // ── from the rule set alone ──
 

@@ -11,7 +11,7 @@ ghost use Rattle.actions.specs.Codes.{action_code, Small};
 ghost use Rattle.listing.specs.Listing.{holding};
 ghost use Rattle.steps.specs.Counting.{Whole};
 ghost use Rattle.given.specs.Asking.{Chooses};
-ghost use Rattle.engine.specs.Stepping.{told, SameBuffers, Done, move_at, stepped, SteppedFrom, SteppedAt, Steps};
+ghost use Rattle.engine.specs.Stepping.{step_as, SameBuffers, Done, move_at, stepped, SteppedFrom, SteppedAt, Steps};
 
 use super::envelope::with_given;
 use super::room;
@@ -63,7 +63,7 @@ pub struct Next<'a> {
 
 // The answer for the action with this number and a successor of this size.
 fn tell(code: u32, size: usize) -> Step
-    ensures { (ρ : Action) → Small ρ → code ≡ action_code ρ → result ≡ told ρ (size % 4294967296) }
+    ensures { (ρ : Action) → Small ρ → code ≡ action_code ρ → result ≡ step_as ρ (size % 4294967296) }
 {
     let size = (size % 4294967296) as u32;
     if code == 0 {

@@ -10,8 +10,8 @@ ghost use Rattle.events.specs.Events.{event_as};
 
 use actions::code_at;
 use code_numbers::{ACTION, INTERNAL};
-use scan::{behind, first};
 use term_check::given_term;
+use words::{behind, first};
 
 // The number of the event's action, or none where the words are no event of this rule set. A running term that begins with
 // the code of a leaf is that leaf.

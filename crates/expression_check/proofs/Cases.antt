@@ -21,9 +21,9 @@ use Rattle.eb3.specs.Expressions.{Data, Undefined, Cond, Args, Constant, Variabl
 use Rattle.eb3.specs.Scopes.{Scope}
 use Rattle.eb3.specs.Reading.{Read, refused, taken, Reader, pick, giving, then, both, number_of, by_number, number_in, repeat}
 use Rattle.eb3.specs.ExpressionReading.{DataKind, CondKind, data_kind, cond_kind, constant_of, args_of, data_by, cond_by, readers, read_data, read_cond}
-use Rattle.scan.specs.Checking.{Checked, checked}
-use Rattle.scan.specs.Laws.Checking.{then_checked, part}
-use Rattle.scan.specs.Laws.Reading.{handed_err, checked_refused}
+use Rattle.words.specs.Checking.{Checked, checked}
+use Rattle.words.specs.Laws.Checking.{then_checked, part}
+use Rattle.words.specs.Laws.Reading.{handed_err, checked_refused}
 use Rattle.expression_check.specs.declared.Front.{Front}
 use Rattle.expression_check.specs.declared.Front.TheVariants.{On, Other}
 use Rattle.expression_check.specs.Fronts.{Behind, Operand, Facing, DataFront, CondFront}

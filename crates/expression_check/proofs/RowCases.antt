@@ -9,10 +9,10 @@ use lib.Seq.{drop-drop}
 use Rattle.eb3.specs.Scopes.{Scope}
 use Rattle.eb3.specs.Reading.{Reader, repeat}
 use Rattle.eb3.specs.ExpressionReading.{read_data, read_cond}
-use Rattle.scan.specs.Checking.{checked, last_of, Checked}
-use Rattle.scan.specs.Ends.{Ends}
-use Rattle.scan.specs.Laws.Checking.{part, tail_short, both_in, both_out}
-use Rattle.scan.specs.Laws.Rows.{passed, repeat_ends}
+use Rattle.words.specs.Checking.{checked, last_of, Checked}
+use Rattle.words.specs.Ends.{Ends}
+use Rattle.words.specs.Laws.Checking.{part, tail_short, both_in, both_out}
+use Rattle.words.specs.Laws.Rows.{passed, repeat_ends}
 use Rattle.expression_check.specs.declared.Front.{Front}
 use Rattle.expression_check.specs.declared.Front.TheVariants.{On, Other}
 use Rattle.expression_check.specs.Fronts.{Facing}

@@ -6,11 +6,11 @@ use Rattle.eb3.specs.Scopes.{Scope}
 use Rattle.eb3.specs.Reading.{taken, Reader, both, number_of, repeat}
 use Rattle.eb3.specs.ExpressionReading.{read_data, read_cond}
 use Rattle.refusals.specs.Numbers.{number}
-use Rattle.scan.specs.Checking.{checked}
+use Rattle.words.specs.Checking.{checked}
 use Rattle.expression_check.specs.declared.Front.{Front}
 use Rattle.expression_check.specs.declared.Front.TheVariants.{On, Other}
 use Rattle.refusals.specs.declared.Refusal.{Refusal}
-use Rattle.scan.specs.Readings.{RefusedAs}
+use Rattle.words.specs.Readings.{RefusedAs}
 
 -- A place after another, with few enough expressions to come that a count of them fits.
 abbrev pub Behind : List ℕ → ℕ → ℕ → ℕ → Type 0

@@ -7,7 +7,7 @@
 ghost use Rattle.std.specs.Prelude.{◌≡◌, ◌+◌, ◌<◌, ◌≤◌, length};
 ghost use Rattle.eb3.specs.Reading.{repeat};
 ghost use Rattle.eb3.specs.ExpressionReading.{read_data, read_cond};
-ghost use Rattle.scan.specs.Checking.{checked};
+ghost use Rattle.words.specs.Checking.{checked};
 ghost use Rattle.expression_check.specs.Scoping.{scope};
 ghost use Rattle.expression_check.specs.Fronts.{Operand, DataFront, CondFront};
 
@@ -16,7 +16,7 @@ use code_numbers::{
 };
 use codes::{Due, code_due};
 use refusals::Refusal;
-use scan::number;
+use words::number;
 
 // How many variables there are, and how many functions now and before may name.
 // Where before may name none, its code itself is refused.

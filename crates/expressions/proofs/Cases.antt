@@ -10,7 +10,7 @@ use lib.ListN.{drop, get_or}
 use Rattle.eb3.specs.Values.{Value, encode, decode}
 use Rattle.eb3.specs.Expressions.{evaluate_data, evaluate_cond}
 use Rattle.eb3.specs.Spelling.{data_words, cond_words}
-use Rattle.scan.specs.Checking.{last_of}
+use Rattle.words.specs.Checking.{last_of}
 use Rattle.expressions.specs.declared.valued.Valued.{Valued}
 use Rattle.expressions.specs.Stores.{largest_number, reading_in, environment_in}
 use Rattle.expressions.specs.Answering.{value_word, truth, answer, DataAt, CondAt, Evaluated, Judged}

@@ -13,7 +13,7 @@ ghost use Rattle.expressions.specs.Operands.{operated, connected, Fetched, Paire
 use code_numbers::{
     AND, BEFORE, CONSTANT, DIFFERENCE, EQUAL, IF, LESS, NOT, NOW, OR, SUM, VARIABLE,
 };
-use scan::{behind, first, last};
+use words::{behind, first, last};
 
 pub mod answers;
 pub mod store;

@@ -8,7 +8,7 @@ ghost use Rattle.given.specs.Asking.{asked_as, event_asked};
 
 use cells::load;
 use events::given_event;
-use scan::front;
+use words::front;
 
 /// What is asked for: the move of a number, or the first move whose action is the event in these bytes.
 #[derive(Clone, Copy)]

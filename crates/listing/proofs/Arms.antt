@@ -8,7 +8,7 @@ use Rattle.std.specs.Prelude.{Option, Some, None}
 use Rattle.eb3.specs.Scopes.{Scope}
 use Rattle.eb3.specs.Terms.{Term, VisibleAction, visible}
 use Rattle.eb3.specs.Spelling.{words}
-use Rattle.scan.specs.Checking.{last_of}
+use Rattle.words.specs.Checking.{last_of}
 use Rattle.actions.specs.Codes.{action_code, ActionAt}
 use Rattle.actions.specs.Sets.{in_set}
 use Rattle.listing.specs.Listing.{TermAt, holding, room}

@@ -12,7 +12,7 @@ use Rattle.eb3.specs.Scopes.{Scope}
 use Rattle.eb3.specs.Terms.{Term, done?}
 use Rattle.eb3.specs.Spelling.{words}
 use Rattle.eb3.specs.Sizes.{breadth}
-use Rattle.scan.specs.Checking.{last_of}
+use Rattle.words.specs.Checking.{last_of}
 use Rattle.actions.specs.Sets.{in_set, mask_set}
 use Rattle.listing.specs.Listing.{TermAt, holding}
 use Rattle.listing.specs.Positions.{TwoAt, MaskedAt}

@@ -8,7 +8,7 @@ use Rattle.std.specs.Prelude.{Option, Some, None}
 use Rattle.std.proofs.lemmas.Option.{IfSome_then}
 use Rattle.eb3.specs.Scopes.{Scope}
 use Rattle.eb3.specs.Terms.{Term}
-use Rattle.scan.specs.Checking.{last_of}
+use Rattle.words.specs.Checking.{last_of}
 use Rattle.expressions.specs.Answering.{Judged}
 use Rattle.listing.specs.Listing.{TermAt, holding}
 use Rattle.listing.specs.Laws.Operands.{truth_none, truth_some, holds, guarded_here}

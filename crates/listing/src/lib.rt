@@ -19,8 +19,8 @@ use codes::EDITION_1;
 use combining::combine;
 use expressions::{eval_cond, truth_of, words_left};
 use lister::Lister;
-use scan::{after, behind, first, last};
 use tables::MASK_WORDS;
+use words::{after, behind, first, last};
 
 mod combining;
 mod lister;
@@ -151,7 +151,7 @@ impl Lister<'_> {
 
     // The left term's moves; it is not done.
     #[cycle(listing_terms)]
-    #[tactic(auto, using(scan::specs::Laws::Checking::last_len))]
+    #[tactic(auto, using(words::specs::Laws::Checking::last_len))]
     fn list_sequence(&mut self, t: &[u16], x: u64) -> Option<usize>
         requires { (length t.now ≤ 65535) × (get_or t.now 0 0 ≡ 30 → ⊥) }
         ensures kept { Kept self.old self.new result }
@@ -163,7 +163,7 @@ impl Lister<'_> {
 
     // The moves of two terms, the second's after the first's.
     #[cycle(listing_terms)]
-    #[tactic(auto, using(scan::specs::Laws::Checking::last_len))]
+    #[tactic(auto, using(words::specs::Laws::Checking::last_len))]
     fn list_two(&mut self, t: &[u16], x: u64) -> Option<usize>
         requires { length t.now ≤ 65535 }
         ensures kept { Kept self.old self.new result }
@@ -206,7 +206,7 @@ impl Lister<'_> {
     // Both sides' moves by the mask at the front; beside a side that can never move, the other's outside the mask. That the left side is skipped before it
     // is listed costs little: of parallels within one another, beside such a side x gains one of 64 labels, and where both sides can move the breadth doubles.
     #[cycle(listing_terms)]
-    #[tactic(auto, using(scan::specs::Laws::Checking::last_len, crate::specs::Laws::Operands::mask_len))]
+    #[tactic(auto, using(words::specs::Laws::Checking::last_len, crate::specs::Laws::Operands::mask_len))]
     fn list_masked(&mut self, d: &[u16], x: u64) -> Option<usize>
         requires { length d.now ≤ 65535 }
         ensures kept { Kept self.old self.new result }
@@ -227,7 +227,7 @@ impl Lister<'_> {
 
     // Both sides' moves, combined by the mask at the front.
     #[cycle(listing_terms)]
-    #[tactic(auto, using(scan::specs::Laws::Checking::last_len, crate::specs::Laws::Operands::mask_len))]
+    #[tactic(auto, using(words::specs::Laws::Checking::last_len, crate::specs::Laws::Operands::mask_len))]
     fn list_combined(&mut self, d: &[u16], x: u64) -> Option<usize>
         requires { length d.now ≤ 65535 }
         ensures kept { Kept self.old self.new result }
@@ -246,7 +246,7 @@ impl Lister<'_> {
 
     // The term's moves where the condition holds, else none.
     #[cycle(listing_terms)]
-    #[tactic(auto, using(scan::specs::Laws::Checking::last_len))]
+    #[tactic(auto, using(words::specs::Laws::Checking::last_len))]
     fn list_guard(&mut self, t: &[u16], x: u64) -> Option<usize>
         requires { length t.now ≤ 65535 }
         ensures kept { Kept self.old self.new result }

@@ -1,5 +1,5 @@
 // The words of a path by their names (document 01, "Moves, in order"; specs/Paths.antt): the decisions at the terms that have several ways to move.
-// Stays in numbers, and usize: words that are read are matched as `scan::first` gives them, which is public and keeps its type; a word that is written is
+// Stays in numbers, and usize: words that are read are matched as `words::first` gives them, which is public and keeps its type; a word that is written is
 // cast in place. No enums: std has no derived TryFrom, so that each kind would need its arms by hand, and then a second match would read it.
 #![tactic(auto)]
 

@@ -3,7 +3,7 @@ ghost use Rattle.std.specs.Prelude.{◌≡◌, ◌+◌, ◌%◌, ◌<◌};
 ghost use Rattle.eb3.specs.Bytes.{words_in};
 ghost use Rattle.eb3.specs.Readers.{all_read, reader? as is_reader, lets_through};
 
-use scan::word_at;
+use words::word_at;
 
 fn is_reader(r: u16) -> bool
     ensures { result ≡ is_reader r }

@@ -17,9 +17,9 @@ use Rattle.eb3.proofs.Laws.Reading.{Sound}
 use Rattle.eb3.proofs.Laws.ExpressionReading.{cond_sound}
 use Rattle.eb3.proofs.Laws.Spelling.{cond_length}
 use Rattle.eb3.proofs.Laws.Measures.{guard_size_one}
-use Rattle.scan.specs.Checking.{checked, last_of, Checked}
-use Rattle.scan.specs.Readings.{Taken}
-use Rattle.scan.specs.Laws.Reading.{checked_refused, checked_taken, giving_refused_as, giving_taken, both_first_as, both_second_as, both_taken, by_number_refused, by_number_taken}
+use Rattle.words.specs.Checking.{checked, last_of, Checked}
+use Rattle.words.specs.Readings.{Taken}
+use Rattle.words.specs.Laws.Reading.{checked_refused, checked_taken, giving_refused_as, giving_taken, both_first_as, both_second_as, both_taken, by_number_refused, by_number_taken}
 use Rattle.expression_check.specs.Laws.Reading.{cond_ends}
 use Rattle.measures.specs.declared.Weight.{Weight}
 use Rattle.measures.specs.Weighing.{cap, measure}

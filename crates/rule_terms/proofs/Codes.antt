@@ -10,8 +10,8 @@ use Rattle.eb3.specs.RuleSets.{RuleTerm, rule_internal}
 use Rattle.eb3.specs.Measures.{sat, leaf, measure_term}
 use Rattle.eb3.specs.Reading.{Read, both}
 use Rattle.eb3.specs.RuleReading.{RuleKind, rule_kind, rule_by, rule_terms, read_rule_term}
-use Rattle.scan.specs.Laws.Checking.{nil_form}
-use Rattle.scan.specs.Laws.Reading.{handed_err}
+use Rattle.words.specs.Laws.Checking.{nil_form}
+use Rattle.words.specs.Laws.Reading.{handed_err}
 use Rattle.codes.specs.declared.Due.TheVariants.{RuleTerm as DueTerm}
 use Rattle.codes.specs.Sorts.{code_due}
 use Rattle.codes.specs.Laws.Sorts.{no_rule_term}

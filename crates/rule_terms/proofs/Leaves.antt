@@ -10,9 +10,9 @@ use Rattle.eb3.specs.RuleSets.{Argument, RuleTerm, rule_perform, call, label, pr
 use Rattle.eb3.specs.Measures.{sat, Measure, nothing, leaf, measure_term}
 use Rattle.eb3.specs.Reading.{Read, giving, number_of, by_number}
 use Rattle.eb3.specs.RuleReading.{arguments_of, rule_action_of, call_of}
-use Rattle.scan.specs.Checking.{checked, last_of, Checked}
-use Rattle.scan.specs.Readings.{Taken}
-use Rattle.scan.specs.Laws.Reading.{checked_refused, checked_taken, giving_refused_as, giving_taken, by_number_refused, by_number_taken, number_below, same_refused}
+use Rattle.words.specs.Checking.{checked, last_of, Checked}
+use Rattle.words.specs.Readings.{Taken}
+use Rattle.words.specs.Laws.Reading.{checked_refused, checked_taken, giving_refused_as, giving_taken, by_number_refused, by_number_taken, number_below, same_refused}
 use Rattle.measures.specs.declared.Weight.{Weight}
 use Rattle.measures.specs.Weighing.{cap, measure}
 use Rattle.tables.specs.Layout.{label_place, process_place, label_count, process_count, size_at, reach_at, breadth_at}

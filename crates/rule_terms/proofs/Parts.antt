@@ -10,11 +10,11 @@ use Rattle.eb3.specs.Measures.{sat, Measure, measure_term}
 use Rattle.eb3.specs.Reading.{Read, refused, taken, Reader, giving, then, both}
 use Rattle.eb3.specs.TermReading.{mask_of}
 use Rattle.eb3.specs.RuleReading.{rule_mask_of}
-use Rattle.scan.specs.Checking.{checked, last_of, Checked}
-use Rattle.scan.specs.Ends.{Ends}
-use Rattle.scan.specs.Laws.Checking.{tail_here}
-use Rattle.scan.specs.Readings.{Taken, RefusedAs}
-use Rattle.scan.specs.Laws.Reading.{checked_refused, checked_taken, giving_refused_as, both_first_as, both_second_as, both_taken, same_refused}
+use Rattle.words.specs.Checking.{checked, last_of, Checked}
+use Rattle.words.specs.Ends.{Ends}
+use Rattle.words.specs.Laws.Checking.{tail_here}
+use Rattle.words.specs.Readings.{Taken, RefusedAs}
+use Rattle.words.specs.Laws.Reading.{checked_refused, checked_taken, giving_refused_as, both_first_as, both_second_as, both_taken, same_refused}
 use Rattle.measures.specs.declared.Weight.{Weight}
 use Rattle.measures.specs.Weighing.{cap, measure, weight, joint_of}
 use Rattle.tables.specs.Layout.{label_count}

@@ -10,10 +10,10 @@ use Rattle.eb3.specs.RuleReading.{RuleKind, rule_kind, read_rule_term}
 use Rattle.measures.specs.declared.Weight.{Weight}
 use Rattle.measures.specs.Weighing.{cap, measure, stars_of}
 use Rattle.tables.specs.Tables.{declared, callee}
-use Rattle.scan.specs.Repeats.{leading}
-use Rattle.scan.specs.Laws.Repeats.{leading_short, leading_stops}
-use Rattle.scan.specs.Readings.{RefusedAs}
-use Rattle.scan.specs.Laws.Reading.{giving_refused_as, same_refused}
+use Rattle.words.specs.Repeats.{leading}
+use Rattle.words.specs.Laws.Repeats.{leading_short, leading_stops}
+use Rattle.words.specs.Readings.{RefusedAs}
+use Rattle.words.specs.Laws.Reading.{giving_refused_as, same_refused}
 use Rattle.refusals.specs.declared.Refusal.{Refusal}
 use Rattle.rule_terms.specs.Starred.{starred, Stars}
 use Rattle.rule_terms.specs.Laws.Reading.{term_case}

@@ -10,7 +10,7 @@ ghost use Rattle.eb3.specs.ExpressionReading.{read_cond};
 ghost use Rattle.eb3.specs.RuleReading.{rule_action_of, call_of, RuleKind, rule_by, read_rule_term};
 ghost use Rattle.measures.specs.Weighing.{measure};
 ghost use Rattle.tables.specs.Tables.{declared, callee};
-ghost use Rattle.scan.specs.Checking.{checked};
+ghost use Rattle.words.specs.Checking.{checked};
 ghost use Rattle.rule_terms.specs.Weighed.{weighed, terms, answer, weighed_two, weighed_copies, mask_if, copies_of, quantifier};
 
 use code_numbers::{
@@ -20,13 +20,13 @@ use codes::{Due, code_due};
 use expression_check::{Scope, check_cond};
 use measures::{Joint, Weight, empty, guard, joined, single, stars};
 use refusals::Refusal;
-use scan::repeats::leading;
-use scan::{after, behind, first, last, number};
 use tables::layout::{BREADTH, REACH, SIZE};
 use tables::{
     Context, MASK_WORDS, check_arguments, check_mask, domains, functions, label_row, labels,
     mask_zero, parameters_row, process_entry, processes, size_of, with,
 };
+use words::repeats::leading;
+use words::{after, behind, first, last, number};
 
 // The most variables in scope: a process's parameters, and one for each quantifier around.
 const VARIABLES: usize = 8;

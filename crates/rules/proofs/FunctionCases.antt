@@ -10,12 +10,12 @@ use Rattle.eb3.specs.RuleSets.{Function, RuleSet}
 use Rattle.eb3.specs.Measures.{sat, measure_main}
 use Rattle.eb3.specs.Reading.{Read, refused, taken, Reader, then, count_of, series}
 use Rattle.eb3.specs.RuleReading.{parameter_limit, read_parameter_counts, read_function, read_functions, read_process, with_process, read_processes, without_processes}
-use Rattle.scan.specs.Checking.{checked, last_of, Checked}
-use Rattle.scan.specs.Ends.{Tail, Fine}
-use Rattle.scan.specs.Laws.Checking.{tail_at, tail_on, last_tail}
-use Rattle.scan.specs.Readings.{RefusedAs}
-use Rattle.scan.specs.Laws.Reading.{checked_refused, then_refused_as, then_taken, not_taken, same_refused}
-use Rattle.scan.specs.Laws.Rows.{count_word}
+use Rattle.words.specs.Checking.{checked, last_of, Checked}
+use Rattle.words.specs.Ends.{Tail, Fine}
+use Rattle.words.specs.Laws.Checking.{tail_at, tail_on, last_tail}
+use Rattle.words.specs.Readings.{RefusedAs}
+use Rattle.words.specs.Laws.Reading.{checked_refused, then_refused_as, then_taken, not_taken, same_refused}
+use Rattle.words.specs.Laws.Rows.{count_word}
 use Rattle.measures.specs.Weighing.{cap, weight}
 use Rattle.tables.specs.Layout.{tables_length, functions_place, domain_count, label_count}
 use Rattle.tables.specs.Tables.{edition_in, declared}

@@ -12,9 +12,9 @@ use Rattle.eb3.specs.Reading.{Read, refused, taken, giving, then, counted, numbe
 use Rattle.eb3.specs.RuleReading.{parameter_limit, read_rule_term, read_process, read_processes}
 use Rattle.measures.specs.Weighing.{measure}
 use Rattle.measures.specs.declared.Weight.{Weight}
-use Rattle.scan.specs.Checking.{checked, last_of, Checked}
-use Rattle.scan.specs.Ends.{Tail}
-use Rattle.scan.specs.Laws.Checking.{tail_on, last_tail, last_all, last_last, last_length}
+use Rattle.words.specs.Checking.{checked, last_of, Checked}
+use Rattle.words.specs.Ends.{Tail}
+use Rattle.words.specs.Laws.Checking.{tail_on, last_tail, last_all, last_last, last_length}
 use Rattle.std.proofs.Common.{le_refl}
 use Rattle.rule_terms.specs.declared.Weighed.{Weighed}
 use Rattle.rule_terms.specs.Weighed.{weighed, Answer, found}

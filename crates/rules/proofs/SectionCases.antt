@@ -11,12 +11,12 @@ use Rattle.eb3.specs.RuleSpelling.{one_word}
 use Rattle.eb3.specs.Reading.{Read, taken, Reader, then, count_of, number_of, repeat, counted}
 use Rattle.eb3.specs.RuleReading.{read_domains, read_labels, read_processes, without_processes, read_rules}
 use Rattle.eb3.proofs.Laws.Reading.{Sound, count_sound}
-use Rattle.scan.specs.Checking.{checked, last_of, Checked}
-use Rattle.scan.specs.Ends.{Tail}
-use Rattle.scan.specs.Laws.Checking.{tail_on, number_ends, got, last_tail}
-use Rattle.scan.specs.Readings.{RefusedAs}
-use Rattle.scan.specs.Laws.Reading.{checked_refused, then_refused_as, then_taken, not_taken, same_refused}
-use Rattle.scan.specs.Laws.Rows.{count_word, repeat_ends, counted_ends}
+use Rattle.words.specs.Checking.{checked, last_of, Checked}
+use Rattle.words.specs.Ends.{Tail}
+use Rattle.words.specs.Laws.Checking.{tail_on, number_ends, got, last_tail}
+use Rattle.words.specs.Readings.{RefusedAs}
+use Rattle.words.specs.Laws.Reading.{checked_refused, then_refused_as, then_taken, not_taken, same_refused}
+use Rattle.words.specs.Laws.Rows.{count_word, repeat_ends, counted_ends}
 use Rattle.tables.specs.Layout.{tables_length, labels_place, label_place, processes_place, process_place, domain_count, label_count, process_count, domains_place}
 use Rattle.tables.specs.Tables.{edition_in, row, declared}
 use Rattle.tables.specs.Laws.Tables.{domains_length}

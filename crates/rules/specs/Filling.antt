@@ -4,7 +4,7 @@ use Rattle.std.specs.Prelude.{◌≡◌, List, ℕ, ◌*◌, ◌≤◌, ◌<◌,
 use Rattle.eb3.specs.RuleSets.{Function, RuleSet}
 use Rattle.eb3.specs.Reading.{taken, Reader}
 use Rattle.eb3.specs.RuleReading.{read_processes, read_rules}
-use Rattle.scan.specs.Ends.{Tail}
+use Rattle.words.specs.Ends.{Tail}
 use Rattle.tables.specs.Tables.{edition_in, declared}
 use Rattle.declarations.specs.Declaring.{Heads, Tables, Declares}
 use Rattle.declarations.specs.Bounds.{Narrow}

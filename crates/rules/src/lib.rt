@@ -15,12 +15,12 @@ use declarations::{check_domains, copy, enter_labels, functions, parameters};
 use measures::{Weight, empty};
 use refusals::Refusal;
 use rule_terms::{Weighed, check_term};
-use scan::{count, first, last};
 use tables::layout::{
     BODY, BREADTH, DOMAINS, FUNCTIONS, LABELS, PROCESSES, REACH, SIZE, TABLES, label_place,
     process_place,
 };
 use tables::{Context, domains};
+use words::{count, first, last};
 
 // What a rule set comes to: how many words are left after it, its cells, and main's measures.
 #[derive(Clone, Copy)]

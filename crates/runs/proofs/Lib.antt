@@ -5,4 +5,4 @@ mod OverCases
 mod StepCases
 mod RunCases
 mod MainCases
-mod BareCases
+mod MaskFreeCases

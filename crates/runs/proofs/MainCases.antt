@@ -45,7 +45,7 @@ use Rattle.runs.specs.Held.{Runs}
 use Rattle.runs.specs.declared.held.Held.TheVariants.{InFull}
 use Rattle.runs.specs.declared.admitted.Course.{Course}
 use Rattle.runs.specs.MainProcess.{RanRight, RunsMain, Finished}
-use Rattle.runs.specs.Starts.{AtStart, RunsBare, RunsMasked, CourseMasked}
+use Rattle.runs.specs.Starts.{AtStart, RunsMaskFree, RunsMasked, CourseMasked}
 use Rattle.runs.specs.declared.main_process.Totals.{Totals}
 use Rattle.runs.specs.declared.Tally.{Tally}
 
@@ -208,10 +208,10 @@ module _ {list t T D : List ℕ} {w functions c reach n : ℕ} {ws ws₁ M spare
       record { answer = q.answer; term_after = q.term_after; memory_after = q.memory_after; words_only = words_then spare spare₁ spare₂ only q.words_only; counted = q.counted }
 
   -- Without: the unfolding stays as it is, and no more is written into the spare bytes.
-  pub words_bare : {f u d₁ : List ℕ} {ok : Bool} {paths acts middle : ℕ} → Begun t T D w functions c n ws ws₁ M spare spare₁ → f ≡ take n ws₁ → Shareable f ok → ok ≡ true → u ≡ take n ws₁
-      → length d₁ ≡ length ws → paths ≡ length ws → acts ≡ length ws → middle ≡ length ws → RunsBare list t D w functions c reach u d₁ M paths acts middle term memory by r term' memory' by'
+  pub words_mask_free : {f u d₁ : List ℕ} {ok : Bool} {paths acts middle : ℕ} → Begun t T D w functions c n ws ws₁ M spare spare₁ → f ≡ take n ws₁ → Shareable f ok → ok ≡ true → u ≡ take n ws₁
+      → length d₁ ≡ length ws → paths ≡ length ws → acts ≡ length ws → middle ≡ length ws → RunsMaskFree list t D w functions c reach u d₁ M paths acts middle term memory by r term' memory' by'
       → RunsMain list t T D c reach (length ws) term memory spare by r term' memory' spare₁ by'
-  words_bare {f} {u} begun ef shareable yes_ok eu same same_path same_acts same_middle runs R well d ec er room term_room memory_room spare_room =
+  words_mask_free {f} {u} begun ef shareable yes_ok eu same same_path same_acts same_middle runs R well d ec er room term_room memory_room spare_room =
       let held = main_held begun R well d ec er spare_room room in
       let only = spare_words begun R well d ec er spare_room in
       let there = (whole R well.form T d.declares (unfold_main R) (main_there R well) f (ef ∙ held.spelled)).there in

@@ -28,8 +28,8 @@ pub record AtStart (R : RuleSet) (t T D : List ℕ) (w functions c reach : ℕ) 
   pub memory_room : c ≤ cell_room memory
 
 -- From the words u of an unfolding that has no masks; no spare bytes are written.
-abbrev pub RunsBare : (list t D : List ℕ) (w functions c reach : ℕ) (u d M : List ℕ) (paths acts middle : ℕ) (term memory by : List ℕ) (r : Totals) (term' memory' by' : List ℕ) → Type 0
-RunsBare list t D w functions c reach u d M paths acts middle term memory by r term' memory' by' =
+abbrev pub RunsMaskFree : (list t D : List ℕ) (w functions c reach : ℕ) (u d M : List ℕ) (paths acts middle : ℕ) (term memory by : List ℕ) (r : Totals) (term' memory' by' : List ℕ) → Type 0
+RunsMaskFree list t D w functions c reach u d M paths acts middle term memory by r term' memory' by' =
     (R : RuleSet) (T : List ℕ) → AtStart R t T D w functions c reach M term memory → RoomyOver reach u d paths acts middle → u ≡ words R.edition.width (unfold_main R) → Unmasked (unfold_main R)
     → (spare : List ℕ) → RanRight list term memory spare by R r term' memory' spare by'
 
@@ -42,10 +42,10 @@ RunsMasked list t D w functions c reach n ws M path term memory spare by r term'
 -- ── the same of a course ──
 
 -- By the course's list, rule set and reach.
-abbrev pub CourseBare : (course : Course) (u d M : List ℕ) (paths acts middle : ℕ) (term memory by : List ℕ) (r : Totals) (term' memory' by' : List ℕ) → Type 0
-CourseBare course u d M paths acts middle term memory by r term' memory' by' =
+abbrev pub CourseMaskFree : (course : Course) (u d M : List ℕ) (paths acts middle : ℕ) (term memory by : List ℕ) (r : Totals) (term' memory' by' : List ℕ) → Type 0
+CourseMaskFree course u d M paths acts middle term memory by r term' memory' by' =
     let functions = course.rules.functions in
-    RunsBare course.list.now functions.words.now functions.directory.now functions.width functions.count functions.cells course.reach u d M paths acts middle term memory by r term' memory' by'
+    RunsMaskFree course.list.now functions.words.now functions.directory.now functions.width functions.count functions.cells course.reach u d M paths acts middle term memory by r term' memory' by'
 
 abbrev pub CourseMasked : (course : Course) (n : ℕ) (ws M path term memory spare by : List ℕ) (r : Totals) (term' memory' spare' by' : List ℕ) → Type 0
 CourseMasked course n ws M path term memory spare by r term' memory' spare' by' =

@@ -6,9 +6,9 @@ ghost use Rattle.runs.specs.Held.{Short, TakesMove};
 
 use cells::load;
 use derivation::Scratch;
-use scan::front;
 use sharing::step;
 use steps::moving::{Taken, take_move_in};
+use words::front;
 
 /// How a term is held: in its own words, or in few words over those of the start's unfolding, which has no masks.
 #[derive(Clone, Copy)]

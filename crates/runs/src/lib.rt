@@ -19,8 +19,8 @@ use derivation::Scratch;
 use held::{Held, take};
 use readers::list::place;
 use readers::{COUNTS, Outcome, count_one};
-use scan::word_at;
 use steps::renewing::renew;
+use words::word_at;
 
 /// What a number did that a move was offered for: how many words the term has after a visible or an internal move.
 #[derive(Clone, Copy)]

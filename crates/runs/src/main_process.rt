@@ -5,7 +5,7 @@
 // Stays: that words are at most 65,535 is a clause of each function here, for the reason in successors (docs/DESIGN-PASS.md, "A struct for words").
 ghost use Rattle.std.specs.Prelude.{◌≡◌, ◌≤◌, length};
 ghost use Rattle.runs.specs.MainProcess.{Padded, Finished, totals};
-ghost use Rattle.runs.specs.Starts.{CourseBare, CourseMasked, CourseMain};
+ghost use Rattle.runs.specs.Starts.{CourseMaskFree, CourseMasked, CourseMain};
 
 use super::admitted::Course;
 use super::held::Held;
@@ -14,12 +14,12 @@ use cells::{load, save};
 use derivation::Scratch;
 use expressions::store;
 use readers::COUNTS;
-use scan::front;
 use sharing::beginning::part_word;
 use sharing::expanding::expand;
 use sharing::masks::shareable;
 use steps::storing::start_store;
 use unfold::unfold_main;
+use words::front;
 use writing::put_words;
 
 // The last term's size in words, and how many numbers took a visible move, took an internal one, or were refused.
@@ -72,7 +72,7 @@ fn finish(
     memory: &mut [u8],
 ) -> Totals
     ensures written { Finished ws.old tally.size course.now.reach m.now course.now.rules.functions.cells term.old memory.old term.new memory.new }
-    ensures told { result ≡ totals tally }
+    ensures totals { result ≡ totals tally }
 {
     let reach = course.reach;
     pad(ws, tally.size, reach);
@@ -84,7 +84,7 @@ fn finish(
 // From the words of main's unfolding, which has no masks, and the cells of the start: at first the term is the whole of it, and the last
 // one is written out in full.
 // Stays: that u has at most 65,503 words is what sharing asks; and eight parameters, for the reason at `finish`: six are lent.
-fn run_bare(
+fn run_mask_free(
     course: &Course,
     u: &[u16],
     d: &mut [u16],
@@ -95,7 +95,7 @@ fn run_bare(
     by_reader: &mut [u32; COUNTS],
 ) -> Totals
     requires { (length u.now ≤ 65503) × (length d.old ≤ 65535) }
-    ensures { CourseBare course.now u.now d.old m.old (length scratch.old.path.now) (length scratch.old.acts.now) (length scratch.old.mid.now) term.old memory.old by_reader.old result term.new memory.new by_reader.new }
+    ensures { CourseMaskFree course.now u.now d.old m.old (length scratch.old.path.now) (length scratch.old.acts.now) (length scratch.old.mid.now) term.old memory.old by_reader.old result term.new memory.new by_reader.new }
 {
     // never with room for main
     if d.len() == 0 {
@@ -154,7 +154,7 @@ fn run_words(
     let mut m = [0u16; store::WORDS];
     start_store(&rules.functions, &mut m);
     if shareable(front(ws, n)) {
-        return run_bare(
+        return run_mask_free(
             course,
             front(ws, n),
             d,

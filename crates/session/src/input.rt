@@ -2,8 +2,8 @@
 ghost use Rattle.std.specs.Prelude.{◌≡◌, ◌*◌, ◌≤◌, length, take};
 ghost use Rattle.session.specs.Reading.{blocks_read};
 
-use scan::word_at;
 use std::io::{Read, Stdin};
+use words::word_at;
 
 // Reads until the buffer is full, the input ends or a read fails, and answers how many bytes it put at the buffer's start. A failed
 // read counts as the end of the input. An empty buffer is not read into.

@@ -7,7 +7,7 @@ use engine::counting::count;
 use engine::starting::start;
 use engine::stepping::{Step, make_move};
 use refusals::Refusal;
-use scan::front;
+use words::front;
 
 // The words of the term and the cells of the memory are at the start of the buffers.
 // Stays: two Vecs would keep their lengths, but the engine writes into buffers with room for the largest sizes and returns the size then: each Vec would be cut

@@ -13,9 +13,9 @@ use Rattle.eb3.specs.Scopes.{Scope}
 use Rattle.eb3.specs.Terms.{Term, Done, Sequence, Choice, Star, visible, internal, done?}
 use Rattle.eb3.specs.Spelling.{cond_words, words}
 use Rattle.eb3.specs.Sizes.{size}
-use Rattle.scan.specs.Checking.{last_of}
-use Rattle.scan.specs.Ends.{Tail}
-use Rattle.scan.specs.Laws.Checking.{part, last_behind}
+use Rattle.words.specs.Checking.{last_of}
+use Rattle.words.specs.Ends.{Tail}
+use Rattle.words.specs.Laws.Checking.{part, last_behind}
 use Rattle.expressions.specs.Answering.{CondAt}
 use Rattle.actions.specs.Codes.{action_code, ActionAt}
 use Rattle.listing.specs.Listing.{TermAt}
@@ -76,7 +76,7 @@ module _ (s p t : List ℕ) (behind : t ≡ drop 1 s) where
         few = g.few;
         under = under_on v g.under tail;
         there = subst (λ z. TermAt z P F rest) (sym i) two.second;
-        bare = g.bare.1;
+        mask_free = g.mask_free.1;
         led = c;
         short = g.short;
       } in
@@ -104,9 +104,9 @@ module _ (s p t : List ℕ) (behind : t ≡ drop 1 s) where
         let i : Under u t = under_on t g.under (1, behind) in
         let j : Under u v = under_on v i (last_tail (length v) t v (sym (behind_term t P E v two.first))) in
         let a : length v ≡ n = sym (skip.1 P E v two.first) in
-        let given : Given u t P E v p = record { few = g.few; under = i; there = two.first; bare = g.bare.0; led = c; short = g.short } in
+        let given : Given u t P E v p = record { few = g.few; under = i; there = two.first; mask_free = g.mask_free.0; led = c; short = g.short } in
         let b = begun m u P v E given (omega (arith, l, same, size_some P.edition.width F)) in
-        subst (λ f. BeganRight u P f at x y r) (sym q) (then_began (follow E p) n F room (subst (λ w. PartAt u P w F) a (part_at j two.second g.bare.1)) b))
+        subst (λ f. BeganRight u P f at x y r) (sym q) (then_began (follow E p) n F room (subst (λ w. PartAt u P w F) a (part_at j two.second g.mask_free.1)) b))
 
   -- ── a guard ──
 
@@ -122,7 +122,7 @@ module _ (s p t : List ℕ) (behind : t ≡ drop 1 s) where
         few = g.few;
         under = under_on v (under_on t g.under (1, behind)) (last_tail n t v h);
         there = subst (λ z. TermAt z P E rest) (sym i) (guard_operand s P rest C E g.there);
-        bare = g.bare;
+        mask_free = g.mask_free;
         led = g.led;
         short = g.short;
       } in
@@ -142,7 +142,7 @@ module _ (s p t : List ℕ) (behind : t ≡ drop 1 s) where
           few = g.few;
           under = under_on t g.under (1, behind);
           there = (both_there g).first;
-          bare = g.bare.0;
+          mask_free = g.mask_free.0;
           led = subst (λ z. marked P.edition.width E z ≡ true) (sym on) (choice_left_marked p d P.edition.width E F g.led);
           short = omega (arith, g.short, ap length on, length-drop 1 p);
         } in
@@ -165,7 +165,7 @@ module _ (s p t : List ℕ) (behind : t ≡ drop 1 s) where
             few = g.few;
             under = under_on (drop n t) (under_on t g.under (1, behind)) (n, refl);
             there = right_there (both_there g) n (is ∙ w.0);
-            bare = g.bare.1;
+            mask_free = g.mask_free.1;
             led = subst (λ z. marked P.edition.width F z ≡ true) (sym on) w.1;
             short = omega (arith, g.short, ap length on, length-drop 2 p);
           } in
@@ -202,9 +202,9 @@ module _ (s p t : List ℕ) (behind : t ≡ drop 1 s) where
             few = g.few;
             under = under_on t g.under (1, behind);
             there = subst (λ z. TermAt z P E rest) (sym behind) (star_first s P rest E g.there);
-            bare = g.bare;
+            mask_free = g.mask_free;
             led = subst (λ z. marked P.edition.width E z ≡ true) (sym on) (round_marked p d P.edition.width E g.led);
             short = omega (arith, g.short, ap length on, length-drop 1 p);
           } in
           let b = begun m u P rest E given (omega (arith, l, same, size_some P.edition.width (Star E))) in
-          subst (λ z. BeganRight u P z at x y r) (sym (again E)) (then_began (follow E q) (length s) (Star E) room (part_at g.under g.there g.bare) b))
+          subst (λ z. BeganRight u P z at x y r) (sym (again E)) (then_began (follow E q) (length s) (Star E) room (part_at g.under g.there g.mask_free) b))

@@ -11,9 +11,9 @@ use borrow.Author.Tests.{eqb-true, eqb-false}
 use Rattle.eb3.specs.Scopes.{Scope}
 use Rattle.eb3.specs.Terms.{Term, Mask}
 use Rattle.eb3.specs.Sizes.{zero_mask}
-use Rattle.scan.specs.Checking.{last_of}
-use Rattle.scan.specs.Ends.{Tail}
-use Rattle.scan.specs.Laws.Checking.{part, tail_on, tail_at, tail_short}
+use Rattle.words.specs.Checking.{last_of}
+use Rattle.words.specs.Ends.{Tail}
+use Rattle.words.specs.Laws.Checking.{part, tail_on, tail_at, tail_short}
 use Rattle.listing.specs.Listing.{TermAt}
 use Rattle.listing.specs.Positions.{code_in_front}
 use Rattle.listing.specs.Laws.Positions.{term_front}
@@ -82,14 +82,14 @@ first_zero w b h = go (eqb w 0) refl h
     go false e k = absurd (let q : ◌≡◌ {A = ℕ} 0 1 = cc in omega arith)
 
 -- A mask of four words without a label.
-pub bare_mask : (Δ : Mask) → length Δ ≡ 4 → zero_mask Δ ≡ true → Δ ≡ no_mask
+pub zero_mask_is : (Δ : Mask) → length Δ ≡ 4 → zero_mask Δ ≡ true → Δ ≡ no_mask
 unfolding zero_mask
-bare_mask [] l h = absurd (omega arith)
-bare_mask (a ∷ []) l h = absurd (omega arith)
-bare_mask (a ∷ b ∷ []) l h = absurd (omega arith)
-bare_mask (a ∷ b ∷ c ∷ []) l h = absurd (omega arith)
-bare_mask (a ∷ b ∷ c ∷ d ∷ e ∷ Δ) l h = absurd (omega arith)
-bare_mask (a ∷ b ∷ c ∷ d ∷ []) l h =
+zero_mask_is [] l h = absurd (omega arith)
+zero_mask_is (a ∷ []) l h = absurd (omega arith)
+zero_mask_is (a ∷ b ∷ []) l h = absurd (omega arith)
+zero_mask_is (a ∷ b ∷ c ∷ []) l h = absurd (omega arith)
+zero_mask_is (a ∷ b ∷ c ∷ d ∷ e ∷ Δ) l h = absurd (omega arith)
+zero_mask_is (a ∷ b ∷ c ∷ d ∷ []) l h =
     let p = first_zero a _ h in
     let q = first_zero b _ p.1 in
     let r = first_zero c _ q.1 in

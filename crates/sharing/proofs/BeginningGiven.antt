@@ -36,7 +36,7 @@ pub record Given (u s : List ℕ) (P : Scope) (E : Term) (rest p : List ℕ) : T
   pub few : length u ≤ 65503
   pub under : Under u s
   pub there : TermAt s P E rest
-  pub bare : Unmasked E
+  pub mask_free : Unmasked E
   pub led : marked P.edition.width E p ≡ true
   pub short : length p ≤ 65535
 
@@ -48,12 +48,12 @@ Led s p at x y r u P rest G = Given u s P G rest p → at + size P.edition.width
 
 module _ {s p : List ℕ} {at : ℕ} {x y : List ℕ} {r : Option Reached} where
   pub begun : Beginning s p at x y r → (u : List ℕ) (P : Scope) (rest : List ℕ) (G : Term) → Led s p at x y r u P rest G
-  begun m u P rest G g k = m.right u P G rest g.few g.under.fewer g.under.end g.there g.bare g.led g.short k
+  begun m u P rest G g k = m.right u P G rest g.few g.under.fewer g.under.end g.there g.mask_free g.led g.short k
 
   from_led : length y ≡ length x → ((u : List ℕ) (P : Scope) (rest : List ℕ) (G : Term) → TermAt s P G rest → Led s p at x y r u P rest G) → Beginning s p at x y r
   from_led same f = record {
     same_length = same;
-    right = λ u P G rest few fewer end t b m l k. f u P rest G t (record { few = few; under = record { fewer = fewer; end = end }; there = t; bare = b; led = m; short = l }) k;
+    right = λ u P G rest few fewer end t b m l k. f u P rest G t (record { few = few; under = record { fewer = fewer; end = end }; there = t; mask_free = b; led = m; short = l }) k;
   }
 
   module _ (same : length y ≡ length x) where

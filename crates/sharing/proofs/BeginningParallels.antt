@@ -15,8 +15,8 @@ use Rattle.eb3.specs.Terms.{Term, Done, Parallel, Mask, Action, internal}
 use Rattle.eb3.specs.Reading.{pick}
 use Rattle.eb3.specs.Spelling.{words}
 use Rattle.eb3.specs.Sizes.{size}
-use Rattle.scan.specs.Checking.{last_of}
-use Rattle.scan.specs.Laws.Checking.{part}
+use Rattle.words.specs.Checking.{last_of}
+use Rattle.words.specs.Laws.Checking.{part}
 use Rattle.actions.specs.Codes.{action_code}
 use Rattle.listing.specs.Positions.{TwoAt}
 use Rattle.listing.specs.Laws.Positions.{second_at}
@@ -26,7 +26,7 @@ use Rattle.sharing.specs.Laws.Shared.{size_some, shared_short}
 use Rattle.sharing.specs.Beginning.{Reached, reached, BeganRight, Beginning, EndPut, TwoRight, LeftBegun, BothBegun}
 use Rattle.successors.specs.Laws.Following.{rest_of_path, rest_short, parallel_end_follows, parallel_left_follows, parallel_left_marked, parallel_right_follows, parallel_right_marked, parallel_both_follows, parallel_both_marked, size_marked}
 use Rattle.sharing.proofs.BeginningPuts.{put_one, one_put, put_behind}
-use Rattle.sharing.proofs.BeginningEnds.{Under, under_on, last_tail, one_word, bare_mask}
+use Rattle.sharing.proofs.BeginningEnds.{Under, under_on, last_tail, one_word, zero_mask_is}
 use Rattle.successors.specs.Laws.Terms.{parallel_two, parallel_long, right_there, left_within}
 use Rattle.sharing.proofs.BeginningCodes.{reached_same, further, same_at, same_left, same_action}
 use Rattle.sharing.proofs.BeginningGiven.{Skipped, lent, Given, begun, by_parallel, ended}
@@ -44,7 +44,7 @@ words_fit {u} {P} b = subst (λ G. length (shared_words b.shared) ≤ size P.edi
 -- What is known of the left operand.
 left_given : (e p : List ℕ) {u rest : List ℕ} {P : Scope} {E F : Term} → length u ≤ 65503 → length e ≤ length u → e ≡ last_of (length e) u → TwoAt e P E F rest → Unmasked E
     → marked P.edition.width E p ≡ true → length p ≤ 65535 → Given u e P E (words P.edition.width F ++ rest) p
-left_given e p l a b t c d s = record { few = l; under = record { fewer = a; end = b }; there = t.first; bare = c; led = d; short = s }
+left_given e p l a b t c d s = record { few = l; under = record { fewer = a; end = b }; there = t.first; mask_free = c; led = d; short = s }
 
 -- Where there is room, something is written.
 lost : {e p x y : List ℕ} {at : ℕ} {u rest : List ℕ} {P : Scope} (E : Term) → Beginning e p at x y None → Given u e P E rest p → at + size P.edition.width (follow E p).successor ≤ length x → ⊥
@@ -115,7 +115,7 @@ module _ (e p q x y z : List ℕ) (n at i left a : ℕ) (m : Beginning e p at x 
         few = known.few;
         under = under_on (drop n e) known.under (n, refl);
         there = right_there t n isn;
-        bare = f;
+        mask_free = f;
         led = subst (λ w. marked P.edition.width F w ≡ true) (sym on) j;
         short = omega (arith, ap length on, rest_short E p, known.short);
       }
@@ -160,13 +160,13 @@ module _ (e p q x y z : List ℕ) (n at i left a : ℕ) (m : Beginning e p at x 
 beside : {u : List ℕ} {P : Scope} {at : ℕ} {x y : List ℕ} {r : Option Reached} (Δ : Mask) (E F : Term) (ρ : Action) (rest : List ℕ) → Δ ≡ no_mask → at < length x → TwoRight u P E F ρ rest (at + 1) (set x at 25) y r
     → BeganRight u P (followed ρ (Parallel Δ E F) rest) at x y r
 unfolding term_of shared_words
-beside {u} {P} {at} {x} {y} {r} Δ E F ρ rest bare room t =
+beside {u} {P} {at} {x} {y} {r} Δ E F ρ rest mask_free room t =
     let w = shared_words t.X ++ shared_words t.Y in
     let n : at + 1 + length w ≡ at + length (25 ∷ w) = omega arith in
     record {
       shared = Beside t.X t.Y;
       stands = (t.X_stands, t.Y_stands);
-      is_successor = ap (λ d. Parallel d (term_of t.X) (term_of t.Y)) (sym bare) ∙ (ap (λ G. Parallel Δ G (term_of t.Y)) t.X_is ∙ ap (λ G. Parallel Δ E G) t.Y_is);
+      is_successor = ap (λ d. Parallel d (term_of t.X) (term_of t.Y)) (sym mask_free) ∙ (ap (λ G. Parallel Δ G (term_of t.Y)) t.X_is ∙ ap (λ G. Parallel Δ E G) t.Y_is);
       written = put_behind x (25 ∷ []) w (set x at 25) y at (at + 1) (omega (arith, room)) refl (put_one x at 25 room) t.written;
       answered = further n t.answered;
     }
@@ -207,7 +207,7 @@ module _ (s p x : List ℕ) (at : ℕ) (code : get_or s 0 0 ≡ 25) where
     sides {u} {rest} {P} {Δ} {E} {F} g = subst (λ z. TwoAt z P E F rest) (sym cut) (parallel_two s P rest Δ E F g.there)
 
     no_label : {u rest : List ℕ} {P : Scope} {Δ : Mask} {E F : Term} → Given u s P (Parallel Δ E F) rest p → Δ ≡ no_mask
-    no_label {u} {rest} {P} {Δ} {E} {F} g = bare_mask Δ g.there.fits.0 g.bare.0
+    no_label {u} {rest} {P} {Δ} {E} {F} g = zero_mask_is Δ g.there.fits.0 g.mask_free.0
 
     below : {u rest : List ℕ} {P : Scope} {Δ : Mask} {E F : Term} → Given u s P (Parallel Δ E F) rest p → Under u e
     below g = under_on e g.under (5, cut)
@@ -220,7 +220,7 @@ module _ (s p x : List ℕ) (at : ℕ) (code : get_or s 0 0 ≡ 25) where
         let l : at + size P.edition.width (Parallel Δ (follow E q).successor F) ≤ length x = subst (λ z. at + size P.edition.width z.successor ≤ length x) f k in
         let c : marked P.edition.width E q ≡ true = subst (λ z. marked P.edition.width E z ≡ true) (sym on) (parallel_left_marked p Δ E F P.edition.width d g.led) in
         let i = below g in
-        let t = m.right u P E F rest g.few i.fewer i.end (sides g) g.bare.1 g.bare.2 c (omega (arith, g.short, ap length on, length-drop 1 p)) (omega (arith, l, length-set x at 25, size_some P.edition.width F)) in
+        let t = m.right u P E F rest g.few i.fewer i.end (sides g) g.mask_free.1 g.mask_free.2 c (omega (arith, g.short, ap length on, length-drop 1 p)) (omega (arith, l, length-set x at 25, size_some P.edition.width F)) in
         subst (λ z. BeganRight u P z at x y r) (sym f) (beside Δ (follow E q).successor F (follow E q).action (follow E q).rest (no_label g) (omega (arith, room)) t))
 
     module _ (n : ℕ) (is : n ≡ get_or p 1 0) where
@@ -240,12 +240,12 @@ module _ (s p x : List ℕ) (at : ℕ) (code : get_or s 0 0 ≡ 25) where
             few = g.few;
             under = under_on (drop n e) i (n, refl);
             there = right_there (sides g) n (is ∙ c.0);
-            bare = g.bare.2;
+            mask_free = g.mask_free.2;
             led = subst (λ z. marked P.edition.width F z ≡ true) (sym on) c.1;
             short = omega (arith, g.short, ap length on, length-drop 2 p);
           } in
           let b = begun m u P rest F known (omega (arith, l, same, size_some P.edition.width E)) in
-          let o = one_word i (sides g).first g.bare.1 in
+          let o = one_word i (sides g).first g.mask_free.1 in
           let v : shared_words o.shared ≡ w ∷ [] = o.word ∙ ap (λ j. j ∷ []) (sym fw) in
           let X = shared_words o.shared in
           let Y = shared_words b.shared in
@@ -280,5 +280,5 @@ module _ (s p x : List ℕ) (at : ℕ) (code : get_or s 0 0 ≡ 25) where
             let mE : marked P.edition.width E q ≡ true = subst (λ z. marked P.edition.width E z ≡ true) (sym on) c.1 in
             let mF : marked P.edition.width F (follow E q).rest ≡ true = subst (λ z. marked P.edition.width F (follow E z).rest ≡ true) (sym on) c.2 in
             let i = below g in
-            let t = m.right u P E F rest g.few i.fewer i.end (sides g) (is ∙ c.0) g.bare.1 g.bare.2 mE mF (omega (arith, g.short, ap length on, length-drop 2 p)) (omega (arith, l, length-set x at 25)) in
+            let t = m.right u P E F rest g.few i.fewer i.end (sides g) (is ∙ c.0) g.mask_free.1 g.mask_free.2 mE mF (omega (arith, g.short, ap length on, length-drop 2 p)) (omega (arith, l, length-set x at 25)) in
             subst (λ z. BeganRight u P z at x y r) (sym f) (beside Δ (follow E q).successor (follow F (follow E q).rest).successor (follow E q).action (follow F (follow E q).rest).rest (no_label g) (omega (arith, room)) t))

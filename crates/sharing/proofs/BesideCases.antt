@@ -6,8 +6,8 @@ use native.Mathlib.Omega.{arith}
 use lib.ListN.{length, drop, get_or, length-append}
 use Rattle.eb3.specs.Scopes.{Scope}
 use Rattle.eb3.specs.Spelling.{words}
-use Rattle.scan.specs.Checking.{last_of}
-use Rattle.scan.specs.Laws.Checking.{last_behind}
+use Rattle.words.specs.Checking.{last_of}
+use Rattle.words.specs.Laws.Checking.{last_behind}
 use Rattle.expressions.specs.Answering.{answer}
 use Rattle.listing.specs.Laws.Operands.{answer_is}
 use Rattle.sharing.specs.Shared.{Shared, Ended, Part, Then, Beside, term_of, shared_words, Stands}

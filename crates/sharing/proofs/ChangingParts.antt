@@ -11,8 +11,8 @@ use lib.Seq.{slice, length-slice, length-take-le, take-append_seam, take-suc-set
 use Rattle.eb3.specs.Scopes.{Scope}
 use Rattle.eb3.specs.Terms.{Term, Action}
 use Rattle.eb3.specs.Sizes.{size}
-use Rattle.scan.specs.Checking.{last_of}
-use Rattle.scan.specs.Laws.Checking.{last_length}
+use Rattle.words.specs.Checking.{last_of}
+use Rattle.words.specs.Laws.Checking.{last_length}
 use Rattle.listing.specs.Listing.{TermAt}
 use Rattle.actions.specs.Codes.{action_code}
 use Rattle.paths.specs.Paths.{Followed, follow, followed, marked}

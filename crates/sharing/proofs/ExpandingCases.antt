@@ -9,7 +9,7 @@ use lib.Seq.{take_at, length-take-le}
 use Rattle.eb3.specs.Scopes.{Scope}
 use Rattle.eb3.specs.Terms.{Term}
 use Rattle.eb3.specs.Spelling.{words}
-use Rattle.scan.specs.Checking.{last_of}
+use Rattle.words.specs.Checking.{last_of}
 use Rattle.expressions.specs.Answering.{answer}
 use Rattle.listing.specs.Listing.{Fits, TermAt}
 use Rattle.listing.specs.Laws.Fits.{fits_length}

@@ -9,8 +9,8 @@ use Rattle.eb3.specs.Scopes.{Scope}
 use Rattle.eb3.specs.Terms.{Term}
 use Rattle.eb3.specs.Sizes.{size}
 use Rattle.eb3.specs.Spelling.{words}
-use Rattle.scan.specs.Checking.{last_of}
-use Rattle.scan.specs.Laws.Checking.{last_len}
+use Rattle.words.specs.Checking.{last_of}
+use Rattle.words.specs.Laws.Checking.{last_len}
 use Rattle.listing.specs.Listing.{TermAt, holding}
 use Rattle.listing.specs.Laws.Fits.{fits_length}
 use Rattle.paths.specs.Paths.{path}

@@ -9,8 +9,8 @@ use borrow.Author.Tests.{eqb-true, eqb-false}
 use lib.ListN.{length, drop, get_or, length-drop}
 use Rattle.eb3.specs.Scopes.{Scope}
 use Rattle.eb3.specs.Terms.{done?}
-use Rattle.scan.specs.Checking.{last_of}
-use Rattle.scan.specs.Laws.Checking.{last_behind, last_len}
+use Rattle.words.specs.Checking.{last_of}
+use Rattle.words.specs.Laws.Checking.{last_behind, last_len}
 use Rattle.listing.specs.Listing.{holding}
 use Rattle.derivation.specs.Derived.{move_count}
 use Rattle.derivation.specs.Laws.Answers.{by_order}

@@ -10,7 +10,7 @@ use Rattle.eb3.specs.Terms.{Term, Done, Guard, done?}
 use Rattle.eb3.specs.Sizes.{size}
 use Rattle.eb3.proofs.Laws.Sizes.{size_pos}
 use Rattle.eb3.specs.Spelling.{words}
-use Rattle.scan.specs.Checking.{last_of}
+use Rattle.words.specs.Checking.{last_of}
 use Rattle.expressions.specs.Answering.{Judged}
 use Rattle.listing.specs.Listing.{TermAt, holding}
 use Rattle.listing.specs.Positions.{TwoAt, MaskedAt}

@@ -4,7 +4,7 @@ use Rattle.std.specs.Prelude.{◌≡◌, true, List, [], ◌∷◌, ◌++◌, �
 use Rattle.eb3.specs.Scopes.{Scope}
 use Rattle.eb3.specs.Terms.{Term, VisibleAction, Action, visible}
 use Rattle.eb3.specs.Sizes.{size}
-use Rattle.scan.specs.Checking.{last_of}
+use Rattle.words.specs.Checking.{last_of}
 use Rattle.listing.specs.Listing.{TermAt}
 use Rattle.listing.specs.Positions.{TwoAt}
 use Rattle.actions.specs.Codes.{action_code, ActionAt}

@@ -6,7 +6,7 @@ use Rattle.listing.specs.Listing.{TermAt}
 use Rattle.sharing.specs.Shared.{Unmasked}
 
 -- No label is in a mask of the term that s begins with, and n words are left after it.
-pub record Bare (s : List ℕ) (n : ℕ) : Type 0 where
+pub record MaskFree (s : List ℕ) (n : ℕ) : Type 0 where
   pub shorter : n ≤ length s
   pub right : (P : Scope) (E : Term) (rest : List ℕ) → TermAt s P E rest → (n ≡ length rest) × Unmasked E
 

@@ -6,7 +6,7 @@ use Rattle.std.specs.Prelude.{◌≡◌, true, false, List, [], ◌∷◌, ◌++
 use Rattle.eb3.specs.Scopes.{Scope}
 use Rattle.eb3.specs.Terms.{Term, Done, Internal, Perform, Sequence, Choice, Star, Parallel, Guard, Mask, done?}
 use Rattle.eb3.specs.Sizes.{zero_mask}
-use Rattle.scan.specs.Checking.{last_of}
+use Rattle.words.specs.Checking.{last_of}
 use Rattle.listing.specs.Listing.{TermAt}
 
 -- `Ended`: done. `Part l E`: E, which begins where l words of the unfolding are left. `Then S l F`: S, and then F, which begins there. `Beside S T`: both, in

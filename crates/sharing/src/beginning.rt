@@ -12,9 +12,9 @@ use actions::code_at;
 use code_numbers::{ACTION, CHOICE, DONE, GUARD, PARALLEL, SEQUENCE, STAR};
 use listing::skip;
 use paths::{BOTH_DONE, CHOOSE_LEFT, END, LEFT_MOVES, RIGHT_MOVES};
-use scan::{behind, first, last};
 use successors::conditions::behind_condition;
 use successors::unchanged::{behind_size, size_word};
+use words::{behind, first, last};
 
 // The word for the part that s begins with; done is spelled out.
 // Stays: one word says either a code, below 32, or from 32 on the place of a part. The term is held in an array of words, in which an enum would take two.

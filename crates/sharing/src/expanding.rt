@@ -8,7 +8,7 @@ use super::expansion::{Expansion, Extent};
 use super::splicing::copy_words;
 use code_numbers::{DONE, PARALLEL, SEQUENCE};
 use listing::skip;
-use scan::{behind, first, last};
+use words::{behind, first, last};
 
 // The term at the front of s, written into an array from a place on, or None where there is no room.
 // Stays with out and at side by side: it is public, and what is public keeps its promise, which it gives for any place, in the array or not.

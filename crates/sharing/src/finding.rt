@@ -9,7 +9,7 @@ ghost use Rattle.sharing.specs.Walking.{found_in};
 use super::seeking::seek;
 use code_numbers::{DONE, PARALLEL, SEQUENCE};
 use derivation::{Arrays, Walked};
-use scan::{behind, first, last};
+use words::{behind, first, last};
 
 // The answers here are those of derivation; where the place of the move is found, `left` is how many words are left where it begins.
 

@@ -23,9 +23,9 @@ use code_numbers::{DONE, PARALLEL, SEQUENCE};
 use derivation::{Arrays, Scratch, Walked};
 use finding::find;
 use moved::Moved;
-use scan::{front, last};
 use splicing::splice;
 use std::ops::Range;
+use words::{front, last};
 use writer::Writer;
 
 // Stays: the term is the first n words of d, and n is a number beside it: it grows and shrinks within one array of a fixed size, since there is no heap. A

@@ -11,7 +11,7 @@ use derivation::{Arrays, Walked, size_before};
 use expressions::{eval_cond, truth_of, words_left};
 use listing::{behind_mask, both_done};
 use paths::{BOTH_DONE, CHOOSE_LEFT, END, LEFT_MOVES, ROUND};
-use scan::{behind, first, last};
+use words::{behind, first, last};
 
 // The answers here are those of derivation, except that the number of words left after a term without move k is not needed.
 // Stays beside the walk of `derivation`, which has the same codes: it must answer where the term ends, by skipping what did not move, and here that is

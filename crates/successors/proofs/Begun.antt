@@ -9,9 +9,9 @@ use Rattle.eb3.specs.Expressions.{Cond}
 use Rattle.eb3.specs.Scopes.{Scope}
 use Rattle.eb3.specs.Terms.{Term, Perform, Sequence, Choice, Star, Parallel, Guard, VisibleAction, Mask}
 use Rattle.eb3.specs.Spelling.{words}
-use Rattle.scan.specs.Checking.{last_of}
-use Rattle.scan.specs.Ends.{Tail}
-use Rattle.scan.specs.Laws.Checking.{part, back_rest}
+use Rattle.words.specs.Checking.{last_of}
+use Rattle.words.specs.Ends.{Tail}
+use Rattle.words.specs.Laws.Checking.{part, back_rest}
 use Rattle.actions.specs.Codes.{action_code}
 use Rattle.listing.specs.Listing.{Fits, TermAt}
 use Rattle.listing.specs.Rows.{terms_words}

@@ -10,8 +10,8 @@ use Rattle.eb3.specs.Expressions.{Cond}
 use Rattle.eb3.specs.Scopes.{Scope}
 use Rattle.eb3.specs.Terms.{Term, Done, Perform, Sequence, Choice, Star, VisibleAction, visible, internal, done?}
 use Rattle.eb3.specs.Spelling.{cond_words, words}
-use Rattle.scan.specs.Checking.{last_of}
-use Rattle.scan.specs.Laws.Checking.{part, last_len, behind_part, behind_fewer}
+use Rattle.words.specs.Checking.{last_of}
+use Rattle.words.specs.Laws.Checking.{part, last_len, behind_part, behind_fewer}
 use Rattle.expressions.specs.Answering.{CondAt}
 use Rattle.actions.specs.Codes.{action_code, ActionAt}
 use Rattle.listing.specs.Listing.{TermAt}

@@ -5,9 +5,9 @@ use Prim.Native.Nat.{ℕ, ◌+◌, ◌-◌, ◌≤◌}
 use native.Mathlib.Omega.{arith}
 use lib.ListN.{length, take, drop, length-append, length-drop, take-append-drop}
 use lib.Seq.{take_at, drop_at, drop-drop, drop-length}
-use Rattle.scan.specs.Checking.{last_of}
-use Rattle.scan.specs.Ends.{Tail}
-use Rattle.scan.specs.Laws.Checking.{tail_on, tail_at, last_length, last_tail, behind_part}
+use Rattle.words.specs.Checking.{last_of}
+use Rattle.words.specs.Ends.{Tail}
+use Rattle.words.specs.Laws.Checking.{tail_on, tail_at, last_length, last_tail, behind_part}
 
 -- ── the last words ──
 

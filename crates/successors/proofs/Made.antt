@@ -6,8 +6,8 @@ use Prim.Native.Nat.{ℕ, ◌+◌, ◌-◌, ◌*◌, ◌≤◌, ◌<◌}
 use native.Mathlib.Omega.{arith}
 use lib.ListN.{length, take, drop, length-append, length-drop}
 use Rattle.eb3.specs.Bytes.{written}
-use Rattle.scan.specs.Checking.{last_of}
-use Rattle.scan.specs.Laws.Checking.{part, back_rest}
+use Rattle.words.specs.Checking.{last_of}
+use Rattle.words.specs.Laws.Checking.{part, back_rest}
 use Rattle.writing.specs.Wrote.{Wrote}
 use Rattle.successors.specs.Parts.{Bounded, Unbuilt, Made, Whole, Added, Going, with_right, Closed}
 use Rattle.successors.specs.declared.Built.{Built}

@@ -9,8 +9,8 @@ use Rattle.eb3.specs.Scopes.{Scope}
 use Rattle.eb3.specs.Terms.{Term, Done, Parallel, Mask, internal}
 use Rattle.eb3.specs.Spelling.{words}
 use Rattle.eb3.specs.Sizes.{size}
-use Rattle.scan.specs.Checking.{last_of}
-use Rattle.scan.specs.Laws.Checking.{part, last_len, behind_part}
+use Rattle.words.specs.Checking.{last_of}
+use Rattle.words.specs.Laws.Checking.{part, last_len, behind_part}
 use Rattle.actions.specs.Codes.{action_code}
 use Rattle.listing.specs.Listing.{TermAt}
 use Rattle.paths.specs.Paths.{followed, within, follow, marked}

@@ -13,7 +13,7 @@ use Rattle.eb3.specs.Reading.{pick}
 use Rattle.eb3.specs.Scopes.{Scope}
 use Rattle.eb3.specs.Terms.{Term, Sequence, Parallel, Mask, done?}
 use Rattle.eb3.specs.Spelling.{words}
-use Rattle.scan.specs.Laws.Checking.{part}
+use Rattle.words.specs.Laws.Checking.{part}
 use Rattle.listing.specs.Laws.ByCode.{by_sequence, by_parallel}
 use Rattle.listing.specs.Listing.{TermAt}
 use Rattle.listing.specs.Laws.Operands.{other_test}

@@ -8,7 +8,7 @@ use lib.ListN.{length, take, drop, length-append, length-drop}
 use lib.Seq.{length-take-le}
 use borrow.Author.Tests.{leb-true, le-leb}
 use Rattle.eb3.specs.Bytes.{written}
-use Rattle.scan.specs.Laws.Checking.{back_rest}
+use Rattle.words.specs.Laws.Checking.{back_rest}
 use Rattle.writing.specs.Wrote.{Wrote}
 use Rattle.writing.specs.Laws.Wrote.{written_then}
 

@@ -7,7 +7,7 @@ use Rattle.eb3.specs.Scopes.{Scope}
 use Rattle.eb3.specs.Terms.{Term}
 use Rattle.eb3.specs.Spelling.{words}
 use Rattle.eb3.specs.Bytes.{written}
-use Rattle.scan.specs.Checking.{last_of}
+use Rattle.words.specs.Checking.{last_of}
 use Rattle.actions.specs.Codes.{action_code}
 use Rattle.listing.specs.Listing.{Fits, TermAt}
 use Rattle.listing.specs.Rows.{terms_words}

@@ -15,8 +15,8 @@ use code_numbers::{ACTION, CHOICE, DONE, GUARD, PARALLEL, SEQUENCE, STAR};
 use conditions::behind_condition;
 use listing::{skip, skip_row};
 use paths::{BOTH_DONE, CHOOSE_LEFT, END, LEFT_MOVES, RIGHT_MOVES};
-use scan::{behind, first, last};
 use unchanged::{behind_size, size_word, unchanged};
+use words::{behind, first, last};
 use writing::{put_word, put_words};
 
 pub mod conditions;
@@ -189,7 +189,7 @@ fn begin_choice(s: &[u16], path: &[u16], out: &mut [u8]) -> Built
 
 // The left operand's successor without the right operand, which comes after it and is passed over. Where the left operand ends is said by
 // the terms that are left of it: to scan the whole of it anew would cost the square of the depth of choices within choices.
-#[tactic(auto, using(scan::specs::Laws::Checking::last_len, scan::specs::Laws::Checking::behind_len))]
+#[tactic(auto, using(words::specs::Laws::Checking::last_len, words::specs::Laws::Checking::behind_len))]
 #[cycle(building)]
 fn begin_chosen(s: &[u16], path: &[u16], out: &mut [u8]) -> Built
     requires { (length s.now ≤ 65535) × (get_or s.now 0 0 ≡ 23) × (get_or path.now 0 0 ≡ 0) }
@@ -215,7 +215,7 @@ fn begin_star(s: &[u16], path: &[u16], out: &mut [u8]) -> Built
 }
 
 // A star's round: the operand's successor, and then the star again.
-#[tactic(auto, using(scan::specs::Laws::Checking::last_len, scan::specs::Laws::Checking::behind_len))]
+#[tactic(auto, using(words::specs::Laws::Checking::last_len, words::specs::Laws::Checking::behind_len))]
 #[cycle(building)]
 fn begin_round(s: &[u16], path: &[u16], out: &mut [u8]) -> Built
     requires { (length s.now ≤ 65535) × (get_or s.now 0 0 ≡ 24) × (get_or path.now 0 0 ≡ 0 → ⊥) }
@@ -230,7 +230,7 @@ fn begin_round(s: &[u16], path: &[u16], out: &mut [u8]) -> Built
     put_behind(z, &s[..n], out)
 }
 
-#[tactic(auto, using(scan::specs::Laws::Checking::last_len))]
+#[tactic(auto, using(words::specs::Laws::Checking::last_len))]
 #[cycle(building)]
 fn begin_parallel(s: &[u16], path: &[u16], out: &mut [u8]) -> Built
     requires { (length s.now ≤ 65535) × (get_or s.now 0 0 ≡ 25) }
@@ -283,7 +283,7 @@ fn begin_both(s: &[u16], n: usize, path: &[u16], out: &mut [u8]) -> Built
 }
 
 // The successor is without the guard.
-#[tactic(auto, using(scan::specs::Laws::Checking::last_len, scan::specs::Laws::Checking::behind_len))]
+#[tactic(auto, using(words::specs::Laws::Checking::last_len, words::specs::Laws::Checking::behind_len))]
 #[cycle(building)]
 fn begin_guard(s: &[u16], path: &[u16], out: &mut [u8]) -> Built
     requires { (length s.now ≤ 65535) × (get_or s.now 0 0 ≡ 26) }

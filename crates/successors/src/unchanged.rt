@@ -6,7 +6,7 @@ ghost use Rattle.successors.specs.Unchanged.{leading_words, Staying, Unchanged};
 
 use code_numbers::{DONE, PARALLEL, SEQUENCE};
 use paths::{LEFT_MOVES, RIGHT_MOVES};
-use scan::{after, behind, first};
+use words::{after, behind, first};
 
 // ── the left operand's size in the path, after the decision ──
 

@@ -9,9 +9,9 @@ use lib.Dec.{eqb, ltb}
 use Rattle.std.specs.Prelude.{Bool, true, false}
 use Rattle.std.proofs.Math.Decide.{dec_le}
 use borrow.Author.Tests.{lt-ltb, le-ltb, le-leb, lt-leb, eq-eqb, ne_eqb}
-use Rattle.scan.specs.Checking.{checked, Checked}
-use Rattle.scan.specs.Laws.Checking.{nil_form, part, by_number_out}
-use Rattle.scan.specs.Laws.Reading.{number_below}
+use Rattle.words.specs.Checking.{checked, Checked}
+use Rattle.words.specs.Laws.Checking.{nil_form, part, by_number_out}
+use Rattle.words.specs.Laws.Reading.{number_below}
 use Rattle.eb3.specs.RuleSets.{domain_size, variable_argument}
 use Rattle.eb3.specs.Reading.{taken, refused, pick, then, number_of, by_number, number_in}
 use Rattle.eb3.specs.RuleReading.{argument_of}

@@ -8,9 +8,9 @@ use mathlib.Core.List.{List, [], ◌∷◌}
 use lib.ListN.{length, drop, get_or, length-drop, drop_of_length-le}
 use lib.Seq.{drop-cons}
 use borrow.Author.Tests.{lt-ltb, le-ltb}
-use Rattle.scan.specs.Checking.{checked, last_of, Checked}
-use Rattle.scan.specs.Ends.{Fine}
-use Rattle.scan.specs.Laws.Checking.{last_all, tail_short, checked_giving, both_in, both_out, last_length, last_last}
+use Rattle.words.specs.Checking.{checked, last_of, Checked}
+use Rattle.words.specs.Ends.{Fine}
+use Rattle.words.specs.Laws.Checking.{last_all, tail_short, checked_giving, both_in, both_out, last_length, last_last}
 use Rattle.eb3.specs.Reading.{Read, refused, taken, pick, giving, then, both, number_of}
 use Rattle.eb3.specs.TermReading.{mask_of}
 use Rattle.eb3.specs.RuleReading.{argument_of, arguments_of}

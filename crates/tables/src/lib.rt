@@ -8,13 +8,13 @@ ghost use Rattle.eb3.specs.Sizes.{zero_mask};
 ghost use Rattle.eb3.specs.RuleSets.{RuleSet, domain_size};
 ghost use Rattle.eb3.specs.TermReading.{mask_of};
 ghost use Rattle.eb3.specs.RuleReading.{argument_of, arguments_of};
-ghost use Rattle.scan.specs.Checking.{checked, last_of};
+ghost use Rattle.words.specs.Checking.{checked, last_of};
 ghost use Rattle.tables.specs.Layout.{label_place, process_place, process_words, domain_count, label_count, function_count, process_count};
 ghost use Rattle.tables.specs.Tables.{row, declared, constant_of_domain, variable_of_domain};
 
 use code_numbers::{CONSTANT, VARIABLE};
 use refusals::Refusal;
-use scan::{behind, first, front, last, number};
+use words::{behind, first, front, last, number};
 
 pub mod layout;
 
@@ -57,7 +57,7 @@ pub fn narrow32(x: usize) -> u32
 }
 
 // The word at a place, or 0 past the end.
-// Stays, as `first` of scan and `word` of actions: std's chain is the generic function, and this names it, so that its uses are short and its contract says
+// Stays, as `first` of words and `word` of actions: std's chain is the generic function, and this names it, so that its uses are short and its contract says
 // get_or once. One function of all three would be generic and public, and each use would give it the 0.
 pub fn entry(tb: &[u32], at: usize) -> u32
     ensures { result ≡ get_or tb.now at 0 }
@@ -149,7 +149,7 @@ fn mask_limit(n: usize) -> usize
 }
 
 // The k words of a mask, where n labels are left.
-// Stays with the tests that `scan::number` makes: with a call of it for each word, which was proved, the check of 900 given parallels takes a tenth more
+// Stays with the tests that `words::number` makes: with a call of it for each word, which was proved, the check of 900 given parallels takes a tenth more
 // instructions, measured.
 // Stays: k does not say how many of the words count, but how many a mask has. All callers give MASK_WORDS; it stays a parameter by a rule of the project, a
 // public function keeps its promise.

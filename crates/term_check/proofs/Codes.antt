@@ -17,7 +17,7 @@ use Rattle.eb3.specs.Terms.{Term, Star, Sequence, Choice}
 use Rattle.eb3.specs.Measures.{sat, leaf, nothing, measure_running}
 use Rattle.eb3.specs.Reading.{Read, refused, taken, giving, both}
 use Rattle.eb3.specs.TermReading.{TermKind, term_kind, action_of, term_by, terms, read_term}
-use Rattle.scan.specs.Laws.Checking.{nil_form}
+use Rattle.words.specs.Laws.Checking.{nil_form}
 use Rattle.measures.specs.declared.Weight.{Weight}
 use Rattle.measures.specs.Weighing.{cap, measure, joint_of}
 use Rattle.tables.specs.Tables.{declared}

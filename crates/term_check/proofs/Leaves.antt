@@ -20,10 +20,10 @@ use Rattle.eb3.specs.Reading.{refused, taken, Reader, pick, giving, then, number
 use Rattle.eb3.specs.TermReading.{elements_of, perform, action_of}
 use Rattle.eb3.proofs.Laws.Reading.{Sound}
 use Rattle.eb3.proofs.Laws.TermReading.{elements_sound}
-use Rattle.scan.specs.Ends.{Fine}
-use Rattle.scan.specs.Laws.Checking.{nil_form, cons_form}
-use Rattle.scan.specs.Readings.{Taken}
-use Rattle.scan.specs.Laws.Reading.{giving_refused_as, giving_taken, same_refused}
+use Rattle.words.specs.Ends.{Fine}
+use Rattle.words.specs.Laws.Checking.{nil_form, cons_form}
+use Rattle.words.specs.Readings.{Taken}
+use Rattle.words.specs.Laws.Reading.{giving_refused_as, giving_taken, same_refused}
 use Rattle.measures.specs.declared.Weight.{Weight}
 use Rattle.measures.specs.Weighing.{cap, measure}
 use Rattle.tables.specs.Layout.{label_place, label_count}

@@ -12,7 +12,7 @@ use Rattle.eb3.specs.Measures.{sat, Measure}
 use Rattle.eb3.specs.Reading.{Read, refused, taken}
 use Rattle.eb3.specs.TermReading.{read_term, term_alone, given_term}
 use Rattle.eb3.proofs.Laws.Sizes.{size_below_reach}
-use Rattle.scan.specs.Laws.Checking.{nil_form}
+use Rattle.words.specs.Laws.Checking.{nil_form}
 use Rattle.measures.specs.Weighing.{cap}
 use Rattle.tables.specs.Tables.{edition_in, declared}
 use Rattle.term_check.specs.declared.Given.{Given}

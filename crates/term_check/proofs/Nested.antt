@@ -14,16 +14,16 @@ use Rattle.eb3.specs.RuleSets.{RuleSet}
 use Rattle.eb3.specs.Measures.{sat, star_of, measure_running}
 use Rattle.eb3.specs.Reading.{Read, taken, pick, giving}
 use Rattle.eb3.specs.TermReading.{TermKind, term_kind, read_term}
-use Rattle.scan.specs.Checking.{last_of}
+use Rattle.words.specs.Checking.{last_of}
 use Rattle.measures.specs.declared.Weight.{Weight}
 use Rattle.measures.specs.Weighing.{cap, measure, stars_of}
 use Rattle.std.specs.Prelude.{Option, Some, None}
 use Rattle.tables.specs.Tables.{declared}
-use Rattle.scan.specs.Readings.{RefusedAs}
-use Rattle.scan.specs.Laws.Reading.{giving_refused_as, same_refused}
+use Rattle.words.specs.Readings.{RefusedAs}
+use Rattle.words.specs.Laws.Reading.{giving_refused_as, same_refused}
 use Rattle.term_check.specs.Given.{Weighed, answer_of, weighed_running}
-use Rattle.scan.specs.Repeats.{leading}
-use Rattle.scan.specs.Laws.Repeats.{leading_short}
+use Rattle.words.specs.Repeats.{leading}
+use Rattle.words.specs.Laws.Repeats.{leading_short}
 use Rattle.term_check.specs.Laws.Reading.{term_case}
 use Rattle.term_check.specs.Laws.Answers.{refused_none, none_read, measure_said, Got, got}
 use Rattle.refusals.specs.declared.Refusal.{Refusal}

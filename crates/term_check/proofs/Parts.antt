@@ -21,10 +21,10 @@ use Rattle.eb3.specs.TermReading.{mask_of, TermKind, term_by, read_term}
 use Rattle.eb3.proofs.Laws.Reading.{Sound}
 use Rattle.eb3.proofs.Laws.ExpressionReading.{cond_sound}
 use Rattle.eb3.proofs.Laws.Spelling.{cond_length}
-use Rattle.scan.specs.Checking.{checked, last_of, Checked}
-use Rattle.scan.specs.Laws.Checking.{last_len}
-use Rattle.scan.specs.Readings.{Taken, RefusedAs}
-use Rattle.scan.specs.Laws.Reading.{checked_refused, checked_taken, giving_refused_as, giving_taken, both_first_as, both_second_as, both_taken, both_behind, same_refused}
+use Rattle.words.specs.Checking.{checked, last_of, Checked}
+use Rattle.words.specs.Laws.Checking.{last_len}
+use Rattle.words.specs.Readings.{Taken, RefusedAs}
+use Rattle.words.specs.Laws.Reading.{checked_refused, checked_taken, giving_refused_as, giving_taken, both_first_as, both_second_as, both_taken, both_behind, same_refused}
 use Rattle.expression_check.specs.Laws.Reading.{cond_ends}
 use Rattle.measures.specs.declared.Weight.{Weight}
 use Rattle.measures.specs.Weighing.{cap, measure, parallel_by, joint_of}

@@ -19,9 +19,9 @@ use code_numbers::{ACTION, CHOICE, CONSTANT, GUARD, INTERNAL, PARALLEL, SEQUENCE
 use codes::{Due, code_due};
 use expression_check::{Scope, check_cond};
 use measures::{Joint, Limits, Weight, empty, guard, single, stars};
-use scan::repeats::leading;
-use scan::{behind, last};
 use tables::{MASK_WORDS, check_mask, functions, label_row, labels, mask_zero, size_of};
+use words::repeats::leading;
+use words::{behind, last};
 
 // The reach and the breadth of a given term.
 #[derive(Clone, Copy)]

@@ -16,8 +16,8 @@ use Rattle.std.specs.Int.{w16, to_le_bytes}
 use Rattle.eb3.specs.Bytes.{bytes_of, written}
 use Rattle.eb3.specs.Reading.{pick}
 use Rattle.eb3.specs.Spelling.{number_words, arguments_words}
-use Rattle.scan.specs.Checking.{last_of}
-use Rattle.scan.specs.Laws.Checking.{part}
+use Rattle.words.specs.Checking.{last_of}
+use Rattle.words.specs.Laws.Checking.{part}
 use Rattle.tables.specs.Layout.{label_place}
 use Rattle.tables.specs.Tables.{from, row}
 use Rattle.std.specs.Prelude.{Option, Some, None, ⊤, ◌⊎◌}

@@ -19,7 +19,7 @@ use Rattle.eb3.specs.Unfolding.{argument_value, instantiate_cond, right_nest, un
 use Rattle.eb3.proofs.Laws.Unfolding.{call_unfolds}
 use Rattle.eb3.proofs.Laws.Elements.{within_counted, within_more, arguments_within}
 use Rattle.eb3.specs.WellFormedness.{ArgumentsFit, Allowed}
-use Rattle.scan.specs.Checking.{last_of}
+use Rattle.words.specs.Checking.{last_of}
 use Rattle.tables.specs.Layout.{label_place, process_place, body_at}
 use Rattle.tables.specs.Tables.{from, row, declared}
 use Rattle.tables.specs.Laws.Editions.{width_in_tables}

@@ -10,8 +10,8 @@ use Rattle.std.proofs.lemmas.List.{length-take, length-set, take-take, take-set-
 use borrow.Author.Tests.{ne_eqb}
 use Rattle.eb3.specs.RuleSets.{domain_size}
 use Rattle.eb3.specs.RuleSpelling.{rule_words}
-use Rattle.scan.specs.Checking.{last_of}
-use Rattle.scan.specs.Laws.Checking.{nil_form}
+use Rattle.words.specs.Checking.{last_of}
+use Rattle.words.specs.Laws.Checking.{nil_form}
 use Rattle.tables.specs.Layout.{process_place, body_at}
 use Rattle.tables.specs.Tables.{from, row, declared}
 use Rattle.std.specs.Prelude.{Option, Some, None, ⊤}

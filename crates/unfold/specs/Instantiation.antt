@@ -8,7 +8,7 @@ use Rattle.eb3.specs.Expressions.{Data, Undefined, Constant, Variable, Add, Subt
 use Rattle.eb3.specs.Reading.{pick}
 use Rattle.eb3.specs.Spelling.{data_words, cond_words}
 use Rattle.eb3.specs.Unfolding.{instantiate_data, instantiate_cond}
-use Rattle.scan.specs.Checking.{last_of}
+use Rattle.words.specs.Checking.{last_of}
 use Rattle.codes.specs.Shapes.{more_words}
 
 pub data Expression : Type 0 where

@@ -4,7 +4,7 @@ use Rattle.std.specs.Prelude.{◌≡◌, List, [], ◌∷◌, ◌++◌, ℕ, zer
 use Rattle.eb3.specs.Reading.{pick}
 use Rattle.eb3.specs.RuleSets.{RuleTerm, RuleSet, domain_size}
 use Rattle.eb3.specs.Spelling.{arguments_words}
-use Rattle.scan.specs.Checking.{last_of}
+use Rattle.words.specs.Checking.{last_of}
 use Rattle.tables.specs.Layout.{label_place, process_place, body_at}
 use Rattle.tables.specs.Tables.{from, row, declared}
 use Rattle.unfold.specs.Unfolded.{Ready, RuleTermAt, unfolded_words}

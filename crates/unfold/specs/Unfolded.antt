@@ -8,7 +8,7 @@ use Rattle.eb3.specs.Spelling.{words}
 use Rattle.eb3.specs.Unfolding.{unfold_in, unfold_main}
 use Rattle.eb3.specs.WellFormedness.{Form, Allowed}
 use Rattle.eb3.specs.Bytes.{written}
-use Rattle.scan.specs.Checking.{last_of}
+use Rattle.words.specs.Checking.{last_of}
 use Rattle.declarations.specs.Declaring.{Declares}
 use Rattle.declarations.specs.Directory.{ProcessRows}
 use Rattle.unfold.specs.declared.scope.Scope.{Scope}

@@ -23,11 +23,11 @@ use code_numbers::{
     ACTION, CALL, CHOICE, CHOICE_OVER, GUARD, INTERNAL, PARALLEL, PARALLEL_OVER, SEQUENCE, STAR,
 };
 use rows::{action, condition};
-use scan::{first, last};
 use scope::Scope;
 use tables::layout::BODY;
 use tables::{Context, MASK_WORDS, parameters_row, process_entry, processes, size_of, with};
 use values::arguments_of;
+use words::{first, last};
 use writer::Writer;
 
 // What joins two terms.

@@ -10,8 +10,8 @@ use super::values::argument;
 use super::writer::Writer;
 use code_numbers::{ACTION, CONSTANT, GUARD, VARIABLE};
 use codes::{EDITION_1, code_at, operands_after, words_after};
-use scan::{behind, first, last};
 use tables::label_row;
+use words::{behind, first, last};
 
 // The front of an expression; a variable's becomes a constant's.
 fn put_front(front: &[u16], vars: &[u16], out: &mut Writer) -> Option<()>

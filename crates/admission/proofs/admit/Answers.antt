@@ -1,5 +1,5 @@
 use mathlib.Core.Path.{ap}
-use Rattle.scan.specs.Laws.Reading.{handed_on}
+use Rattle.words.specs.Laws.Reading.{handed_on}
 use Rattle.blocks.specs.Opening.{counted}
 use Rattle.admission.specs.Laws.Opening.{admit_refused, admit_read}
 use Rattle.admission.proofs.admit.Goals as goal

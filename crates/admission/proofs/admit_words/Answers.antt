@@ -1,6 +1,6 @@
 use native.Mathlib.Omega.{arith}
 use mathlib.Core.Path.{refl}
-use Rattle.scan.specs.Laws.Reading.{handed_err}
+use Rattle.words.specs.Laws.Reading.{handed_err}
 use Rattle.admission.proofs.Cases.{words_refused, words_few, words_long, words_behind, words_judged}
 use Rattle.admission.proofs.admit_words.Goals as goal
 

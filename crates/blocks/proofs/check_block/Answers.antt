@@ -1,7 +1,7 @@
 -- In order: the block's number is wrong; it is right and the first sum is right; the first sum is wrong.
 use mathlib.Core.Path.{◌∙◌}
 use native.Mathlib.Omega.{arith}
-use Rattle.scan.specs.Laws.Words.{word_at}
+use Rattle.words.specs.Laws.Words.{word_at}
 use Rattle.blocks.proofs.Right.{number_wrong, sum_wrong, sum_right}
 use Rattle.blocks.proofs.check_block.Goals as goal
 

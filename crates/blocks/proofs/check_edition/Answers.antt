@@ -4,7 +4,7 @@ use Prim.Native.Nat.{◌+◌, ◌*◌}
 use native.Mathlib.Omega.{arith}
 use lib.ListN.{get_or}
 use borrow.Author.Tests.{ne_eqb}
-use Rattle.scan.specs.Laws.Words.{word_at}
+use Rattle.words.specs.Laws.Words.{word_at}
 use Rattle.blocks.proofs.Right.{wrong, right}
 use Rattle.blocks.proofs.check_edition.Goals as goal
 

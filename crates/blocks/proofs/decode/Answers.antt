@@ -1,6 +1,6 @@
 use mathlib.Core.Path.{◌∙◌}
 use native.Mathlib.Omega.{arith}
-use Rattle.scan.specs.Laws.Words.{word_at}
+use Rattle.words.specs.Laws.Words.{word_at}
 use Rattle.blocks.proofs.Joining.{decode_next, decode_end}
 use Rattle.blocks.proofs.decode.Goals as goal
 

@@ -14,8 +14,8 @@ use Rattle.eb3.proofs.Laws.Attributes.{apply_numbers}
 use Rattle.eb3.specs.Scopes.{DataInScope}
 use Rattle.eb3.specs.Cells.{offset, cells_up_to}
 use Rattle.eb3.specs.Spelling.{data_words}
-use Rattle.scan.specs.Checking.{last_of}
-use Rattle.scan.specs.Laws.Checking.{last_behind}
+use Rattle.words.specs.Checking.{last_of}
+use Rattle.words.specs.Laws.Checking.{last_behind}
 use Rattle.expressions.specs.declared.valued.Valued.{Valued}
 use Rattle.expressions.specs.Stores.{stored, row_place, now_place, before_place, cell_in, reading_in, variable_in, environment_in, parameter_place, argument_place, old_cells_place, begin_place}
 use Rattle.expressions.specs.Answering.{DataAt, Evaluated}

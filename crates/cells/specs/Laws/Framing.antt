@@ -4,7 +4,7 @@ use Rattle.std.specs.Prelude.{◌≡◌, refl, true, List, ℕ, ◌+◌, ◌≤�
 use Rattle.std.proofs.Common.{sym, ap, subst, ◌∙◌, arith, lit<, length-set}
 use Rattle.std.proofs.Math.Decide.{ℕ_discrete, dec_lt}
 use Rattle.std.proofs.Math.ListN.{get_or-eq_default}
-use Rattle.scan.specs.Checking.{last_of}
+use Rattle.words.specs.Checking.{last_of}
 use Rattle.expressions.specs.declared.valued.Valued.{Valued}
 use Rattle.expressions.specs.Stores.{stored, row_place, before_place, parameter_place, argument_place, begin_place, now_place}
 use Rattle.expressions.specs.Answering.{Evaluated}

@@ -17,7 +17,7 @@ use Rattle.eb3.specs.Attributes.{Attributes, domain, function, expression, varia
 use Rattle.eb3.proofs.Laws.Attributes.{apply_cong}
 use Rattle.eb3.specs.Cells.{cell_count, offset, total_cells, cell_at, cells_up_to}
 use Rattle.eb3.proofs.Laws.Cells.{length_cells, cells_apart, renewed}
-use Rattle.scan.specs.Checking.{last_of}
+use Rattle.words.specs.Checking.{last_of}
 use Rattle.expressions.specs.declared.valued.Valued.{Valued}
 use Rattle.expressions.specs.Stores.{stored, row_place, now_place, before_place, cell_in, reading_in, variable_in, environment_in, parameter_place, argument_place, old_cells_place, begin_place}
 use Rattle.expressions.specs.Answering.{DataAt, Evaluated}

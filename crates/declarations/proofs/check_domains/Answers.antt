@@ -1,6 +1,6 @@
 use Rattle.std.proofs.Common.{rules}
 use Rattle.eb3.specs.Reading.{count_of}
-use Rattle.scan.specs.Laws.Rows.{count_ends}
+use Rattle.words.specs.Laws.Rows.{count_ends}
 use Rattle.declarations.proofs.check_domains.Goals as goal
 
 pub returns : goal.returns

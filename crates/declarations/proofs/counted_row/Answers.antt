@@ -1,6 +1,6 @@
 use mathlib.Core.Path.{refl}
-use Rattle.scan.specs.Laws.Reading.{handed_on}
-use Rattle.scan.specs.Laws.Rows.{counted_in, counted_out, loop_start, loop_fail, loop_next, loop_end}
+use Rattle.words.specs.Laws.Reading.{handed_on}
+use Rattle.words.specs.Laws.Rows.{counted_in, counted_out, loop_start, loop_fail, loop_next, loop_end}
 use Rattle.declarations.proofs.counted_row.Goals as goal
 
 pub returns-in_err-m : goal.returns-in_err-m

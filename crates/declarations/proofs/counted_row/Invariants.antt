@@ -1,9 +1,9 @@
 use Rattle.std.specs.Prelude.{◌≡◌, List, ℕ}
 use Rattle.std.specs.Fn.{FnReturnsAt}
 use Rattle.eb3.specs.Reading.{Reader}
-use Rattle.scan.specs.Checking.{Checked, checked}
-use Rattle.scan.specs.Ends.{Ends}
-use Rattle.scan.specs.Laws.Rows.{Repeating}
+use Rattle.words.specs.Checking.{Checked, checked}
+use Rattle.words.specs.Ends.{Ends}
+use Rattle.words.specs.Laws.Rows.{Repeating}
 use Rattle.declarations.proofs.counted_row.Given as goal
 
 -- As many words as turns are read, by any reader that answers as `one`.

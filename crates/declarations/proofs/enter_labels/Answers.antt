@@ -1,5 +1,5 @@
 use Rattle.declarations.proofs.Cases.{entering_start, entering_fail, entering_front, entering_next, entering_end}
-use Rattle.scan.specs.Laws.Reading.{handed_err}
+use Rattle.words.specs.Laws.Reading.{handed_err}
 use Rattle.declarations.proofs.enter_labels.Goals as goal
 
 pub loop-i-init : goal.loop-i-init

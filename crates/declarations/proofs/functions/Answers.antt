@@ -1,5 +1,5 @@
 use Rattle.declarations.proofs.NotingCases.{functions_start, functions_fail, functions_more, functions_end}
-use Rattle.scan.specs.Laws.Reading.{handed_err}
+use Rattle.words.specs.Laws.Reading.{handed_err}
 use Rattle.declarations.proofs.functions.Goals as goal
 
 pub loop-j-init : goal.loop-j-init

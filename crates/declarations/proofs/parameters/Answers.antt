@@ -1,6 +1,6 @@
 use Rattle.std.proofs.Common.{rules}
 use Rattle.eb3.specs.Reading.{number_of}
-use Rattle.scan.specs.Laws.Checking.{number_ends}
+use Rattle.words.specs.Laws.Checking.{number_ends}
 use Rattle.declarations.proofs.parameters.Goals as goal
 
 pub returns : goal.returns

@@ -5,9 +5,9 @@ use Rattle.eb3.specs.Editions.{Edition}
 use Rattle.eb3.specs.Reading.{both, number_of, repeat, for_each, series}
 use Rattle.eb3.specs.ExpressionReading.{read_data}
 use Rattle.eb3.specs.RuleReading.{count_for, at_start_scope, at_label_scope, function_from, read_function}
-use Rattle.scan.specs.Ends.{Ends}
-use Rattle.scan.specs.Laws.Checking.{giving_fine, both_ends, number_ends}
-use Rattle.scan.specs.Laws.Rows.{repeat_ends, for_each_ends, series_ends}
+use Rattle.words.specs.Ends.{Ends}
+use Rattle.words.specs.Laws.Checking.{giving_fine, both_ends, number_ends}
+use Rattle.words.specs.Laws.Rows.{repeat_ends, for_each_ends, series_ends}
 use Rattle.expression_check.specs.Laws.Reading.{data_ends}
 
 module _ (L : Edition) (d : ℕ) (labels : List (List ℕ)) (counts : List ℕ) where

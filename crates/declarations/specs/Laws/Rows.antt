@@ -6,10 +6,10 @@ use Rattle.std.proofs.Common.{arith, sym, ap, ◌∙◌, inl, inr, ⊎_elim, len
 use Rattle.std.proofs.Math.Seq.{paste, take-append_seam, take-length}
 use Rattle.eb3.specs.Reading.{Read, refused, taken, Reader, pick, giving, then, both, number_of, count_of, repeat, counted}
 use Rattle.eb3.specs.RuleReading.{read_domains}
-use Rattle.scan.specs.Checking.{checked, last_of, Checked}
-use Rattle.scan.specs.Ends.{Ends, Fine}
-use Rattle.scan.specs.Laws.Checking.{tail_at, number_ends}
-use Rattle.scan.specs.Laws.Rows.{counted_ends, count_ends}
+use Rattle.words.specs.Checking.{checked, last_of, Checked}
+use Rattle.words.specs.Ends.{Ends, Fine}
+use Rattle.words.specs.Laws.Checking.{tail_at, number_ends}
+use Rattle.words.specs.Laws.Rows.{counted_ends, count_ends}
 use Rattle.tables.specs.Tables.{row}
 use Rattle.declarations.specs.Entering.{put_row}
 use Rattle.declarations.specs.Rows.{One, RowAt}

@@ -1,11 +1,11 @@
-use Rattle.scan.specs.Checking.{last_of}
+use Rattle.words.specs.Checking.{last_of}
 use Rattle.derivation.proofs.Sides.{both_none_right, both_none_left, both_made, sides_none_left, sides_left_made, sides_none_right, sides_right_made}
 use Rattle.std.proofs.Common.{rules}
 use lib.ListN.{drop}
 use lib.Seq.{length-take-le}
 use mathlib.Core.Path.{refl, sym, ap, ◌∙◌}
 use lib.Dec.{lit<}
-use Rattle.scan.specs.Laws.Checking.{last_len}
+use Rattle.words.specs.Laws.Checking.{last_len}
 use Rattle.derivation.specs.Lending.{answered}
 use Rattle.derivation.specs.Laws.Answers.{sized, decided_as}
 use Rattle.derivation.specs.Laws.Outcomes.{decided_path}

@@ -3,7 +3,7 @@ use mathlib.Core.Path.{◌≡◌}
 use Rattle.std.specs.Prelude.{Err}
 use Rattle.eb3.specs.Reading.{repeat}
 use Rattle.eb3.specs.ExpressionReading.{read_data, read_cond}
-use Rattle.scan.specs.Checking.{checked}
+use Rattle.words.specs.Checking.{checked}
 use Rattle.expression_check.specs.Scoping.{scope}
 use Rattle.expression_check.proofs.RowCases.{rows}
 use Rattle.expression_check.proofs.+rows.Goals as goal

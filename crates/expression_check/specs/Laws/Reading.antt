@@ -12,9 +12,9 @@ use Rattle.eb3.specs.Expressions.{Data, Cons, Constant, Variable, If, Not}
 use Rattle.eb3.specs.Scopes.{Scope}
 use Rattle.eb3.specs.Reading.{refused, taken, Reader, pick, giving, both, number_of, number_in}
 use Rattle.eb3.specs.ExpressionReading.{DataKind, CondKind, Readers, data_kind, cond_kind, constant_of, args_of, data_by, cond_by, data_step, cond_step, readers, read_data, read_cond}
-use Rattle.scan.specs.Ends.{Ends, Same}
-use Rattle.scan.specs.Laws.Checking.{tail_here, giving_fine, then_fine, pick_fine, both_ends, step_fine, number_ends, both_same, by_number_ends, by_number_same}
-use Rattle.scan.specs.Laws.Rows.{number_in_ends}
+use Rattle.words.specs.Ends.{Ends, Same}
+use Rattle.words.specs.Laws.Checking.{tail_here, giving_fine, then_fine, pick_fine, both_ends, step_fine, number_ends, both_same, by_number_ends, by_number_same}
+use Rattle.words.specs.Laws.Rows.{number_in_ends}
 
 -- ── codes ──
 

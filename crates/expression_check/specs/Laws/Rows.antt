@@ -3,9 +3,9 @@
 use Rattle.std.specs.Prelude.{ℕ, suc, ◌≡◌, refl, List, []}
 use Rattle.std.proofs.Common.{sym, ap, ◌∙◌}
 use Rattle.eb3.specs.Reading.{Read, refused, taken, Reader, giving, then, both, repeat}
-use Rattle.scan.specs.Checking.{checked}
-use Rattle.scan.specs.Laws.Checking.{checked_giving, then_checked}
-use Rattle.scan.specs.Laws.Rows.{repeat_next}
+use Rattle.words.specs.Checking.{checked}
+use Rattle.words.specs.Laws.Checking.{checked_giving, then_checked}
+use Rattle.words.specs.Laws.Rows.{repeat_next}
 
 -- Only the words that are left, or the refusal.
 unfoldable pub forget : {A : Type 0} → Read A → Read (Unit {0})

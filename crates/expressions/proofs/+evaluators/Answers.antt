@@ -1,4 +1,4 @@
-use Rattle.scan.specs.Laws.Checking.{last_len, behind_len}
+use Rattle.words.specs.Laws.Checking.{last_len, behind_len}
 use Rattle.expressions.proofs.Cases.{paired, joined, negated, named, select_second, select_first}
 use Rattle.expressions.proofs.Fronts.{handed, data_constant, data_variable, data_sum, data_difference, data_selection, data_present, data_past, data_none, cond_equality, cond_order, cond_conjunction, cond_disjunction, cond_negation, cond_truism}
 use Rattle.expressions.specs.Operands.{operated, connected}
@@ -6,7 +6,7 @@ use native.Mathlib.Omega.{arith}
 use mathlib.Core.Path.{refl, ap, sym, ◌∙◌}
 use lib.Dec.{eqb}
 use mir.Val.{bool_byte}
-use Rattle.scan.specs.Checking.{last_of}
+use Rattle.words.specs.Checking.{last_of}
 use Rattle.expressions.specs.Answering.{answer}
 use Rattle.expressions.proofs.+evaluators.Goals as goal
 use Rattle.expressions.proofs.+evaluators.Goals.{eval_data-in-1, eval_data-in-2, eval_data-in-3, eval_data-in-4, eval_data-in-5, eval_data-in-6, eval_data-in-7, eval_data-in_default, selected-then-truth_of-eq0, selected-else-truth_of-eq0}

@@ -9,8 +9,8 @@ use Rattle.eb3.specs.Expressions.{Data, Undefined, Constant, Variable, Add, Subt
 use Rattle.eb3.proofs.Laws.Attributes.{apply_at_most}
 use Rattle.eb3.specs.Scopes.{Scope, DataInScope}
 use Rattle.eb3.specs.Spelling.{data_words, cond_words}
-use Rattle.scan.specs.Checking.{last_of}
-use Rattle.scan.specs.Laws.Checking.{last_behind}
+use Rattle.words.specs.Checking.{last_of}
+use Rattle.words.specs.Laws.Checking.{last_behind}
 use Rattle.expressions.specs.declared.valued.Valued.{Valued}
 use Rattle.expressions.specs.Stores.{largest_number, cell_in, reading_in, variable_in, environment_in, before_place, now_place}
 use Rattle.expressions.specs.Answering.{value_word, truth, answer, Plain, DataAt, CondAt, Evaluated, Judged}

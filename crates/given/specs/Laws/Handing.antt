@@ -1,7 +1,7 @@
 -- What `.ok_or(..)?` hands on: the value that there is, or the refusal in its place (document 01, "Operations": a call answers its first refusal).
 use Rattle.std.specs.Prelude.{◌≡◌, Option, Some, None, ok_or, Result, Ok, Err, IsErr, IsErrAnd}
 use Rattle.std.proofs.Common.{sym, ap, ◌∙◌, refl}
-use Rattle.scan.specs.Laws.Reading.{handed_err}
+use Rattle.words.specs.Laws.Reading.{handed_err}
 use Rattle.refusals.specs.declared.Refusal.{Refusal}
 
 module _ {A : Type 0} (k : Refusal) where

@@ -7,8 +7,8 @@ use Rattle.eb3.specs.Expressions.{Cond}
 use Rattle.eb3.specs.Scopes.{Scope}
 use Rattle.eb3.specs.Terms.{Term, Done, Internal, Perform, Sequence, Choice, Star, Parallel, Guard, done?}
 use Rattle.eb3.specs.Spelling.{cond_words, words}
-use Rattle.scan.specs.Checking.{last_of}
-use Rattle.scan.specs.Laws.Checking.{last_behind}
+use Rattle.words.specs.Checking.{last_of}
+use Rattle.words.specs.Laws.Checking.{last_behind}
 use Rattle.expressions.specs.Answering.{truth, answer, Judged}
 use Rattle.expressions.specs.Laws.Answering.{truth_word}
 use Rattle.listing.specs.Listing.{TermAt, holding}

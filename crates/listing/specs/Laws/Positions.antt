@@ -9,8 +9,8 @@ use Rattle.eb3.specs.Expressions.{Cond}
 use Rattle.eb3.specs.Scopes.{Scope}
 use Rattle.eb3.specs.Terms.{Term, Done, Internal, Perform, Sequence, Choice, Star, Parallel, Guard, VisibleAction}
 use Rattle.eb3.specs.Spelling.{arguments_words, cond_words, words}
-use Rattle.scan.specs.Checking.{last_of}
-use Rattle.scan.specs.Laws.Checking.{last_behind}
+use Rattle.words.specs.Checking.{last_of}
+use Rattle.words.specs.Laws.Checking.{last_behind}
 use Rattle.expressions.specs.Answering.{Plain}
 use Rattle.actions.specs.Codes.{Closed, ActionAt}
 use Rattle.listing.specs.Listing.{Fits, TermAt}

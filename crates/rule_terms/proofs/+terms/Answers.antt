@@ -1,8 +1,8 @@
 use mathlib.Core.Path.{ap}
 use native.Mathlib.Omega.{arith}
 use lib.ListN.{length, length-drop}
-use Rattle.scan.specs.Laws.Checking.{last_len, by_number_pos}
-use Rattle.scan.specs.Laws.Reading.{handed_on}
+use Rattle.words.specs.Laws.Checking.{last_len, by_number_pos}
+use Rattle.words.specs.Laws.Reading.{handed_on}
 use Rattle.rule_terms.proofs.Codes.{term_refused, term_internal, parts, binders}
 use Rattle.rule_terms.proofs.Stars.{around}
 use Rattle.rule_terms.proofs.+terms.Goals as goal

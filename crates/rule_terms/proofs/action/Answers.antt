@@ -1,4 +1,4 @@
-use Rattle.scan.specs.Laws.Reading.{handed_on}
+use Rattle.words.specs.Laws.Reading.{handed_on}
 use Rattle.rule_terms.proofs.Leaves.{leaves}
 use Rattle.rule_terms.proofs.action.Goals as goal
 

@@ -11,8 +11,8 @@ use Rattle.eb3.specs.RuleSets.{Argument, RuleTerm, rule_perform, rule_star, rule
 use Rattle.eb3.specs.Reading.{Reader, giving, both, by_number}
 use Rattle.eb3.specs.ExpressionReading.{read_cond}
 use Rattle.eb3.specs.RuleReading.{arguments_of, rule_action_of, call_of, rule_mask_of, choice_over_of, parallel_over_of, RuleKind, rule_kind, rule_by, rule_terms, read_rule_term}
-use Rattle.scan.specs.Ends.{Ends, Same}
-use Rattle.scan.specs.Laws.Checking.{tail_here, giving_fine, both_ends, step_fine, both_same, by_number_ends, by_number_same}
+use Rattle.words.specs.Ends.{Ends, Same}
+use Rattle.words.specs.Laws.Checking.{tail_here, giving_fine, both_ends, step_fine, both_same, by_number_ends, by_number_same}
 use Rattle.expression_check.specs.Laws.Reading.{cond_ends}
 use Rattle.tables.specs.Laws.Tables.{mask_ends, arguments_end}
 

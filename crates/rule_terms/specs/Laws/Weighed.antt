@@ -8,11 +8,11 @@ use Rattle.std.proofs.Math.ListN.{length}
 use Rattle.eb3.specs.RuleSets.{RuleTerm, RuleSet}
 use Rattle.eb3.specs.Measures.{sat, Measure, measure_term}
 use Rattle.eb3.specs.Reading.{Read, refused, taken}
-use Rattle.scan.specs.Checking.{last_of}
-use Rattle.scan.specs.Ends.{Fine}
-use Rattle.scan.specs.Laws.Checking.{tail_at, tail_short}
-use Rattle.scan.specs.Readings.{Taken, RefusedAs}
-use Rattle.scan.specs.Laws.Refusing.{refused_number}
+use Rattle.words.specs.Checking.{last_of}
+use Rattle.words.specs.Ends.{Fine}
+use Rattle.words.specs.Laws.Checking.{tail_at, tail_short}
+use Rattle.words.specs.Readings.{Taken, RefusedAs}
+use Rattle.words.specs.Laws.Refusing.{refused_number}
 use Rattle.eb3.specs.RuleReading.{read_rule_term}
 use Rattle.eb3.proofs.Laws.Refusals.{Refuses, rule_term_refuses}
 use Rattle.measures.specs.declared.Weight.{Weight}

@@ -3,7 +3,7 @@ use lib.ListN.{drop}
 use Rattle.rules.proofs.ProcessCases.{row_ends, process_in, processing}
 use lib.ListN.{length-take}
 use native.Mathlib.Omega.{arith}
-use Rattle.scan.specs.Laws.Reading.{handed_on}
+use Rattle.words.specs.Laws.Reading.{handed_on}
 use mathlib.Core.Path.{refl}
 use Rattle.rules.proofs.check_process.Goals as goal
 

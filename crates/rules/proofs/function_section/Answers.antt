@@ -1,7 +1,7 @@
-use Rattle.scan.specs.Laws.Checking.{last_len}
+use Rattle.words.specs.Laws.Checking.{last_len}
 use Rattle.rules.proofs.FunctionCases.{functions_bounded, functions_none, functions_in, functions_out, joined_found, joined_refused}
 use native.Mathlib.Omega.{arith}
-use Rattle.scan.specs.Laws.Reading.{handed_err}
+use Rattle.words.specs.Laws.Reading.{handed_err}
 use mathlib.Core.Path.{refl}
 use Rattle.rules.proofs.function_section.Goals as goal
 

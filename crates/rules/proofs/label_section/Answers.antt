@@ -1,7 +1,7 @@
-use Rattle.scan.specs.Laws.Checking.{last_len}
+use Rattle.words.specs.Laws.Checking.{last_len}
 use Rattle.rules.proofs.SectionCases.{labels_asks, labels_none, labels_in, labels_out, labels_bounded}
 use native.Mathlib.Omega.{arith}
-use Rattle.scan.specs.Laws.Reading.{handed_err}
+use Rattle.words.specs.Laws.Reading.{handed_err}
 use mathlib.Core.Path.{refl}
 use Rattle.rules.proofs.label_section.Goals as goal
 

@@ -1,7 +1,7 @@
-use Rattle.scan.specs.Laws.Checking.{last_len}
+use Rattle.words.specs.Laws.Checking.{last_len}
 use Rattle.rules.proofs.SectionCases.{section_asks, section_in, section_out}
 use native.Mathlib.Omega.{arith}
-use Rattle.scan.specs.Laws.Reading.{handed_err}
+use Rattle.words.specs.Laws.Reading.{handed_err}
 use Rattle.rules.proofs.process_section.Goals as goal
 
 pub processes-requires : goal.processes-requires

@@ -1,6 +1,6 @@
 use native.Mathlib.Omega.{arith}
-use Rattle.scan.specs.Laws.Checking.{last_len}
-use Rattle.scan.specs.Laws.Reading.{handed_err}
+use Rattle.words.specs.Laws.Checking.{last_len}
+use Rattle.words.specs.Laws.Reading.{handed_err}
 use Rattle.rules.proofs.ProcessCases.{going_start, going_refused, going_front, going_next}
 use Rattle.rules.proofs.processes.Goals as goal
 

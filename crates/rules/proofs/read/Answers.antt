@@ -1,7 +1,7 @@
-use Rattle.scan.specs.Laws.Checking.{last_len}
+use Rattle.words.specs.Laws.Checking.{last_len}
 use Rattle.rules.proofs.SectionCases.{read_front, read_asks, read_in, read_out}
 use native.Mathlib.Omega.{arith}
-use Rattle.scan.specs.Laws.Reading.{handed_err}
+use Rattle.words.specs.Laws.Reading.{handed_err}
 use Rattle.rules.proofs.read.Goals as goal
 
 pub slice_bounds-copy-end-2 : goal.slice_bounds-copy-end-2

@@ -13,10 +13,10 @@ use Rattle.eb3.specs.RuleSpelling.{rule_words}
 use Rattle.eb3.specs.RuleReading.{parameter_limit, read_rule_term, read_process, with_process, read_processes}
 use Rattle.measures.specs.Weighing.{cap, measure, weight}
 use Rattle.measures.specs.declared.Weight.{Weight}
-use Rattle.scan.specs.Checking.{last_of}
-use Rattle.scan.specs.Ends.{Tail, Fine, Ends}
-use Rattle.scan.specs.Laws.Checking.{then_fine, giving_fine, tail_at, tail_short, number_ends}
-use Rattle.scan.specs.Laws.Rows.{counted_ends}
+use Rattle.words.specs.Checking.{last_of}
+use Rattle.words.specs.Ends.{Tail, Fine, Ends}
+use Rattle.words.specs.Laws.Checking.{then_fine, giving_fine, tail_at, tail_short, number_ends}
+use Rattle.words.specs.Laws.Rows.{counted_ends}
 use Rattle.rule_terms.specs.Laws.Reading.{term_ends}
 use Rattle.tables.specs.Layout.{process_place, body_in, process_count, body_at}
 use Rattle.tables.specs.Tables.{declared, callee}
@@ -33,8 +33,8 @@ use Rattle.rules.specs.Sections.{process_weighed, main_weighed}
 use Rattle.rules.specs.Laws.Answers.{IsFound, found_in, refusal_in}
 use Rattle.rule_terms.specs.declared.Weighed.{Weighed}
 use Rattle.rule_terms.specs.Weighed.{Answer, found}
-use Rattle.scan.specs.Readings.{RefusedAs}
-use Rattle.scan.specs.Laws.Refusing.{refused_number}
+use Rattle.words.specs.Readings.{RefusedAs}
+use Rattle.words.specs.Laws.Refusing.{refused_number}
 use Rattle.eb3.proofs.Laws.Refusals.{process_refuses}
 use Rattle.refusals.specs.declared.Refusal.{Refusal}
 use Rattle.refusals.specs.Numbers.{number}

@@ -24,9 +24,9 @@ use Rattle.eb3.proofs.Laws.Judging.{whole_refused, whole_taken}
 use Rattle.eb3.specs.Judging.{whole_of}
 use Rattle.measures.specs.Weighing.{cap, measure}
 use Rattle.measures.specs.declared.Weight.{Weight}
-use Rattle.scan.specs.Checking.{last_of}
-use Rattle.scan.specs.Laws.Checking.{behind_part}
-use Rattle.scan.specs.Laws.Refusing.{refused_number}
+use Rattle.words.specs.Checking.{last_of}
+use Rattle.words.specs.Laws.Checking.{behind_part}
+use Rattle.words.specs.Laws.Refusing.{refused_number}
 use Rattle.rules.specs.declared.Rules.{Rules}
 use Rattle.rules.specs.Sections.{rules_weighed, found_rules}
 use Rattle.rules.specs.Laws.Answers.{IsFound, found_in, refusal_in}

@@ -1,5 +1,5 @@
 use Rattle.std.proofs.Common.{◌≡◌, refl, rules}
-use Rattle.scan.specs.Laws.Checking.{last_len}
+use Rattle.words.specs.Laws.Checking.{last_len}
 use Rattle.sharing.proofs.ChangingParts.{part_written, part_unplaced, part_lost}
 use native.Mathlib.Omega.{arith}
 use Rattle.sharing.proofs.change_part.Goals as goal

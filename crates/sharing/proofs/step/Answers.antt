@@ -1,6 +1,6 @@
 use mathlib.Core.Path.{◌≡◌, ap}
 use Rattle.std.proofs.Common.{rules}
-use Rattle.scan.specs.Laws.Checking.{part}
+use Rattle.words.specs.Laws.Checking.{part}
 use Rattle.sharing.specs.Walking.{found_in}
 use Rattle.sharing.proofs.WalkingCases.{no_place}
 use Rattle.sharing.proofs.SteppingCases.{not_found, place_beyond, place_empty, path_beyond, place_changed}

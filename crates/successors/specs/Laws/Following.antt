@@ -9,9 +9,9 @@ use Rattle.eb3.specs.Terms.{Term, Done, Internal, Perform, Sequence, Choice, Sta
 use Rattle.eb3.specs.Reading.{pick}
 use Rattle.eb3.specs.Spelling.{words}
 use Rattle.eb3.specs.Sizes.{size}
-use Rattle.scan.specs.Checking.{last_of}
-use Rattle.scan.specs.Ends.{Tail}
-use Rattle.scan.specs.Laws.Checking.{tail_here, tail_on, tail_at, tail_short}
+use Rattle.words.specs.Checking.{last_of}
+use Rattle.words.specs.Ends.{Tail}
+use Rattle.words.specs.Laws.Checking.{tail_here, tail_on, tail_at, tail_short}
 use Rattle.listing.specs.Positions.{code_in_front}
 use Rattle.paths.specs.Paths.{Followed, followed, decision, within, follow, marked}
 

@@ -1,7 +1,7 @@
 use mathlib.Core.Path.{◌≡◌}
 use Rattle.std.specs.Prelude.{Err}
 use native.Mathlib.Omega.{arith}
-use Rattle.scan.specs.Checking.{checked}
+use Rattle.words.specs.Checking.{checked}
 use Rattle.eb3.specs.RuleReading.{arguments_of}
 use Rattle.tables.specs.Tables.{declared}
 use Rattle.tables.proofs.Rounds.{argument_refused, argument_passed}

@@ -1,4 +1,4 @@
-use Rattle.scan.specs.Laws.Reading.{handed_err}
+use Rattle.words.specs.Laws.Reading.{handed_err}
 use Rattle.tables.proofs.Cases.{constant_bad, constant_is, constant_is_not}
 use Rattle.tables.proofs.constant_argument.Goals as goal
 

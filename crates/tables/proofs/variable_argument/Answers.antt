@@ -1,4 +1,4 @@
-use Rattle.scan.specs.Laws.Reading.{handed_err}
+use Rattle.words.specs.Laws.Reading.{handed_err}
 use Rattle.tables.proofs.Cases.{variable_bad}
 use Rattle.tables.proofs.variable_argument.Goals as goal
 

@@ -23,9 +23,9 @@ use Rattle.eb3.proofs.Laws.TermReading.{mask_sound}
 use Rattle.eb3.proofs.Laws.RuleTermReading.{arguments_sound}
 use Rattle.eb3.proofs.Laws.RuleSets.{functions_counted, domain_is}
 use Rattle.eb3.proofs.Laws.Attributes.{no_domain_beyond}
-use Rattle.scan.specs.Ends.{Fine, Ends}
-use Rattle.scan.specs.Laws.Checking.{tail_here, giving_fine, then_fine, both_ends, step_fine, pick_fine, number_ends, by_number_ends}
-use Rattle.scan.specs.Laws.Rows.{number_in_ends}
+use Rattle.words.specs.Ends.{Fine, Ends}
+use Rattle.words.specs.Laws.Checking.{tail_here, giving_fine, then_fine, both_ends, step_fine, pick_fine, number_ends, by_number_ends}
+use Rattle.words.specs.Laws.Rows.{number_in_ends}
 use Rattle.tables.specs.Layout.{sizes_place, label_place, process_place, domain_count, label_count, function_count, process_count}
 use Rattle.tables.specs.Tables.{edition_in, from, row, some_function, process_row, declared, constant_of_domain, variable_of_domain}
 

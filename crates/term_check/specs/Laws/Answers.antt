@@ -15,10 +15,10 @@ use Rattle.eb3.proofs.Laws.Reading.{Sound}
 use Rattle.eb3.proofs.Laws.TermReading.{term_sound}
 use Rattle.eb3.proofs.Laws.Spelling.{words_length}
 use Rattle.eb3.proofs.Laws.Saturation.{measure_running_sat}
-use Rattle.scan.specs.Checking.{last_of}
-use Rattle.scan.specs.Ends.{Fine}
-use Rattle.scan.specs.Laws.Checking.{tail_short, tail_at}
-use Rattle.scan.specs.Readings.{Taken, RefusedAs}
+use Rattle.words.specs.Checking.{last_of}
+use Rattle.words.specs.Ends.{Fine}
+use Rattle.words.specs.Laws.Checking.{tail_short, tail_at}
+use Rattle.words.specs.Readings.{Taken, RefusedAs}
 use Rattle.measures.specs.Weighing.{cap}
 use Rattle.tables.specs.Tables.{declared}
 use Rattle.term_check.specs.Given.{Weighed, weighed_running}

@@ -13,9 +13,9 @@ use Rattle.eb3.specs.RuleSets.{RuleSet, sizes_of, label, attributes}
 use Rattle.eb3.specs.Reading.{Reader, refused, taken, pick, giving, then, both, number_in}
 use Rattle.eb3.specs.ExpressionReading.{read_cond}
 use Rattle.eb3.specs.TermReading.{mask_of, element_of, elements_of, perform, TermKind, term_kind, action_of, term_by, terms, read_term}
-use Rattle.scan.specs.Ends.{Ends, Same}
-use Rattle.scan.specs.Laws.Checking.{tail_here, giving_fine, then_fine, both_ends, step_fine, pick_fine, both_same, by_number_ends}
-use Rattle.scan.specs.Laws.Rows.{number_in_ends}
+use Rattle.words.specs.Ends.{Ends, Same}
+use Rattle.words.specs.Laws.Checking.{tail_here, giving_fine, then_fine, both_ends, step_fine, pick_fine, both_same, by_number_ends}
+use Rattle.words.specs.Laws.Rows.{number_in_ends}
 use Rattle.expression_check.specs.Laws.Reading.{cond_ends}
 use Rattle.tables.specs.Laws.Tables.{mask_ends}
 

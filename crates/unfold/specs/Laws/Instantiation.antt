@@ -11,8 +11,8 @@ use Rattle.eb3.specs.Generic.AllLists.{All}
 use Rattle.eb3.specs.Expressions.{Data, Undefined, Constant, Variable, Add, Subtract, If, Now, Before, Nil, Cons, Cond, Equal, Less, And, Or, Not, True}
 use Rattle.eb3.specs.Spelling.{data_words, cond_words, number_words}
 use Rattle.eb3.specs.Unfolding.{instantiate_data, instantiate_cond}
-use Rattle.scan.specs.Checking.{last_of}
-use Rattle.scan.specs.Laws.Checking.{tail_at, tail_on}
+use Rattle.words.specs.Checking.{last_of}
+use Rattle.words.specs.Laws.Checking.{tail_at, tail_on}
 use Rattle.codes.specs.Table.{words_after, operands_after}
 use Rattle.unfold.specs.Puts.{Exactly, Then}
 use Rattle.unfold.specs.Instantiation.{Expression, value, test, expression_words, instantiate, PlainData, PlainCond, PlainExpression, Instantiates, front_width, front_words}

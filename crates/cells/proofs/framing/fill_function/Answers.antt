@@ -2,7 +2,7 @@
 use mathlib.Core.Path.{◌≡◌, refl, subst}
 use Prim.Native.Nat.{◌+◌}
 use native.Mathlib.Omega.{arith}
-use Rattle.scan.specs.Laws.Checking.{last_len}
+use Rattle.words.specs.Laws.Checking.{last_len}
 use Rattle.expressions.specs.Stores.{now_place}
 use Rattle.cells.specs.Laws.Turns.{turn_room}
 use Rattle.cells.specs.Frames.{kept_value, AsksOne, Tells}

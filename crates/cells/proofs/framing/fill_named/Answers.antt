@@ -2,7 +2,7 @@
 -- their values every cell is computed (`any_first`).
 use mathlib.Core.Path.{◌≡◌, subst}
 use Prim.Native.Nat.{◌+◌}
-use Rattle.scan.specs.Laws.Checking.{part}
+use Rattle.words.specs.Laws.Checking.{part}
 use Rattle.expressions.specs.Answering.{Evaluated}
 use Rattle.cells.specs.Frames.{kept_value, Tells}
 use Rattle.cells.specs.Laws.Framing.{any_first, first_set, two_set, named_past, named_one}

@@ -1,5 +1,5 @@
 use Rattle.declarations.proofs.NotingCases.{expressions_refused, expressions_noted}
-use Rattle.scan.specs.Laws.Reading.{handed_err}
+use Rattle.words.specs.Laws.Reading.{handed_err}
 use Rattle.declarations.proofs.Context.expressions.Goals as goal
 
 pub returns : goal.returns

@@ -1,6 +1,6 @@
 use Rattle.declarations.proofs.NotingCases.{placed, function_refused, function_stopped, function_noted}
 use native.Mathlib.Omega.{arith}
-use Rattle.scan.specs.Laws.Reading.{handed_err}
+use Rattle.words.specs.Laws.Reading.{handed_err}
 use Rattle.declarations.proofs.Context.function.Goals as goal
 
 pub returns : goal.returns

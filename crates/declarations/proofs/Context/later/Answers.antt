@@ -1,7 +1,7 @@
 use native.Mathlib.Omega.{arith}
 use Rattle.tables.specs.Layout.{label_count}
 use Rattle.declarations.proofs.LaterCases.{sofar_end, sofar_fail}
-use Rattle.scan.specs.Laws.Reading.{handed_err}
+use Rattle.words.specs.Laws.Reading.{handed_err}
 use Rattle.declarations.proofs.Context.later.Goals as goal
 
 pub returns-in_err-left : goal.returns-in_err-left

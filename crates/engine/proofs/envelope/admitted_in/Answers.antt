@@ -6,7 +6,7 @@ use Rattle.admission.specs.Laws.Knowing.{known, known_refused}
 use Rattle.admission.specs.Laws.Opening.{stream_part}
 use Rattle.engine.proofs.MadeCases.{known_few, known_as}
 use Rattle.engine.proofs.EnvelopeCases.{refused_at, called_at}
-use Rattle.scan.specs.Laws.Reading.{handed_err}
+use Rattle.words.specs.Laws.Reading.{handed_err}
 use Rattle.engine.proofs.envelope.admitted_in.Goals as goal
 
 pub returns-in_err-sizes : goal.returns-in_err-sizes

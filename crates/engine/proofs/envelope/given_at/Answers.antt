@@ -6,7 +6,7 @@ use Rattle.admission.specs.Laws.Opening.{stream_part}
 use Rattle.given.specs.Laws.Giving.{told_refused}
 use Rattle.engine.proofs.MadeCases.{found, given_few, given_made}
 use Rattle.engine.proofs.EnvelopeCases.{refused_at, called_at}
-use Rattle.scan.specs.Laws.Reading.{handed_err}
+use Rattle.words.specs.Laws.Reading.{handed_err}
 use Rattle.engine.proofs.envelope.given_at.Goals as goal
 
 pub returns-in_err-given : goal.returns-in_err-given

@@ -1,5 +1,5 @@
 use mathlib.Core.Path.{ap}
-use Rattle.scan.specs.Laws.Reading.{handed_err}
+use Rattle.words.specs.Laws.Reading.{handed_err}
 use Rattle.blocks.specs.Opening.{counted}
 use Rattle.admission.specs.Laws.Opening.{open_refused}
 use Rattle.engine.proofs.EnvelopeCases.{unopened, refused_at}

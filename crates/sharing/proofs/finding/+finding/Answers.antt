@@ -1,7 +1,7 @@
 use Rattle.std.proofs.Common.{rules}
 use mathlib.Core.Path.{refl, sym, ap, ◌∙◌}
 use lib.Dec.{lit<}
-use Rattle.scan.specs.Laws.Checking.{last_len}
+use Rattle.words.specs.Laws.Checking.{last_len}
 use Rattle.sharing.specs.Walking.{found_in}
 use Rattle.sharing.proofs.WalkingCases.{found_as, passing_found, found_path}
 use Rattle.sharing.proofs.FindingCases.{done_found, part_found, then_resumed, then_found, at_front}

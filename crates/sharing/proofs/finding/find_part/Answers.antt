@@ -1,7 +1,7 @@
 -- A move looked for in one part meets its contract: FindingParts says what is answered where it returns (document 01, "Moves, in order").
 use native.Mathlib.Omega.{arith}
 use mathlib.Core.Path.{refl, ap}
-use Rattle.scan.specs.Laws.Checking.{last_len}
+use Rattle.words.specs.Laws.Checking.{last_len}
 use Rattle.derivation.specs.Lending.{answered}
 use Rattle.sharing.proofs.WalkingCases.{sought_as}
 use Rattle.sharing.proofs.FindingParts.{part_never, part_lost, part_placed, part_passed}

@@ -1,8 +1,8 @@
-use Rattle.scan.specs.Checking.{last_of}
+use Rattle.words.specs.Checking.{last_of}
 use Rattle.std.proofs.Common.{rules}
 use mathlib.Core.Path.{refl, sym, ap, ◌∙◌}
 use lib.Dec.{lit<}
-use Rattle.scan.specs.Laws.Checking.{last_len}
+use Rattle.words.specs.Laws.Checking.{last_len}
 use Rattle.derivation.specs.Laws.Answers.{sized, decided_as}
 use Rattle.derivation.specs.Lending.{answered}
 use Rattle.sharing.proofs.WalkingCases.{derived_as, sought_store, sought_path}

@@ -1,5 +1,5 @@
 -- A case for each return: a number that no term has, no path (`nowhere_taken`), or the successor built along it (`there_taken`).
-use Rattle.scan.specs.Laws.Checking.{part}
+use Rattle.words.specs.Laws.Checking.{part}
 use Rattle.steps.proofs.TakeCases.{too_many_taken, nowhere_taken, there_taken}
 use Rattle.steps.proofs.moving.take_move_in.Goals as goal
 

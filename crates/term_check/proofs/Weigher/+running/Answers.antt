@@ -1,7 +1,7 @@
 use native.Mathlib.Omega.{arith}
 use borrow.Author.Rules.{rules}
 use mathlib.Core.Path.{refl}
-use Rattle.scan.specs.Laws.Checking.{last_len}
+use Rattle.words.specs.Laws.Checking.{last_len}
 use Rattle.term_check.specs.Laws.Answers.{got}
 use Rattle.term_check.proofs.Codes.{term_internal, term_done}
 use Rattle.term_check.proofs.Parts.{pair_short, pair_second, pair_in, guarded_behind, guarded_in}

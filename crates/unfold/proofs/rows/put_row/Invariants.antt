@@ -1,7 +1,7 @@
 use Prim.Native.Nat.{◌+◌, ◌*◌, ◌≤◌}
 use mathlib.Core.Path.{◌≡◌}
 use lib.ListN.{length}
-use Rattle.scan.specs.Checking.{last_of}
+use Rattle.words.specs.Checking.{last_of}
 use Rattle.unfold.specs.Puts.{Putting}
 use Rattle.unfold.specs.Instantiation.{Instantiates}
 use Rattle.unfold.proofs.rows.put_row.Given as goal

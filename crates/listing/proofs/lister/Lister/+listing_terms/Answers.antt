@@ -4,8 +4,8 @@ use lib.ListN.{drop}
 use lib.Dec.{lit<}
 use native.Mathlib.Omega.{arith}
 use borrow.Author.Rules.{rules}
-use Rattle.scan.specs.Checking.{last_of}
-use Rattle.scan.specs.Laws.Checking.{part, back_rest}
+use Rattle.words.specs.Checking.{last_of}
+use Rattle.words.specs.Laws.Checking.{part, back_rest}
 use Rattle.listing.proofs.Answers.{at_store, two_listed}
 use Rattle.listing.proofs.Arms.{internal_listed, choice_listed, sequence_right, sequence_lost, sequence_left, at_front, other_listed}
 use Rattle.listing.proofs.Sides.{star_lost, star_listed, guard_shut, guard_open}

@@ -1,7 +1,7 @@
 use Rattle.std.proofs.Common.{rules}
 use mathlib.Core.Path.{ap, refl}
 use lib.Dec.{lit<}
-use Rattle.scan.specs.Laws.Checking.{last_len}
+use Rattle.words.specs.Laws.Checking.{last_len}
 use Rattle.sharing.proofs.ExpandingCases.{expand_front, expand_none, done_expanded, part_expanded, then_lost, then_expanded}
 use Rattle.sharing.proofs.BesideCases.{beside_short, beside_lost, beside_expanded}
 use native.Mathlib.Omega.{arith}

@@ -1,6 +1,6 @@
 -- A part is copied from its place in the unfolding (document 01, "Operations": Run writes the last term).
 use mathlib.Core.Path.{refl}
-use Rattle.scan.specs.Laws.Checking.{last_len}
+use Rattle.words.specs.Laws.Checking.{last_len}
 use Rattle.sharing.proofs.ExpandingCases.{part_made}
 use native.Mathlib.Omega.{arith}
 use Rattle.sharing.proofs.expansion.Expansion.expand_part.Goals as goal

@@ -1,7 +1,7 @@
 use Rattle.std.proofs.Common.{rules}
 use mathlib.Core.Path.{refl, sym, ◌∙◌}
 use native.Mathlib.Omega.{arith}
-use Rattle.scan.specs.Laws.Checking.{part, last_len, behind_fewer}
+use Rattle.words.specs.Laws.Checking.{part, last_len, behind_fewer}
 use Rattle.sharing.proofs.BeginningEnds.{lent_length}
 use Rattle.sharing.proofs.BeginningCases.{leaf_case, action_case, sequence_done, sequence_full, sequence_goes, guard_case, choice_left, choice_short, choice_right, star_ends, round_full, round}
 use Rattle.sharing.proofs.BeginningParallels.{left_lost, left_without_room, left_written, both_lost, both_lost_second, both_written, parallel_ends, parallel_short, parallel_full, parallel_left, parallel_right, parallel_cut, parallel_both}

@@ -3,9 +3,9 @@
 use Rattle.std.specs.Prelude.{ℕ, zero, suc, ◌+◌, ◌-◌, ◌*◌, ◌≤◌, ◌<◌, ◌≡◌, refl, Bool, true, false, List, [], ◌∷◌, length, drop, get_or, leb, Ok, Err}
 use Rattle.std.proofs.Common.{le_refl, sub-one, arith, sym, ap, ◌∙◌, length-drop, leb-true}
 use Rattle.eb3.specs.Reading.{Read, refused, taken, Reader, pick, giving, then, both, number_of, count_of, repeat, counted, for_each, series, number_in}
-use Rattle.scan.specs.Checking.{checked, last_of, Checked}
-use Rattle.scan.specs.Ends.{Ends, Fine, Tail}
-use Rattle.scan.specs.Laws.Checking.{nil_form, cons_form, tail_here, tail_on, tail_at, tail_short, giving_fine, then_fine, both_ends, number_ends, checked_giving, both_in, both_out, then_out, last_all, last_tail}
+use Rattle.words.specs.Checking.{checked, last_of, Checked}
+use Rattle.words.specs.Ends.{Ends, Fine, Tail}
+use Rattle.words.specs.Laws.Checking.{nil_form, cons_form, tail_here, tail_on, tail_at, tail_short, giving_fine, then_fine, both_ends, number_ends, checked_giving, both_in, both_out, then_out, last_all, last_tail}
 use Rattle.refusals.specs.declared.Refusal.{Refusal}
 
 -- ── one count ──

@@ -1,10 +1,10 @@
 -- A term is gone through by its front, and the loop goes on with its last operand (document 01, "Moves, in order").
 use Rattle.std.proofs.Common.{length}
 use Rattle.sharing.proofs.MasksCases.{Passing}
-use Rattle.sharing.proofs.masks.+bare.Given as goal
+use Rattle.sharing.proofs.masks.+mask_free.Given as goal
 
-abbrev pub decreases-bare : goal.decreases-bare
-decreases-bare l = length l.s.now
+abbrev pub decreases-mask_free : goal.decreases-mask_free
+decreases-mask_free l = length l.s.now
 
 abbrev pub invariant-loop-s : goal.invariant-loop-s
 invariant-loop-s l = Passing l.fn.s l.s

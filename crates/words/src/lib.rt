@@ -6,7 +6,7 @@ ghost use Rattle.std.specs.Prelude.{◌≡◌, ℕ, ◌+◌, ◌*◌, ◌<◌, �
 ghost use Rattle.eb3.specs.Bytes.{words_in};
 ghost use Rattle.eb3.specs.Reading.{number_of, count_of};
 ghost use Rattle.refusals.specs.Numbers.{number};
-ghost use Rattle.scan.specs.Checking.{checked, last_of, number_or};
+ghost use Rattle.words.specs.Checking.{checked, last_of, number_or};
 
 pub mod repeats;
 

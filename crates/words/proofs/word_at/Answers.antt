@@ -1,8 +1,8 @@
 -- A word is two bytes (`loaded_word`).
 use Rattle.std.proofs.Common.{◌≡◌, ◌∙◌, ◌+◌, ◌*◌, refl, arith}
 use Rattle.std.specs.Prelude.{slice_index}
-use Rattle.scan.specs.Laws.Words.{loaded_word}
-use Rattle.scan.proofs.word_at.Goals as goal
+use Rattle.words.specs.Laws.Words.{loaded_word}
+use Rattle.words.proofs.word_at.Goals as goal
 
 pub returns : goal.returns
 returns c =

@@ -6,7 +6,7 @@ use Rattle.eb3.specs.Refusal as named
 use Rattle.eb3.specs.Reading.{Read, refused}
 use Rattle.eb3.specs.Generic.Lists.{one_of, all_of, one_of_more}
 use Rattle.eb3.proofs.Laws.Refusals.{Refuses}
-use Rattle.scan.specs.Readings.{RefusedAs}
+use Rattle.words.specs.Readings.{RefusedAs}
 use Rattle.refusals.specs.declared.Refusal.{Refusal}
 use Rattle.refusals.specs.Numbers.{number}
 use Rattle.refusals.specs.Laws.Numbers.{number_refusal}

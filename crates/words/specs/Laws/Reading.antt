@@ -5,14 +5,14 @@ use Rattle.std.proofs.Common.{arith, sym, ap, ◌∙◌, ltb-true}
 use Rattle.eb3.specs.Reading.{Read, refused, taken, Reader, pick, giving, then, both, number_of, by_number}
 use Rattle.eb3.specs.Refusal as named
 use Rattle.eb3.specs.Generic.Lists.{one_of}
-use Rattle.scan.specs.Checking.{checked, numbered, number_or, last_of}
-use Rattle.scan.specs.Ends.{Fine}
-use Rattle.scan.specs.Laws.Checking.{tail_at, tail_short, number_word}
+use Rattle.words.specs.Checking.{checked, numbered, number_or, last_of}
+use Rattle.words.specs.Ends.{Fine}
+use Rattle.words.specs.Laws.Checking.{tail_at, tail_short, number_word}
 use Rattle.refusals.specs.declared.Refusal.{Refusal}
 use Rattle.refusals.specs.declared.Refusal.TheVariants.{Form}
 use Rattle.refusals.specs.Numbers.{refusal, number}
 use Rattle.refusals.specs.Laws.Numbers.{refusal_number, number_refusal}
-use Rattle.scan.specs.Readings.{Taken, RefusedAs}
+use Rattle.words.specs.Readings.{Taken, RefusedAs}
 
 pub checked_refused : {A : Type 0} (r : Read A) (k : Refusal) → Err k ≡ checked r → RefusedAs k r
 unfolding checked

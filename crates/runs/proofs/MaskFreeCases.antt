@@ -19,7 +19,7 @@ use Rattle.eb3.specs.Semantics.{Sem_M, system}
 use Rattle.eb3.specs.TransitionSystems.{outcomes}
 use Rattle.eb3.specs.Machines.{memory_run}
 use Rattle.eb3.specs.WellFormedness.{Running, Form}
-use Rattle.scan.specs.Laws.Checking.{last_all}
+use Rattle.words.specs.Laws.Checking.{last_all}
 use Rattle.declarations.specs.Declaring.{Declares}
 use Rattle.expressions.specs.Answering.{answer}
 use Rattle.steps.specs.Laws.Judging.{whole}
@@ -39,7 +39,7 @@ use Rattle.runs.specs.declared.admitted.Course.{Course}
 use Rattle.derivation.specs.declared.scratch.Scratch.{Scratch}
 use Rattle.std.specs.Borrow.{Bor}
 use Rattle.runs.specs.MainProcess.{Finished}
-use Rattle.runs.specs.Starts.{RunsBare, CourseBare}
+use Rattle.runs.specs.Starts.{RunsMaskFree, CourseMaskFree}
 use Rattle.runs.specs.declared.main_process.Totals.{Totals}
 use Rattle.runs.specs.declared.Tally.{Tally}
 use Rattle.runs.proofs.MainCases.{start, main_there, main_size, spelled_length, run_fits, main_ended}
@@ -113,17 +113,17 @@ told_end (Some x) = omega (arith, x.few)
 
 module _ {list t D : List ℕ} {w functions c reach : ℕ} {u d M : List ℕ} {paths acts middle : ℕ} {term memory by term' memory' by' : List ℕ} where
   -- Never without room for a word.
-  pub bare_none : {r : Totals} → length d ≡ 0 → RunsBare list t D w functions c reach u d M paths acts middle term memory by r term' memory' by'
-  bare_none h R T at room eu unmasked spare =
+  pub mask_free_none : {r : Totals} → length d ≡ 0 → RunsMaskFree list t D w functions c reach u d M paths acts middle term memory by r term' memory' by'
+  mask_free_none h R T at room eu unmasked spare =
       absurd (let z : ⊥ = omega (arith, room.words_room, at.reach_is, main_size R at.well, spelled_length R at.well (unfold_main R) (main_there R at.well), size_pos R.edition.width (unfold_main R)) in z)
 
 module _ (course : Course) (u : Bor (List ℕ)) (a : Scratch) {d M term memory by term' memory' by' : List ℕ} where
-  pub bare_run : (x : Option Extent) {d₁ d₂ M₂ out out' f mid₁ mid₂ : List ℕ} {word size low : ℕ} {tally : Tally} → word ≡ whole_word u.now → take 1 d₁ ≡ word ∷ [] → length d₁ ≡ length d
+  pub mask_free_run : (x : Option Extent) {d₁ d₂ M₂ out out' f mid₁ mid₂ : List ℕ} {word size low : ℕ} {tally : Tally} → word ≡ whole_word u.now → take 1 d₁ ≡ word ∷ [] → length d₁ ≡ length d
       → Runs course (Over u) 1 d₁ M out a by d₂ M₂ out' by' tally → f ≡ take tally.size d₂ → Expanded f u.now 0 mid₁ mid₂ (told x) → size ≡ end_of x → length mid₁ ≡ length a.mid.now
       → Finished mid₂ size course.reach M₂ course.rules.functions.cells term memory term' memory' → low ≡ size % 4294967296
-      → CourseBare course u.now d M (length a.path.now) (length a.acts.now) (length a.mid.now) term memory by (record { size = low; visible = tally.visible; internal = tally.internal; refused = tally.refused }) term' memory' by'
+      → CourseMaskFree course u.now d M (length a.path.now) (length a.acts.now) (length a.mid.now) term memory by (record { size = low; visible = tally.visible; internal = tally.internal; refused = tally.refused }) term' memory' by'
   unfolding memory_run
-  bare_run x {d₁} {d₂} {M₂} {out} {out'} {f} {mid₁} {mid₂} {word} {size} {low} {tally} is_word first same runs ef expanded is_size same_middle done el R T at room eu unmasked spare =
+  mask_free_run x {d₁} {d₂} {M₂} {out} {out'} {f} {mid₁} {mid₂} {word} {size} {low} {tally} is_word first same runs ef expanded is_size same_middle done el R T at room eu unmasked spare =
       let list = course.list.now in
       let well = at.well in
       let er = at.reach_is in

@@ -7,10 +7,10 @@ use Rattle.std.proofs.Common.{le_refl, le_trans, arith, sym, ap, ◌∙◌, appe
 use Rattle.std.proofs.Math.Decide.{dec_le}
 use Rattle.std.proofs.Math.Seq.{drop-length, drop-append_seam}
 use Rattle.eb3.specs.Reading.{Read, refused, taken, Reader, pick, giving, then, both, number_of, by_number}
-use Rattle.scan.specs.Checking.{checked, last_of, Checked}
+use Rattle.words.specs.Checking.{checked, last_of, Checked}
 use Rattle.refusals.specs.declared.Refusal.{Refusal}
 -- ── words and their parts ──
-use Rattle.scan.specs.Ends.{Tail, Fine, Ends, Same}
+use Rattle.words.specs.Ends.{Tail, Fine, Ends, Same}
 
 pub nil_form : (s : List ℕ) → length s ≡ 0 → s ≡ []
 nil_form [] h = refl

@@ -2,7 +2,7 @@
 // codes before it, and they are counted instead of descended into).
 
 ghost use Rattle.std.specs.Prelude.{◌≡◌};
-ghost use Rattle.scan.specs.Repeats.{leading};
+ghost use Rattle.words.specs.Repeats.{leading};
 
 /// How many words at the front are w.
 pub fn leading(s: &[u16], w: usize) -> usize

@@ -4,8 +4,8 @@ use Rattle.std.proofs.lemmas.Iterator.{YieldsList-from_slice}
 use Rattle.std.proofs.lemmas.Iterator.Consumers.{count_from_yields_List}
 use Rattle.std.proofs.lemmas.Iterator.Search.{YieldsList-from_take_while}
 use Rattle.std.proofs.lemmas.List.Folds.{length-prefix_len}
-use Rattle.scan.specs.Laws.Repeats.{prefix_leading}
-use Rattle.scan.proofs.repeats.leading.Goals as goal
+use Rattle.words.specs.Laws.Repeats.{prefix_leading}
+use Rattle.words.proofs.repeats.leading.Goals as goal
 
 pub returns : goal.returns
 returns c =

@@ -5,7 +5,7 @@ use Rattle.std.proofs.Common.{ap, arith}
 use Rattle.std.proofs.lemmas.Bool.{leb-true}
 use borrow.Author.Tests.{lt-ltb, le-ltb, le-leb}
 use Rattle.eb3.specs.Reading.{refused, taken, pick, count_of}
-use Rattle.scan.specs.Checking.{checked, number_or}
+use Rattle.words.specs.Checking.{checked, number_or}
 use Rattle.refusals.specs.declared.Refusal.TheVariants.{Form}
 use Rattle.refusals.specs.Numbers.{refusal}
 

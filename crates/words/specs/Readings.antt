@@ -2,7 +2,7 @@
 -- Document 01, "Operations": 4, 5 and 6 by the first offending word of the stream.
 use Rattle.std.specs.Prelude.{ℕ, ◌≤◌, ◌≡◌, List, length}
 use Rattle.eb3.specs.Reading.{Read, refused, taken}
-use Rattle.scan.specs.Checking.{last_of}
+use Rattle.words.specs.Checking.{last_of}
 use Rattle.refusals.specs.declared.Refusal.{Refusal}
 use Rattle.refusals.specs.Numbers.{refusal}
 

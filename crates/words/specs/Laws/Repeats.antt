@@ -6,7 +6,7 @@ use Rattle.std.proofs.Common.{arith, sym, ◌∙◌}
 use Rattle.std.proofs.lemmas.Bool.{eq-eqb}
 use Rattle.std.proofs.Math.Bool.{true≢false}
 use Rattle.eb3.specs.Reading.{pick}
-use Rattle.scan.specs.Repeats.{leading}
+use Rattle.words.specs.Repeats.{leading}
 
 short_by : (b : Bool) (k n : ℕ) → k ≤ n → pick b (suc k) 0 ≤ suc n
 short_by true k n h = omega arith
