@@ -3,7 +3,7 @@
 use mathlib.Core.Path.{◌≡◌, refl, sym, ap, ◌∙◌, subst}
 use mathlib.Core.Bool.{cond}
 use mathlib.Core.List.{List, [], ◌∷◌, append-nil}
-use Prim.Native.Nat.{ℕ, ◌+◌, ◌/◌, ◌%◌, ◌≤◌}
+use Prim.Native.Nat.{ℕ, ◌+◌, ◌%◌, ◌≤◌}
 use native.Mathlib.Omega.{arith}
 use lib.Dec.{eqb}
 use lib.ListN.{length, take, drop, get_or}
@@ -21,14 +21,14 @@ use Rattle.eb3.specs.Machines.{memory_run}
 use Rattle.eb3.specs.WellFormedness.{Running, Form}
 use Rattle.words.specs.Laws.Checking.{last_all}
 use Rattle.declarations.specs.Declaring.{Declares}
-use Rattle.expressions.specs.Answering.{answer}
 use Rattle.steps.specs.Laws.Judging.{whole}
 use Rattle.sharing.specs.Shared.{Shared, Ended as Done_there, Part, term_of, shared_words, Unmasked, PartAt, Stands}
 use Rattle.sharing.specs.Beginning.{put_at}
-use Rattle.sharing.specs.Splicing.{Expanded}
-use Rattle.sharing.specs.Expanding.{told}
+use Rattle.sharing.specs.Splicing.{SpelledTo, spelled_to, Expanded}
+use Rattle.sharing.specs.Expanding.{numbers}
 use Rattle.sharing.specs.declared.expansion.Extent.{Extent}
 use Rattle.std.specs.Prelude.{Option, None, Some}
+use Rattle.std.proofs.lemmas.Option.{none-some, same_Some}
 use Rattle.runs.specs.Laws.Scratch.{words_kept}
 use Rattle.runs.specs.Running.{Spelled, Ended, CountedBy}
 use Rattle.runs.specs.Scratch.{WordsOnly}
@@ -85,29 +85,27 @@ held_alone R form T says E running unmasked u d e word is_word first =
 
 -- ── spelled out ──
 
-expanded_so : (u : List ℕ) (R : RuleSet) (E : Term) (n : ℕ) (d f mid mid' : List ℕ) (q : ℕ) → SharedOver u R E n d → f ≡ take n d → Expanded f u 0 mid mid' q → length (words R.edition.width E) ≤ length mid
-    → Spelled R E (q / 65536) mid'
-unfolding answer
-expanded_so u R E n d f mid mid' q h ef expanded room =
-    let S = h.shared in
-    let o : List ℕ = words R.edition.width E in
-    let eo : words R.edition.width (term_of S) ≡ o = ap (words R.edition.width) h.is_term in
-    let z = expanded.right (guard_scope (attributes R) 0) S [] (ef ∙ h.words_are ∙ sym (append-nil (shared_words S))) h.stands (omega (arith, ap length eo)) in
-    let size_is : q / 65536 ≡ length o = omega (arith, z.0, ap length eo) in
-    record {
-      size_is = size_is;
-      spelled = ap (take (q / 65536)) (z.1 ∙ ap (λ v. put_at 0 v mid) eo) ∙ take_at o (drop (0 + length o) mid) (q / 65536) (sym size_is);
-    }
-
--- The place after the words written, by the number that says both; 0 where there was no room.
+-- The place after the words written; 0 where there was no room.
 abbrev end_of : Option Extent → ℕ
 end_of None = 0
 end_of (Some x) = x.end
 
-told_end : (x : Option Extent) → told x / 65536 ≡ end_of x
-unfolding answer
-told_end None = refl
-told_end (Some x) = omega (arith, x.few)
+end_is : (x : Option Extent) (left n : ℕ) → numbers x ≡ Some (spelled_to left n) → end_of x ≡ n
+end_is None left n e = absurd (none-some _ e)
+end_is (Some x) left n e = ap (λ (y : SpelledTo). y.end) (same_Some (spelled_to x.left x.end) (spelled_to left n) e)
+
+expanded_so : (u : List ℕ) (R : RuleSet) (E : Term) (n : ℕ) (d f mid mid' : List ℕ) (x : Option Extent) → SharedOver u R E n d → f ≡ take n d → Expanded f u 0 mid mid' (numbers x) → length (words R.edition.width E) ≤ length mid
+    → Spelled R E (end_of x) mid'
+expanded_so u R E n d f mid mid' x h ef expanded room =
+    let S = h.shared in
+    let o : List ℕ = words R.edition.width E in
+    let eo : words R.edition.width (term_of S) ≡ o = ap (words R.edition.width) h.is_term in
+    let z = expanded.right (guard_scope (attributes R) 0) S [] (ef ∙ h.words_are ∙ sym (append-nil (shared_words S))) h.stands (omega (arith, ap length eo)) in
+    let size_is : end_of x ≡ length o = omega (arith, end_is x _ _ z.answered, ap length eo) in
+    record {
+      size_is = size_is;
+      spelled = ap (take (end_of x)) (z.written ∙ ap (λ v. put_at 0 v mid) eo) ∙ take_at o (drop (0 + length o) mid) (end_of x) (sym size_is);
+    }
 
 -- ── the returns ──
 
@@ -119,7 +117,7 @@ module _ {list t D : List ℕ} {w functions c reach : ℕ} {u d M : List ℕ} {p
 
 module _ (course : Course) (u : Bor (List ℕ)) (a : Scratch) {d M term memory by term' memory' by' : List ℕ} where
   pub mask_free_run : (x : Option Extent) {d₁ d₂ M₂ out out' f mid₁ mid₂ : List ℕ} {word size low : ℕ} {tally : Tally} → word ≡ whole_word u.now → take 1 d₁ ≡ word ∷ [] → length d₁ ≡ length d
-      → Runs course (Over u) 1 d₁ M out a by d₂ M₂ out' by' tally → f ≡ take tally.size d₂ → Expanded f u.now 0 mid₁ mid₂ (told x) → size ≡ end_of x → length mid₁ ≡ length a.mid.now
+      → Runs course (Over u) 1 d₁ M out a by d₂ M₂ out' by' tally → f ≡ take tally.size d₂ → Expanded f u.now 0 mid₁ mid₂ (numbers x) → size ≡ end_of x → length mid₁ ≡ length a.mid.now
       → Finished mid₂ size course.reach M₂ course.rules.functions.cells term memory term' memory' → low ≡ size % 4294967296
       → CourseMaskFree course u.now d M (length a.path.now) (length a.acts.now) (length a.mid.now) term memory by (record { size = low; visible = tally.visible; internal = tally.internal; refused = tally.refused }) term' memory' by'
   unfolding memory_run
@@ -134,6 +132,6 @@ module _ (course : Course) (u : Bor (List ℕ)) (a : Scratch) {d M term memory b
       (omega (arith, er)) in
       let last_term : Term = (memory_run (attributes R) (unfold_main R) (numbers_in list)).state.term in
       let spelled : Spelled R last_term size mid₂ =
-      subst (λ n. Spelled R last_term n mid₂) (told_end x ∙ sym is_size) (expanded_so u.now R last_term tally.size d₂ f mid₁ mid₂ (told x) e.0.after.held ef expanded (omega (arith, run_fits R well (numbers_in list) e.0.after.running, er, room.middle_room))) in
+      subst (λ n. Spelled R last_term n mid₂) (sym is_size) (expanded_so u.now R last_term tally.size d₂ f mid₁ mid₂ x e.0.after.held ef expanded (omega (arith, run_fits R well (numbers_in list) e.0.after.running, er, room.middle_room))) in
       main_ended R well list e.0 spelled ec er (omega (arith, room.middle_room, expanded.same_length)) (omega (arith, ec, e.0.after.stored.room)) at.term_room at.memory_room done el
       (words_kept spare spare refl) e.1

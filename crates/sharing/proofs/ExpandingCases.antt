@@ -4,21 +4,37 @@ use mathlib.Core.Path.{◌≡◌, refl, sym, ap, ◌∙◌, subst}
 use mathlib.Core.List.{List, [], ◌∷◌, ◌++◌}
 use Prim.Native.Nat.{ℕ, ◌+◌, ◌-◌, ◌≤◌, ◌<◌}
 use native.Mathlib.Omega.{arith}
+use Rattle.std.specs.Prelude.{Option, None, Some}
+use Rattle.std.proofs.lemmas.Option.{none-some, same_Some}
 use lib.ListN.{length, take, drop, set, get_or, length-append, length-set}
 use lib.Seq.{take_at, length-take-le}
 use Rattle.eb3.specs.Scopes.{Scope}
 use Rattle.eb3.specs.Terms.{Term}
 use Rattle.eb3.specs.Spelling.{words}
 use Rattle.words.specs.Checking.{last_of}
-use Rattle.expressions.specs.Answering.{answer}
 use Rattle.listing.specs.Listing.{Fits, TermAt}
 use Rattle.listing.specs.Laws.Fits.{fits_length}
-use Rattle.listing.specs.Laws.Operands.{answer_is, front_form}
+use Rattle.listing.specs.Laws.Operands.{front_form}
 use Rattle.sharing.specs.Shared.{Shared, Ended, Part, Then, Beside, term_of, part_word, shared_words, PartAt, Stands}
 use Rattle.sharing.specs.Beginning.{put_at}
 use Rattle.sharing.specs.Laws.Shared.{size_some}
-use Rattle.sharing.specs.Splicing.{Expanded, PartExpanded, DoneExpanded}
+use Rattle.sharing.specs.Splicing.{SpelledTo, spelled_to, ExpandedRight, Expanded, PartExpanded, DoneExpanded}
 use Rattle.sharing.proofs.BeginningPuts.{put_one, put_length, put_behind}
+
+-- ── how far spelling out came ──
+
+pub came_same : {r : Option SpelledTo} {left l i j : ℕ} → left ≡ l → i ≡ j → r ≡ Some (spelled_to left i) → r ≡ Some (spelled_to l j)
+came_same {l = l} {i} e f h = h ∙ (ap (λ k. Some (spelled_to k i)) e ∙ ap (λ k. Some (spelled_to l k)) f)
+
+module _ {left l i j : ℕ} (e : ◌≡◌ {A = Option SpelledTo} (Some (spelled_to left i)) (Some (spelled_to l j))) where
+  numbers_same : spelled_to left i ≡ spelled_to l j
+  numbers_same = same_Some (spelled_to left i) (spelled_to l j) e
+
+  pub left_same : left ≡ l
+  left_same = ap (λ (x : SpelledTo). x.left) numbers_same
+
+  pub end_same : i ≡ j
+  end_same = ap (λ (x : SpelledTo). x.end) numbers_same
 
 -- ── a part ──
 
@@ -37,26 +53,26 @@ module _ (u e : List ℕ) (w k : ℕ) (high : 32 ≤ w) (is : e ≡ last_of (w -
     part_words = ap (take (length e - k)) there.spelled ∙ take_at (words P.edition.width E) p.rest (length e - k) (sym part_count)
 
   pub part_made : (entry exit x : List ℕ) (left at : ℕ) → at ≤ length entry → length e - k ≤ length entry - at → x ≡ take (length e - k) e → exit ≡ put_at at x entry
-      → PartExpanded u w left at entry exit (answer left (at + (length e - k)))
+      → PartExpanded u w left at entry exit (Some (spelled_to left (at + (length e - k))))
   part_made entry exit x left at h m f g = record {
     same_length = ap length g ∙ put_length at x entry (omega (arith, ap length f, length-take-le (length e - k) e (omega arith)));
-    right = λ P l E q p room. (
-      ap (λ n. answer left (at + n)) (part_count P l E q p),
-      g ∙ ap (λ v. put_at at v entry) (f ∙ part_words P l E q p),
-    );
+    right = λ P l E q p room. record {
+      answered = ap (λ n. Some (spelled_to left (at + n))) (part_count P l E q p);
+      written = g ∙ ap (λ v. put_at at v entry) (f ∙ part_words P l E q p);
+    };
   }
 
 -- ── done ──
 
-pub done_made : (left at : ℕ) (entry : List ℕ) → at < length entry → DoneExpanded left at entry (set entry at 30) (answer left (at + 1))
+pub done_made : (left at : ℕ) (entry : List ℕ) → at < length entry → DoneExpanded left at entry (set entry at 30) (Some (spelled_to left (at + 1)))
 done_made left at entry h = record {
   same_length = length-set entry at 30;
-  right = λ room. (refl, put_one entry at 30 h);
+  right = λ room. record { answered = refl; written = put_one entry at 30 h };
 }
 
 -- ── a shared term by its first word ──
 
-pub expand_front : (s t u entry exit : List ℕ) (w k at r : ℕ) → w ≡ get_or s 0 0 → t ≡ drop 1 s → w ≡ k → 0 < k → Expanded (k ∷ t) u at entry exit r → Expanded s u at entry exit r
+pub expand_front : (s t u entry exit : List ℕ) (w k at : ℕ) (r : Option SpelledTo) → w ≡ get_or s 0 0 → t ≡ drop 1 s → w ≡ k → 0 < k → Expanded (k ∷ t) u at entry exit r → Expanded s u at entry exit r
 expand_front s t u entry exit w k at r a b e z h = subst (λ v. Expanded v u at entry exit r) (sym (front_form s t w k a b e z)) h
 
 -- The term that a shared term means fits, as its parts do,
@@ -72,21 +88,17 @@ words_some : (u : List ℕ) (P : Scope) (S : Shared) → Stands u P S → 1 ≤ 
 words_some u P S st = omega (arith, fits_length P (term_of S) (term_fits u P S st), size_some P.edition.width (term_of S))
 
 -- where the array has no place left, nothing is written.
-pub expand_none : (s u entry : List ℕ) (at : ℕ) → length entry ≤ at → Expanded s u at entry entry 0
+pub expand_none : (s u entry : List ℕ) (at : ℕ) → length entry ≤ at → Expanded s u at entry entry None
 expand_none s u entry at h = record { same_length = refl; right = λ P S rest e st room. absurd (omega (arith, words_some u P S st)) }
 
--- Equal answers have equal numbers, where the first number of each is at most 65,535.
-pub answered_same : (left left' n n' : ℕ) → answer left n ≡ answer left' n' → left ≤ 65535 → left' ≤ 65535 → (left ≡ left') × (n ≡ n')
-answered_same left left' n n' e h k = (omega (arith, e, answer_is left n, answer_is left' n'), omega (arith, e, answer_is left n, answer_is left' n'))
-
 -- The result for a shared term S, spelled out from `at` on where there is room: the answer r, and what the array is then.
-abbrev pub Tells : ℕ → List ℕ → List ℕ → ℕ → ℕ → Shared → List ℕ → Type 0
-Tells width entry exit at r S rest = at + length (words width (term_of S)) ≤ length entry → (r ≡ answer (length rest) (at + length (words width (term_of S)))) × (exit ≡ put_at at (words width (term_of S)) entry)
+abbrev pub Tells : ℕ → List ℕ → List ℕ → ℕ → Option SpelledTo → Shared → List ℕ → Type 0
+Tells width entry exit at r S rest = at + length (words width (term_of S)) ≤ length entry → ExpandedRight (words width (term_of S)) (length rest) at entry exit r
 
-module _ (entry exit t : List ℕ) (at r : ℕ) where
+module _ (entry exit t : List ℕ) (at : ℕ) (r : Option SpelledTo) where
   done_tells : (width : ℕ) → DoneExpanded (length t) at entry exit r → (S : Shared) (rest : List ℕ) → 30 ∷ t ≡ shared_words S ++ rest → Tells width entry exit at r S rest
   unfolding shared_words term_of words
-  done_tells width h Ended rest e room = ((h.right room).0 ∙ ap (λ v. answer (length v) (at + 1)) (ap (drop 1) e), (h.right room).1)
+  done_tells width h Ended rest e room = record { answered = came_same (ap length (ap (drop 1) e)) refl (h.right room).answered; written = (h.right room).written }
   done_tells width h (Part l E) rest e room = absurd (let z : 30 ≡ 32 + l = ap (λ v. get_or v 0 0) e in omega (arith, z))
   done_tells width h (Then S l F) rest e room = absurd (let z : ◌≡◌ {A = ℕ} 30 22 = ap (λ v. get_or v 0 0) e in omega (arith, z))
   done_tells width h (Beside S T) rest e room = absurd (let z : ◌≡◌ {A = ℕ} 30 25 = ap (λ v. get_or v 0 0) e in omega (arith, z))
@@ -98,13 +110,13 @@ module _ (entry exit t : List ℕ) (at r : ℕ) where
 abbrev pub NotBegun : ℕ → Type 0
 NotBegun w = ((Unit {0} × (w ≡ 22 → ⊥)) × (w ≡ 25 → ⊥)) × (w ≡ 30 → ⊥)
 
-module _ (entry exit s t u : List ℕ) (w at r : ℕ) (a : w ≡ get_or s 0 0) (b : t ≡ drop 1 s) (h : PartExpanded u w (length t) at entry exit r) (other : NotBegun w) where
+module _ (entry exit s t u : List ℕ) (w at : ℕ) (r : Option SpelledTo) (a : w ≡ get_or s 0 0) (b : t ≡ drop 1 s) (h : PartExpanded u w (length t) at entry exit r) (other : NotBegun w) where
   part_tells : (P : Scope) (S : Shared) (rest : List ℕ) → s ≡ shared_words S ++ rest → Stands u P S → Tells P.edition.width entry exit at r S rest
   unfolding shared_words term_of
   part_tells P Ended rest e st room = absurd (other.1 (a ∙ ap (λ v. get_or v 0 0) e))
   part_tells P (Part l E) rest e st room =
       let m = h.right P l E (a ∙ ap (λ v. get_or v 0 0) e) st.1 room in
-      (m.0 ∙ ap (λ v. answer (length v) (at + length (words P.edition.width E))) (b ∙ ap (drop 1) e), m.1)
+      record { answered = came_same (ap length (b ∙ ap (drop 1) e)) refl m.answered; written = m.written }
   part_tells P (Then S l F) rest e st room = absurd (other.0.0.1 (a ∙ ap (λ v. get_or v 0 0) e))
   part_tells P (Beside S T) rest e st room = absurd (other.0.1 (a ∙ ap (λ v. get_or v 0 0) e))
 
@@ -114,12 +126,12 @@ module _ (entry exit s t u : List ℕ) (w at r : ℕ) (a : w ≡ get_or s 0 0) (
 -- ── what follows ──
 
 -- The same is said of a sequence: a shared term, and a part that follows it.
-abbrev ThenTells : List ℕ → List ℕ → List ℕ → List ℕ → ℕ → ℕ → Type 0
+abbrev ThenTells : List ℕ → List ℕ → List ℕ → List ℕ → ℕ → Option SpelledTo → Type 0
 ThenTells t u entry exit at r =
     (P : Scope) (S : Shared) (l : ℕ) (F : Term) (rest : List ℕ) → 22 ∷ t ≡ 22 ∷ part_word l ∷ (shared_words S ++ rest) → Stands u P S → PartAt u P l F → at + (1 + (length (words P.edition.width (term_of S)) + length (words P.edition.width F))) ≤ length entry
-    → (r ≡ answer (length rest) (at + (1 + (length (words P.edition.width (term_of S)) + length (words P.edition.width F))))) × (exit ≡ put_at at (22 ∷ (words P.edition.width (term_of S) ++ words P.edition.width F)) entry)
+    → ExpandedRight (22 ∷ (words P.edition.width (term_of S) ++ words P.edition.width F)) (length rest) at entry exit r
 
-module _ (t u entry exit : List ℕ) (at r : ℕ) (long : length exit ≡ length entry) (says : ThenTells t u entry exit at r) where
+module _ (t u entry exit : List ℕ) (at : ℕ) (r : Option SpelledTo) (long : length exit ≡ length entry) (says : ThenTells t u entry exit at r) where
   then_tells : (P : Scope) (S : Shared) (rest : List ℕ) → 22 ∷ t ≡ shared_words S ++ rest → Stands u P S → Tells P.edition.width entry exit at r S rest
   unfolding shared_words term_of words
   then_tells P Ended rest e st room = absurd (let z : ◌≡◌ {A = ℕ} 22 30 = ap (λ x. get_or x 0 0) e in omega (arith, z))
@@ -127,14 +139,13 @@ module _ (t u entry exit : List ℕ) (at r : ℕ) (long : length exit ≡ length
   then_tells P (Then S l F) rest e st room =
       let n : at + (1 + (length (words P.edition.width (term_of S)) + length (words P.edition.width F))) ≡ at + length (22 ∷ (words P.edition.width (term_of S) ++ words P.edition.width F)) = omega (arith, length-append (words P.edition.width (term_of S)) (words P.edition.width F)) in
       let k : at + (1 + (length (words P.edition.width (term_of S)) + length (words P.edition.width F))) ≤ length entry = omega (arith, n, room) in
-      let m = says P S l F rest e st.0 st.1 k in
-      (m.0 ∙ ap (answer (length rest)) n, m.1)
+      says P S l F rest e st.0 st.1 k
   then_tells P (Beside S T) rest e st room = absurd (let z : ◌≡◌ {A = ℕ} 22 25 = ap (λ x. get_or x 0 0) e in omega (arith, z))
 
   then_told : Expanded (22 ∷ t) u at entry exit r
   then_told = record { same_length = long; right = then_tells }
 
-module _ (t v u entry mid : List ℕ) (at a : ℕ) (free : at < length entry) (vt : v ≡ drop 1 t) (h : Expanded v u (at + 1) (set entry at 22) mid a) where
+module _ (t v u entry mid : List ℕ) (at : ℕ) (a : Option SpelledTo) (free : at < length entry) (vt : v ≡ drop 1 t) (h : Expanded v u (at + 1) (set entry at 22) mid a) where
   then_long : length mid ≡ length entry
   then_long = h.same_length ∙ length-set entry at 22
 
@@ -142,17 +153,17 @@ module _ (t v u entry mid : List ℕ) (at a : ℕ) (free : at < length entry) (v
     behind : t ≡ part_word l ∷ (shared_words S ++ rest)
     behind = ap (drop 1) e
 
-    first : (a ≡ answer (length rest) (at + 1 + length (words P.edition.width (term_of S)))) × (mid ≡ put_at (at + 1) (words P.edition.width (term_of S)) (set entry at 22))
+    first : ExpandedRight (words P.edition.width (term_of S)) (length rest) (at + 1) (set entry at 22) mid a
     first = h.right P S rest (vt ∙ ap (drop 1) behind) st (omega (arith, length-set entry at 22))
 
-    some : 65536 ≤ a
-    some = omega (arith, first.0, answer_is (length rest) (at + 1 + length (words P.edition.width (term_of S))))
+    some : a ≡ None → ⊥
+    some z = none-some _ (sym z ∙ first.answered)
 
   -- There is no room for what is followed.
-  pub then_lost : a ≡ 0 → Expanded (22 ∷ t) u at entry mid 0
-  then_lost z = then_told t u entry mid at 0 then_long (λ P S l F rest e st p room. absurd (omega (arith, z, some P S l (length (words P.edition.width F)) rest e st room)))
+  pub then_lost : a ≡ None → Expanded (22 ∷ t) u at entry mid None
+  then_lost z = then_told t u entry mid at None then_long (λ P S l F rest e st p room. absurd (some P S l (length (words P.edition.width F)) rest e st room z))
 
-  module _ (exit : List ℕ) (w left place r : ℕ) (is : a ≡ answer left place) (few : left ≤ 65535) (short : length t < 65535) (wt : w ≡ get_or t 0 0) (u' : List ℕ) (same : u' ≡ u) (made : PartExpanded u' w left place mid exit r) where
+  module _ (exit : List ℕ) (w left place : ℕ) (r : Option SpelledTo) (is : a ≡ Some (spelled_to left place)) (wt : w ≡ get_or t 0 0) (u' : List ℕ) (same : u' ≡ u) (made : PartExpanded u' w left place mid exit r) where
     g : PartExpanded u w left place mid exit r
     g = subst (λ x. PartExpanded x w left place mid exit r) same made
 
@@ -163,28 +174,25 @@ module _ (t v u entry mid : List ℕ) (at a : ℕ) (free : at < length entry) (v
       behind_is : t ≡ part_word l ∷ (shared_words S ++ rest)
       behind_is = behind P S l (length (words P.edition.width F)) rest e st room
 
-      one : (a ≡ answer (length rest) (at + 1 + length E_words)) × (mid ≡ put_at (at + 1) E_words (set entry at 22))
+      one : ExpandedRight E_words (length rest) (at + 1) (set entry at 22) mid a
       one = first P S l (length (words P.edition.width F)) rest e st room
 
-      rest_short : length rest ≤ 65535
-      rest_short = omega (arith, ap length behind_is, length-append (shared_words S) rest)
-
       left_is : left ≡ length rest
-      left_is = (answered_same left (length rest) place (at + 1 + length E_words) (sym is ∙ one.0) few rest_short).0
+      left_is = left_same (sym is ∙ one.answered)
 
       place_is : place ≡ at + 1 + length E_words
-      place_is = (answered_same left (length rest) place (at + 1 + length E_words) (sym is ∙ one.0) few rest_short).1
+      place_is = end_same (sym is ∙ one.answered)
 
-      second : (r ≡ answer left (place + length (words P.edition.width F))) × (exit ≡ put_at place (words P.edition.width F) mid)
+      second : ExpandedRight (words P.edition.width F) left place mid exit r
       second = g.right P l F (wt ∙ ap (λ x. get_or x 0 0) behind_is) p (omega (arith, place_is, then_long))
 
-      then_answer : r ≡ answer (length rest) (at + (1 + (length E_words + length (words P.edition.width F))))
-      then_answer = omega (arith, second.0, left_is, place_is, answer_is left (place + length (words P.edition.width F)), answer_is (length rest) (at + (1 + (length E_words + length (words P.edition.width F)))))
+      then_answer : r ≡ Some (spelled_to (length rest) (at + length (22 ∷ (E_words ++ words P.edition.width F))))
+      then_answer = came_same left_is (omega (arith, place_is, length-append E_words (words P.edition.width F))) second.answered
 
       then_written : exit ≡ put_at at (22 ∷ (E_words ++ words P.edition.width F)) entry
       then_written =
-          let m : mid ≡ put_at at (22 ∷ E_words) entry = put_behind entry (22 ∷ []) E_words (set entry at 22) mid at (at + 1) (omega arith) refl (put_one entry at 22 free) one.1 in
-          put_behind entry (22 ∷ E_words) (words P.edition.width F) mid exit at place (omega arith) (omega (arith, place_is)) m second.1
+          let m : mid ≡ put_at at (22 ∷ E_words) entry = put_behind entry (22 ∷ []) E_words (set entry at 22) mid at (at + 1) (omega arith) refl (put_one entry at 22 free) one.written in
+          put_behind entry (22 ∷ E_words) (words P.edition.width F) mid exit at place (omega arith) (omega (arith, place_is)) m second.written
 
     pub then_expanded : Expanded (22 ∷ t) u at entry exit r
-    then_expanded = then_told t u entry exit at r (g.same_length ∙ then_long) (λ P S l F rest e st p room. (then_answer P S l F rest e st p room, then_written P S l F rest e st p room))
+    then_expanded = then_told t u entry exit at r (g.same_length ∙ then_long) (λ P S l F rest e st p room. record { answered = then_answer P S l F rest e st p room; written = then_written P S l F rest e st p room })

@@ -2,7 +2,7 @@
 // Stays: that words are at most 65,535, and so those left, is a clause, for the reason in successors (docs/DESIGN-PASS.md, "A struct for words").
 ghost use Rattle.std.specs.Prelude.{◌≡◌, [], ◌∷◌, ◌+◌, ◌≤◌, ◌<◌, length};
 ghost use Rattle.sharing.specs.Splicing.{Expanded, PartExpanded, DoneExpanded};
-ghost use Rattle.sharing.specs.Expanding.{Kept, Into, told};
+ghost use Rattle.sharing.specs.Expanding.{Kept, Into, numbers};
 
 use super::expansion::{Expansion, Extent};
 use super::splicing::copy_words;
@@ -14,7 +14,7 @@ use words::{behind, first, last};
 // Stays with out and at side by side: it is public, and what is public keeps its promise, which it gives for any place, in the array or not.
 pub fn expand(u: &[u16], s: &[u16], out: &mut [u16], at: usize) -> Option<Extent>
     requires { (length u.now ≤ 65503) × (length s.now ≤ 65535) × (length out.old ≤ 65535) }
-    ensures { Expanded s.now u.now at out.old out.new (told result) }
+    ensures { Expanded s.now u.now at out.old out.new (numbers result) }
 {
     if out.len() < at {
         return None;

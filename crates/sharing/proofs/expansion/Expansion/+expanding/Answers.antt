@@ -23,7 +23,7 @@ pub expand_beside-expand-requires-2 : goal.expand_beside-expand-requires-2
 expand_beside-expand-requires-2 t c = let m = last_len _ _ _ c.last.ensures in (omega (arith, m), omega (arith, m))
 
 pub expand_beside-returns-clause-expanded : goal.expand_beside-returns-clause-expanded
-expand_beside-returns-clause-expanded t c = beside_expanded _ _ _ _ _ _ _ (omega arith) c.copy_words.ensures c.in_ok-left.ensures.expanded _ _ _ _ _ refl c.in_ok-left.ensures.kept.few_left c.requires c.last.ensures _ (ap (λ s. s.now) c.in_ok-left.ensures.kept.same_unfolding) c.expand-2.ensures.expanded
+expand_beside-returns-clause-expanded t c = beside_expanded _ _ _ _ _ _ _ (omega arith) c.copy_words.ensures c.in_ok-left.ensures.expanded _ _ _ _ _ refl c.last.ensures _ (ap (λ s. s.now) c.in_ok-left.ensures.kept.same_unfolding) c.expand-2.ensures.expanded
 
 pub expand_then-returns-then-self-at-clause-expanded : goal.expand_then-returns-then-self-at-clause-expanded
 expand_then-returns-then-self-at-clause-expanded t c = expand_none _ _ _ _ c.if-self-at.true
@@ -32,4 +32,4 @@ pub expand_then-returns-in_err-left-clause-expanded : goal.expand_then-returns-i
 expand_then-returns-in_err-left-clause-expanded t c = rw c.from_residual.ensures (then_lost _ _ _ _ _ _ _ c.if-self-at.false c.behind.ensures c.in_err-left.ensures.expanded refl)
 
 pub expand_then-returns-clause-expanded : goal.expand_then-returns-clause-expanded
-expand_then-returns-clause-expanded t c = then_expanded _ _ _ _ _ _ _ c.if-self-at.false c.behind.ensures c.in_ok-left.ensures.expanded _ _ _ _ _ refl c.in_ok-left.ensures.kept.few_left c.requires c.first.ensures.0 _ (ap (λ s. s.now) c.in_ok-left.ensures.kept.same_unfolding) c.expand_part.ensures.expanded
+expand_then-returns-clause-expanded t c = then_expanded _ _ _ _ _ _ _ c.if-self-at.false c.behind.ensures c.in_ok-left.ensures.expanded _ _ _ _ _ refl c.first.ensures.0 _ (ap (λ s. s.now) c.in_ok-left.ensures.kept.same_unfolding) c.expand_part.ensures.expanded
