@@ -21,7 +21,6 @@ pub enum Held<'a> {
 // the parts before it, and a few words written.
 // Stays: n is beside ws, and ws, m, out and scratch are lent apart and keep their lengths, as in lib.rt; k is a usize with its bound as a clause, since it is
 // the number of a move, as in steps; and an unfolding has at most 65,503 words, as sharing asks.
-#[inline(always)]
 pub fn take(
     held: Held,
     n: usize,

@@ -52,7 +52,6 @@ fn outcome(done: Option<Done>) -> Outcome
 // Number k of a run: move k of the term in the first n words of ws is made, and the cells are renewed.
 // Stays, here and in run_moves: the words, the store, the buffer and the arrays of the run are lent apart, as in main_process (its `finish` says why); and that
 // each keeps its length is a fact of what it was and what it is then, which no field of a struct holds.
-#[inline(always)]
 fn step_once(
     functions: &Functions,
     held: Held,
@@ -108,8 +107,6 @@ fn counted(tally: Tally, done: Option<Done>) -> Tally
 // Stays: the term is the first n words of ws: it grows and shrinks within one array of a fixed size, since there is no heap. A struct
 // of both would be lent, and each contract would have to say too that its array stays the same (`ghost_name`), as `SameArrays` does of a `Scratch`.
 // Stays: eight parameters, here and in step_once, of which five are lent to be written, each a different thing.
-// Put into both of its callers, of which each knows how the term is held: so no number pays for asking.
-#[inline(always)]
 pub fn run_moves(
     course: &Course,
     held: Held,
