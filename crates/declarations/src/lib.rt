@@ -19,7 +19,7 @@ use expression_check::{Scope, check_data};
 use refusals::Refusal;
 use tables::layout::{AT_LABELS, AT_START, FIRST_CELL, MOST_LABELS, label_place_from};
 use tables::{domains, label_row, labels, size_of};
-use words::{count, first, last, number};
+use words::{count, first, last, number_or_refusal};
 
 // The most functions of a rule set.
 const MOST_FUNCTIONS: usize = 16;
@@ -80,7 +80,7 @@ pub fn check_domains(t: &[u16]) -> Result<usize, Refusal>
 pub fn parameters(t: &[u16], hi: usize, d: usize) -> Result<usize, Refusal>
     ensures { result ≡ checked (counted 0 hi (number_of 5 d) t.now) }
 {
-    counted_row(t, 0, hi, |u| number(u, Refusal::Reference, d))
+    counted_row(t, 0, hi, |u| number_or_refusal(u, Refusal::Reference, d))
 }
 
 // ── labels ──
@@ -185,7 +185,7 @@ impl Context<'_> {
         ensures { FunctionNoted self.now.tables.now self.now.functions i t.now dir.old (row_width (label_count self.now.tables.now) * i) begin result dir.new × CellsBound result 1 }
     {
         let at = self.row_place(i);
-        let m = number(t, Refusal::Reference, domains(self.tables))?;
+        let m = number_or_refusal(t, Refusal::Reference, domains(self.tables))?;
         let d = first(t);
         let cells = size_of(self.tables, d);
         note(dir, at, cells);

@@ -3,6 +3,7 @@
 #![tactic(auto)]
 
 ghost use Rattle.std.specs.Prelude.{◌≡◌, List, ℕ, ◌+◌, ◌-◌, ◌≤◌, ◌<◌, ◌∷◌, length};
+ghost use Rattle.derivation.specs.declared.arrays.Derivation.TheVariants.{At, Behind};
 ghost use Rattle.derivation.specs.Derived.{Derived, DerivedShown};
 ghost use Rattle.derivation.specs.Lending.{Kept, Over, answered};
 ghost use Rattle.derivation.specs.Arms.{ActionDerived, TwoDerived, RightDerived, LeftDerived, ListedDerived, MaskedDerived, SidesDerived};
@@ -32,6 +33,19 @@ pub fn size_before(t: &[u16], u: &[u16]) -> u16
     ensures { result ≡ length t.now - length u.now }
 {
     (t.len() - u.len()) as u16
+}
+
+// One move, whose path is empty: it begins at this end. `left` words come after it, and it is passed where k is not 0.
+// Stays beside `Arrays::single`, whose end is that of its path, though no crate here calls it any more: a rule of the project, a public function keeps its
+// promise.
+pub fn single(k: usize, left: usize, end: usize) -> Derivation
+    requires { (k < 131072) × (left ≤ 65535) }
+    ensures { (k ≡ 0 → result ≡ At end) × (1 ≤ k → result ≡ Behind (k - 1) left) }
+{
+    if k == 0 {
+        return Derivation::At(end);
+    }
+    Derivation::Behind { k: k - 1, left }
 }
 
 // ── the walk ──

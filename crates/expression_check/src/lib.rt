@@ -16,7 +16,7 @@ use code_numbers::{
 };
 use codes::{Due, code_due};
 use refusals::Refusal;
-use words::number;
+use words::number_or_refusal;
 
 // How many variables there are, and how many functions now and before may name.
 // Where before may name none, its code itself is refused.
@@ -41,14 +41,14 @@ fn operand(s: &[u16], at: usize, refusal: Refusal, limit: usize, m: usize) -> Re
     requires { at ≤ length s.now }
     ensures { Operand refusal limit s.now at m result }
 {
-    number(&s[at..], refusal, limit)?;
+    number_or_refusal(&s[at..], refusal, limit)?;
     Ok(Front::On(at + 1, m))
 }
 
 // Stays, and so do the two rows below: one function for data and one for conditions, where an enum of the two sorts would make one of both. It was
-// proved and measured: a level of `if` in conditions took 224 bytes of the stack for the 192 of these two, and checks of long rows 1.05 to 1.14 of
-// the instructions; with the scope by reference 160 bytes, 1.05 to 1.09 of the instructions, and up to 1.3 of the time. With a const parameter there
-// is no proof: a call at the other sort is a call of the same cycle at another instance, which the check does not cover.
+// proved and measured: a level of `if` in conditions took 224 bytes of the stack for the 192 of these two (144, since cond_row is inlined), and checks of
+// long rows 1.05 to 1.14 of the instructions; with the scope by reference 160 bytes, 1.05 to 1.09 of the instructions, and up to 1.3 of the time. With a
+// const parameter there is no proof: a call at the other sort is a call of the same cycle at another instance, which the check does not cover.
 
 // A data expression with `rest` more after it.
 #[tactic(auto, using(crate::proofs::Cases::fronts))]

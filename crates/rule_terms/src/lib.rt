@@ -26,7 +26,7 @@ use tables::{
     mask_zero, parameters_row, process_entry, processes, size_of, with,
 };
 use words::repeats::leading;
-use words::{after, behind, first, last, number};
+use words::{after, behind, first, last, number_or_refusal};
 
 // The most variables in scope: a process's parameters, and one for each quantifier around.
 const VARIABLES: usize = 8;
@@ -68,7 +68,7 @@ fn weight_of(tb: &[u32], p: usize) -> Weight
 fn action(t: &[u16], context: &Context) -> Result<Weighed, Refusal>
     ensures { result ≡ answer context.now.tables.now (rule_action_of (declared context.now.tables.now) context.now.variables.now t.now) }
 {
-    let n = number(t, Refusal::Reference, labels(context.tables))?;
+    let n = number_or_refusal(t, Refusal::Reference, labels(context.tables))?;
     let ds = label_row(context.tables, first(t));
     let left = check_arguments(last(t, n), context.tables, context.variables, ds)?;
     Ok(Weighed {
@@ -83,7 +83,7 @@ fn action(t: &[u16], context: &Context) -> Result<Weighed, Refusal>
 fn call(t: &[u16], context: &Context) -> Result<Weighed, Refusal>
     ensures { result ≡ answer context.now.tables.now (call_of (declared context.now.tables.now) context.now.variables.now t.now) }
 {
-    let n = number(t, Refusal::Reference, processes(context.tables))?;
+    let n = number_or_refusal(t, Refusal::Reference, processes(context.tables))?;
     let p = first(t);
     let ds = parameters_row(context.tables, p);
     let left = check_arguments(last(t, n), context.tables, context.variables, ds)?;
@@ -203,7 +203,7 @@ fn quantified(t: &[u16], context: &Context, over: Quantifier) -> Result<Weighed,
     requires { length context.now.variables.now < 8 }
     ensures { result ≡ answer context.now.tables.now (rule_by (declared context.now.tables.now) (read_rule_term (declared context.now.tables.now)) context.now.variables.now (quantifier over) t.now) }
 {
-    let n = number(t, Refusal::Reference, domains(context.tables))?;
+    let n = number_or_refusal(t, Refusal::Reference, domains(context.tables))?;
     let more = with(context.variables, t[0]);
     let k = context.variables.len() + 1;
     let inside = Context {

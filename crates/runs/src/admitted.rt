@@ -5,15 +5,14 @@ ghost use Rattle.tables.specs.Layout.{label_count, function_count};
 ghost use Rattle.declarations.specs.Directory.{row_width};
 
 use cells::Functions;
-use tables::layout::TABLES;
 
 /// An admitted rule set: its functions, and the tables that they belong to.
 #[derive(Clone, Copy)]
 pub struct Admitted<'a> {
     /// Its attribute functions, with the stream's words that they and all processes are in.
     pub functions: Functions<'a>,
-    /// The tables that declare it: an array and no slice, so that the compiler knows their number, and no recursion keeps it in its frames.
-    pub tables: &'a [u32; TABLES],
+    /// The tables that declare it.
+    pub tables: &'a [u32],
     pub ghost labels_counted: { functions.width ≡ row_width (label_count tables.now) },
     pub ghost functions_counted: { functions.count ≡ function_count tables.now },
     pub ghost few_cells: { functions.cells ≤ 1024 },
@@ -34,7 +33,7 @@ impl<'a> Admitted<'a> {
     // Stays: what is asked are the facts of the fields that are made here and in `Functions`; after that only public functions of the words alone ask for one.
     pub fn of(
         words: &'a [u16],
-        tables: &'a [u32; TABLES],
+        tables: &'a [u32],
         directory: &'a [u32],
         cells: usize,
     ) -> Admitted<'a>

@@ -14,7 +14,7 @@ ghost use Rattle.tables.specs.Tables.{row, declared, constant_of_domain, variabl
 
 use code_numbers::{CONSTANT, VARIABLE};
 use refusals::Refusal;
-use words::{behind, first, front, last, number};
+use words::{behind, first, front, last, number_or_refusal};
 
 pub mod layout;
 
@@ -149,8 +149,8 @@ fn mask_limit(n: usize) -> usize
 }
 
 // The k words of a mask, where n labels are left.
-// Stays with the tests that `words::number` makes: with a call of it for each word, which was proved, the check of 900 given parallels takes a tenth more
-// instructions, measured.
+// Stays with the tests that `words::number_or_refusal` makes: with a call of it for each word, which was proved, the check of 900 given parallels takes a
+// tenth more instructions, measured.
 // Stays: k does not say how many of the words count, but how many a mask has. All callers give MASK_WORDS; it stays a parameter by a rule of the project, a
 // public function keeps its promise.
 #[tactic(auto, using(crate::proofs::Rounds::a_mask))]
@@ -221,7 +221,7 @@ fn check_argument(t: &[u16], tb: &[u32], vars: &[u16], d: usize) -> Result<usize
 fn constant_argument(t: &[u16], tb: &[u32], d: usize) -> Result<usize, Refusal>
     ensures { result ≡ checked (constant_of_domain (declared tb.now) d t.now) }
 {
-    let n = number(t, Refusal::Form, 65535)?;
+    let n = number_or_refusal(t, Refusal::Form, 65535)?;
     if first(t) < size_of(tb, d) {
         return Ok(n);
     }
@@ -233,7 +233,7 @@ fn constant_argument(t: &[u16], tb: &[u32], d: usize) -> Result<usize, Refusal>
 fn variable_argument(t: &[u16], vars: &[u16], d: usize) -> Result<usize, Refusal>
     ensures { result ≡ checked (variable_of_domain vars.now d t.now) }
 {
-    let n = number(t, Refusal::Reference, vars.len())?;
+    let n = number_or_refusal(t, Refusal::Reference, vars.len())?;
     if vars[first(t)] as usize == d {
         return Ok(n);
     }

@@ -6,7 +6,7 @@ ghost use Rattle.std.specs.Prelude.{◌≡◌, ℕ, ◌+◌, ◌*◌, ◌<◌, �
 ghost use Rattle.eb3.specs.Bytes.{words_in};
 ghost use Rattle.eb3.specs.Reading.{number_of, count_of};
 ghost use Rattle.refusals.specs.Numbers.{number};
-ghost use Rattle.words.specs.Checking.{checked, last_of, number_or};
+ghost use Rattle.words.specs.Checking.{checked, last_of, number_or, numbered};
 
 pub mod repeats;
 
@@ -78,9 +78,18 @@ pub fn number_or<E: Drop>(t: &[u16], missing: E, wrong: E, limit: usize) -> Resu
     }
 }
 
+// One number below a limit, else refused k, whatever number k is; 4 where there is no word.
+// Stays, though no crate here calls it any more: a rule of the project, a public function keeps its promise.
+#[tactic(auto, using(crate::specs::Laws::Reading::number_or_numbered))]
+pub fn number(t: &[u16], k: u8, limit: usize) -> Result<usize, u8>
+    ensures { result ≡ numbered (number_of k limit t.now) }
+{
+    number_or(t, 4, k, limit)
+}
+
 // One number below a limit, else this refusal.
 #[tactic(auto, using(crate::specs::Laws::Reading::number_or_checked))]
-pub fn number(t: &[u16], refusal: Refusal, limit: usize) -> Result<usize, Refusal>
+pub fn number_or_refusal(t: &[u16], refusal: Refusal, limit: usize) -> Result<usize, Refusal>
     ensures { result ≡ checked (number_of (number refusal) limit t.now) }
 {
     number_or(t, Refusal::Form, refusal, limit)
