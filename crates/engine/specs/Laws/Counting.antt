@@ -1,4 +1,4 @@
--- Count, case by case: refused as the rule set or the term is (`count_refused`), refused for want of cells (`count_short`), or the number of moves
+-- Count, case by case: as the rule set or the term is (`count_given`), refused for want of cells (`count_short`), or the number of moves
 -- (`count_done`). Document 01, "Operations".
 use Rattle.std.specs.Prelude.{◌≡◌, List, ℕ, ◌≤◌, ◌<◌, length, Ok, Err}
 use Rattle.std.proofs.Math.Path.{refl, ap, sym}

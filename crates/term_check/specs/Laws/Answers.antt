@@ -39,6 +39,12 @@ module _ (E : Term) where
   size_cut : (measure_running (sat cap) 1 E).size ≡ sat cap (size 1 E)
   size_cut = ap (λ (m : Measure). m.size) (measure_running_sat cap 1 E)
 
+  pub reach_small : (measure_running (sat cap) 1 E).reach ≤ 65536
+  reach_small = omega (arith, reach_cut)
+
+  pub breadth_small : (measure_running (sat cap) 1 E).breadth ≤ 65536
+  breadth_small = omega (arith, breadth_cut)
+
 -- A running term's size is the words that it took.
 pub taken_size : (T t : List ℕ) (E : Term) (u : List ℕ) → read_term (declared T) t ≡ taken E u → length t ≡ size 1 E + length u
 unfolding declared
