@@ -219,9 +219,13 @@ pub fn code_at(s: &[u16], at: usize) -> Option<usize>
 // Stays `while`, since no index is counted: a code says how far after it the next one is.
 // Stays a case of its own for an action, whose arguments are skipped with it: measured, with each of them due a Run takes up to 1.15 times the instructions
 // (attended cabinet, 16 keys), a Present up to 1.10.
+// Stays in three cases by the number of words after the code: so the next place is foreseen and need not wait for the table. With one case the conditions of a
+// run take up to twice the time, measured.
+// Not inlined, since its loop would take 16 bytes more of each frame of the functions that recurse into a term and skip there.
 // Stays 0 where a word is no code: no caller skips anything but whole expressions and terms, and an Option would have to be opened at every skip.
 // Stays: n counts expressions, and does not say how many of the words count. That no more words are left than there were, here and in the functions of
 // listing and successors that go by this one, is a fact of both.
+#[inline(never)]
 pub fn skip_row(s: &[u16], n: usize, shape: usize) -> usize
     requires { (length s.now ≤ 65535) × (n ≤ 65535) }
     ensures { (result ≤ length s.now) × ((P : Scope) (xs : List Piece) (rest : List ℕ) → RowAt shape s.now P xs rest → n ≡ length xs → result ≡ length rest) }
@@ -238,7 +242,16 @@ pub fn skip_row(s: &[u16], n: usize, shape: usize) -> usize
             continue;
         }
         due = due - 1 + (operands_after(w) + second_arguments(w, s, at + 1, shape));
-        at = at + 1 + words_after(w, shape);
+        let k = words_after(w, shape);
+        if k == 0 {
+            at = at + 1;
+            continue;
+        }
+        if k == 1 {
+            at = at + 2;
+            continue;
+        }
+        at = at + 1 + k;
     }
     s.len().saturating_sub(at)
 }
@@ -262,7 +275,7 @@ fn moving(w: usize) -> bool
 }
 
 // Whether a term can never move: no such code is in it. Where one is, the loop ends at the first.
-// Stays `while`, as in skip_row.
+// Stays `while`, and in three cases by the words after the code, as in skip_row.
 // Stays beside skip_row: the loops share what follows a code (operands_after, second_arguments and words_after), and one function of both would have to
 // promise what is left and what was seen at once.
 pub fn idle(s: &[u16], shape: usize) -> bool
@@ -279,7 +292,16 @@ pub fn idle(s: &[u16], shape: usize) -> bool
             return false;
         }
         due = due - 1 + (operands_after(w) + second_arguments(w, s, at + 1, shape));
-        at = at + 1 + words_after(w, shape);
+        let k = words_after(w, shape);
+        if k == 0 {
+            at = at + 1;
+            continue;
+        }
+        if k == 1 {
+            at = at + 2;
+            continue;
+        }
+        at = at + 1 + k;
     }
     true
 }

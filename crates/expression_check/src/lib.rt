@@ -121,7 +121,9 @@ fn data_row(s: &[u16], n: usize, c: Scope) -> Result<usize, Refusal>
 }
 
 // n conditions in a row.
+// Inlined, since its frame would come on top of data_row's at each level of an `if` within a condition.
 #[cycle(rows)]
+#[inline(always)]
 #[tactic(auto, using(crate::proofs::RowCases::rows))]
 fn cond_row(s: &[u16], n: usize, c: Scope) -> Result<usize, Refusal>
     requires { n ≤ 2 }

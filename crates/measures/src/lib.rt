@@ -132,13 +132,13 @@ pub fn star(a: Weight) -> Weight
 fn ways(zero: bool, l: u32, r: u32) -> u32
     ensures { result ≡ parallel_breadth_of (sat cap) zero l r }
 {
-    let apart = cut(l as u64 + r as u64).max(1);
+    let apart = cut(l as u64 + r as u64);
     if zero {
-        return apart;
+        return apart.max(1);
     }
-    // Where apart was raised to 1, both sides have no way, and so none jointly.
+    // Stays 1 at least at the end: asked of apart, the sum of the next copy would wait for it.
     let joint = cut(l as u64 * r as u64);
-    cut(apart as u64 + joint as u64)
+    cut(apart as u64 + joint as u64).max(1)
 }
 
 // Inlined, since a call stores both weights and loads them: in the check of a given term 1.14 of the instructions for parallels (docs/DESIGN-PASS.md).
