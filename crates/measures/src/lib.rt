@@ -136,7 +136,11 @@ fn ways(zero: bool, l: u32, r: u32) -> u32
     if zero {
         return apart.max(1);
     }
-    // Stays 1 at least at the end: asked of apart, the sum of the next copy would wait for it.
+    // Stays, though what follows says the same: many copies soon come to the cap and stay there, and so the next one need not wait for the sums of this one.
+    // Without it the check of copies in parallel with a mask takes up to 1.4 times the time, measured.
+    if 65536 <= apart {
+        return 65536;
+    }
     let joint = cut(l as u64 * r as u64);
     cut(apart as u64 + joint as u64).max(1)
 }
