@@ -1,6 +1,6 @@
-use mathlib.Core.Path.{◌≡◌, refl, sym, subst}
-use Rattle.std.proofs.Common.{◌∙◌}
-use Rattle.codes.specs.Laws.Skipping.{skip_start, skip_none, skip_action, skip_next, few_words, Skipping}
+use mathlib.Core.Path.{refl, sym, subst}
+use Rattle.codes.specs.Laws.Skipping.{skip_start, skip_none, skip_action, few_words, Skipping}
+use Rattle.codes.proofs.Walking.{skip_on}
 use native.Mathlib.Omega.{arith}
 use Prim.Native.Nat.{◌+◌, ◌*◌, ◌-◌}
 use Rattle.codes.proofs.skip_row.Goals as goal
@@ -21,24 +21,10 @@ loop-due-preserved-then-w-eq-ACTION c =
     (omega arith, omega arith, subst (λ v. Skipping shape c.args.s.now c.args.n (at + 2 + c.arguments.result * (1 + v)) (c.loop-due.due - 1)) (sym c.width.ensures.0) past)
 
 pub loop-due-preserved-then-k-eq0 : goal.loop-due-preserved-then-k-eq0
-loop-due-preserved-then-k-eq0 c =
-    let w = c.in-Some.ensures in
-    let at = c.loop-due.at in
-    let due = c.loop-due.due - 1 + (c.operands_after.result + c.second_arguments.result) in
-    let past = skip_next c.args.shape c.args.s.now at c.loop-due.due _ c.args.n c.loop-due-test.true c.loop-due.invariant.2 0 (c.operands_after.result + c.second_arguments.result) _ w.0 (sym c.if-k-eq0.true ∙ c.words_after-k.ensures.0) (λ j. c.operands_after.ensures.0 j + c.second_arguments.ensures.0 c.if-w-eq-ACTION.false j) refl in
-    let next : at + 1 + 0 ≡ at + 1 = omega arith in
-    (omega arith, omega arith, subst (λ v. Skipping c.args.shape c.args.s.now c.args.n v due) next past)
+loop-due-preserved-then-k-eq0 c = (omega arith, omega arith, skip_on _ _ _ _ _ c.loop-due-test.true _ _ _ _ c.in-Some.ensures.0 c.words_after-k.ensures.0 c.operands_after.ensures.0 c.second_arguments.ensures.0 (omega (arith, c.if-k-eq0.true)) _ c.loop-due.invariant.2 c.if-w-eq-ACTION.false)
 
 pub loop-due-preserved-then-k-eq1 : goal.loop-due-preserved-then-k-eq1
-loop-due-preserved-then-k-eq1 c =
-    let w = c.in-Some.ensures in
-    let at = c.loop-due.at in
-    let due = c.loop-due.due - 1 + (c.operands_after.result + c.second_arguments.result) in
-    let past = skip_next c.args.shape c.args.s.now at c.loop-due.due _ c.args.n c.loop-due-test.true c.loop-due.invariant.2 1 (c.operands_after.result + c.second_arguments.result) _ w.0 (sym c.if-k-eq1.true ∙ c.words_after-k.ensures.0) (λ j. c.operands_after.ensures.0 j + c.second_arguments.ensures.0 c.if-w-eq-ACTION.false j) refl in
-    let next : at + 1 + 1 ≡ at + 2 = omega arith in
-    (omega arith, omega arith, subst (λ v. Skipping c.args.shape c.args.s.now c.args.n v due) next past)
+loop-due-preserved-then-k-eq1 c = (omega arith, omega arith, skip_on _ _ _ _ _ c.loop-due-test.true _ _ _ _ c.in-Some.ensures.0 c.words_after-k.ensures.0 c.operands_after.ensures.0 c.second_arguments.ensures.0 (omega (arith, c.if-k-eq1.true)) _ c.loop-due.invariant.2 c.if-w-eq-ACTION.false)
 
 pub loop-due-preserved : goal.loop-due-preserved
-loop-due-preserved c =
-    let w = c.in-Some.ensures in
-    (omega arith, omega arith, skip_next c.args.shape c.args.s.now c.loop-due.at c.loop-due.due _ c.args.n c.loop-due-test.true c.loop-due.invariant.2 c.words_after-k.result (c.operands_after.result + c.second_arguments.result) _ w.0 c.words_after-k.ensures.0 (λ j. c.operands_after.ensures.0 j + c.second_arguments.ensures.0 c.if-w-eq-ACTION.false j) refl)
+loop-due-preserved c = (omega arith, omega arith, skip_on _ _ _ _ _ c.loop-due-test.true _ _ _ _ c.in-Some.ensures.0 c.words_after-k.ensures.0 c.operands_after.ensures.0 c.second_arguments.ensures.0 (refl) _ c.loop-due.invariant.2 c.if-w-eq-ACTION.false)
